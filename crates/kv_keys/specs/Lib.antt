@@ -1,1 +1,4 @@
+pub mod Grammar
+pub mod Matching
+pub mod Places
 pub mod Refusals

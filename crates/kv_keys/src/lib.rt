@@ -2,7 +2,13 @@
 #![tactic(auto)]
 
 mod error;
+mod fnv;
+mod grammar;
+mod key;
 mod place;
 
 pub use error::KvError;
+pub use fnv::fnv32;
+pub use grammar::is_name;
+pub use key::Key;
 pub use place::Place;

@@ -1,0 +1,59 @@
+//! What the names of buckets, keys and filters are made of.
+
+ghost use Rattle.std.specs.Prelude.{◌≡◌};
+ghost use Rattle.std.specs.List.{list_all};
+ghost use Rattle.kv_keys.specs.Matching.{tokens};
+ghost use Rattle.kv_keys.specs.Grammar.{is_present, is_name_character, is_name, is_key_character, is_key};
+
+const MOST_OF_NAME: usize = 64;
+
+const MOST_OF_KEY: usize = 255;
+
+fn is_name_character(byte: u8) -> bool
+    ensures { result ≡ is_name_character byte }
+{
+    byte.is_ascii_alphanumeric() || byte == b'_' || byte == b'-'
+}
+
+fn all_name_characters(bytes: &[u8]) -> bool
+    ensures { result ≡ list_all is_name_character bytes.now }
+{
+    bytes.iter().all(|byte| is_name_character(*byte))
+}
+
+/// Whether this is a bucket's name: 1 to 64 ASCII letters, digits, `_` and `-` (NATS ADR-8; the bound is this crate's).
+#[tactic(auto, unfolding(crate::specs::Grammar::is_name))]
+pub fn is_name(text: &str) -> bool
+    ensures { result ≡ is_name text.now }
+{
+    !text.is_empty() && text.len() <= MOST_OF_NAME && all_name_characters(text.as_bytes())
+}
+
+fn is_key_character(byte: u8) -> bool
+    ensures { result ≡ is_key_character byte }
+{
+    byte.is_ascii_alphanumeric() || matches!(byte, b'-' | b'/' | b'_' | b'=' | b'.')
+}
+
+fn all_key_characters(bytes: &[u8]) -> bool
+    ensures { result ≡ list_all is_key_character bytes.now }
+{
+    bytes.iter().all(|byte| is_key_character(*byte))
+}
+
+fn all_tokens_present(text: &str) -> bool
+    ensures { result ≡ list_all is_present (tokens text.now) }
+{
+    text.split('.').all(|token| !token.is_empty())
+}
+
+/// Whether this is a key.
+#[tactic(auto, unfolding(crate::specs::Grammar::is_key))]
+pub(crate) fn is_key(text: &str) -> bool
+    ensures { result ≡ is_key text.now }
+{
+    !text.is_empty()
+        && text.len() <= MOST_OF_KEY
+        && all_key_characters(text.as_bytes())
+        && all_tokens_present(text)
+}
