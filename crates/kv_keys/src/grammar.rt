@@ -3,7 +3,9 @@
 ghost use Rattle.std.specs.Prelude.{◌≡◌};
 ghost use Rattle.std.specs.List.{list_all};
 ghost use Rattle.kv_keys.specs.Matching.{tokens};
-ghost use Rattle.kv_keys.specs.Grammar.{is_present, is_name_character, is_name, is_key_character, is_key};
+ghost use Rattle.kv_keys.specs.Grammar.{is_present, is_name_character, is_name, is_key_character, is_key, is_literal, are_filter_tokens, is_filter};
+
+use crate::matching::{first_token, is_rest};
 
 const MOST_OF_NAME: usize = 64;
 
@@ -56,4 +58,34 @@ pub(crate) fn is_key(text: &str) -> bool
         && text.len() <= MOST_OF_KEY
         && all_key_characters(text.as_bytes())
         && all_tokens_present(text)
+}
+
+fn is_literal(token: &str) -> bool
+    ensures { result ≡ is_literal token.now }
+{
+    !token.is_empty() && all_key_characters(token.as_bytes())
+}
+
+fn are_filter_tokens(text: &str) -> bool
+    ensures { result ≡ are_filter_tokens (tokens text.now) }
+{
+    let (token, more) = first_token(text);
+    if is_rest(token, more) {
+        return true;
+    }
+    if token != "*" && !is_literal(token) {
+        return false;
+    }
+    match more {
+        None => true,
+        Some(text) => are_filter_tokens(text),
+    }
+}
+
+/// Whether this is a filter.
+#[tactic(auto, unfolding(crate::specs::Grammar::is_filter))]
+pub(crate) fn is_filter(text: &str) -> bool
+    ensures { result ≡ is_filter text.now }
+{
+    !text.is_empty() && text.len() <= MOST_OF_KEY && are_filter_tokens(text)
 }

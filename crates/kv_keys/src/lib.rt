@@ -2,12 +2,15 @@
 #![tactic(auto)]
 
 mod error;
+mod filter;
 mod fnv;
 mod grammar;
 mod key;
+mod matching;
 mod place;
 
 pub use error::KvError;
+pub use filter::Filter;
 pub use fnv::fnv32;
 pub use grammar::is_name;
 pub use key::Key;
