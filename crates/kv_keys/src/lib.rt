@@ -3,15 +3,19 @@
 
 mod error;
 mod filter;
+mod filters;
 mod fnv;
 mod grammar;
 mod key;
 mod matching;
 mod place;
+mod short;
 
 pub use error::KvError;
 pub use filter::Filter;
+pub use filters::Filters;
 pub use fnv::fnv32;
 pub use grammar::is_name;
 pub use key::Key;
 pub use place::Place;
+pub use short::Short;
