@@ -1,4 +1,5 @@
 pub mod Grammar
 pub mod Matching
+pub mod Outcome
 pub mod Places
 pub mod Refusals

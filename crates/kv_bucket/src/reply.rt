@@ -1,0 +1,27 @@
+//! What a bucket answers.
+
+use crate::seen::Seen;
+use crate::stopped::Stopped;
+use kv_keys::{Key, KvError};
+use kv_store::Status;
+
+/// What a bucket answers.
+#[derive(Drop)]
+pub enum Reply {
+    /// The write has this revision.
+    Revision(u64),
+    Sealed,
+    Entry(Seen),
+    Entries(Vec<Seen>),
+    Keys(Vec<Key>),
+    Status { status: Status, watches: u64 },
+    /// The new watch has this number.
+    Watch(u64),
+    /// The end of the initial entries.
+    Marker,
+    /// All that the watch is given by now was handed out.
+    Empty,
+    Stopped(Stopped),
+    /// Never with want of memory: then there is no reply.
+    Refused(KvError),
+}

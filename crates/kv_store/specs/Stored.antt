@@ -1,0 +1,23 @@
+-- What a version stores.
+use Rattle.std.specs.Prelude.{ℕ, Bool, List, Option, ◌==◌}
+use Rattle.std.specs.Map.{lookup}
+use Rattle.std.specs.Str.{bytes_eq}
+use Rattle.kv_store.specs.Acts.{Write}
+use Rattle.kv_store.specs.Configuration.{Configuration}
+
+-- the entries of the two tries: of each key its kept revisions, of each revision its write
+pub record Stored : Type 0 where
+  pub config : Configuration
+  pub by_key : List (List ℕ × List ℕ)
+  pub by_revision : List (ℕ × Write)
+  pub last : ℕ
+  pub values : ℕ
+  pub sealed : Bool
+
+-- the revisions that are stored of a key
+abbrev pub kept_at : List ℕ → Stored → Option (List ℕ)
+kept_at key v = lookup (λ k. bytes_eq key k) v.by_key
+
+-- the write that is stored of a revision
+abbrev pub write_at : ℕ → Stored → Option Write
+write_at revision v = lookup (λ r. revision == r) v.by_revision

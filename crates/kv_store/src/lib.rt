@@ -1,0 +1,12 @@
+//! Versions of a bucket: each is a value that stands for a list of accepted acts, and stays as it is.
+#![tactic(auto)]
+
+mod config;
+mod request;
+mod status;
+mod write;
+
+pub use config::Config;
+pub use request::Request;
+pub use status::Status;
+pub use write::{Op, Write};

@@ -1,0 +1,12 @@
+//! What a watch is given, and cursors that go through it.
+#![tactic(auto)]
+
+mod event;
+mod options;
+mod shown;
+mod taken;
+
+pub use event::Event;
+pub use options::{Options, Start};
+pub use shown::Shown;
+pub use taken::Taken;
