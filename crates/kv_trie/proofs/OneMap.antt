@@ -1,5 +1,5 @@
 -- Pairs that ascend are fixed by what is found at each key.
-use Rattle.std.proofs.Common.{true, false, ◌≡◌, ℕ, Bool, cond, List, [], ◌∷◌, Option, Some, None, Ordering, refl, sym, ap, ap₂, ◌∙◌}
+use Rattle.std.proofs.Common.{true, false, ◌≡◌, ℕ, Bool, cond, List, [], ◌∷◌, Some, None, Ordering, refl, sym, ap, ap₂, ◌∙◌}
 use Rattle.std.specs.declared.cmp.Ordering.TheVariants.{Less, Equal, Greater}
 use Rattle.std.specs.Ordering.{is_eq, ordering_reverse}
 use Rattle.std.specs.Cmp.{IsTotalOrder}
