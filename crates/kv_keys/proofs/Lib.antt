@@ -1,3 +1,4 @@
+mod Cases
 pub mod Keys
 pub mod Parts
 pub mod Tokens

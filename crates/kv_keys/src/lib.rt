@@ -19,3 +19,6 @@ pub use grammar::is_name;
 pub use key::Key;
 pub use place::Place;
 pub use short::Short;
+
+#[cfg(test)]
+mod tests;
