@@ -1,5 +1,5 @@
 -- The filters of a list, and the list of one filter.
-use Rattle.std.proofs.Common.{◌≡◌, ℕ, ◌<◌, Bool, true, false, not, cond, ◌&&◌, ◌||◌, inl, inr, List, [], ◌∷◌, length, eqb, nat_le, refl, ap, sym, ◌∙◌, arith}
+use Rattle.std.proofs.Common.{◌≡◌, ℕ, ◌<◌, Bool, true, false, not, cond, ◌&&◌, ◌||◌, inl, inr, List, [], ◌∷◌, length, eqb, refl, ap, sym, ◌∙◌, arith}
 use Rattle.std.specs.List.{list_all, onto_first}
 use Rattle.std.specs.Str.{bytes_eq}
 use Rattle.std.specs.Cmp.Lexicographic.{same_text}
@@ -9,7 +9,7 @@ use Rattle.std.proofs.lemmas.List.Elements.{All-weaker}
 use Rattle.std.proofs.lemmas.List.Sums.{AllPass-from_list_all}
 use Rattle.std.proofs.lemmas.List.Splits.{length-slice_split, slice_split_none}
 use Rattle.kv_keys.specs.Matching.{tokens, is_star, is_rest}
-use Rattle.kv_keys.specs.Grammar.{parts, is_present, is_key_character, is_literal, are_filter_tokens, is_filter, are_filters}
+use Rattle.kv_keys.specs.Grammar.{has_one_to, parts, is_present, is_key_character, is_literal, are_filter_tokens, is_filter, are_filters}
 
 -- a text has at least one part
 pub parts_some : (text : List ℕ) → 0 < length (parts text)
@@ -73,7 +73,7 @@ not_comma c h = grind (arith, nat_tests)
 pub parts_one : (text : List ℕ) → is_filter text ≡ true → parts text ≡ text ∷ []
 unfolding is_filter
 parts_one text h =
-    let of_tokens = (and_parts (is_present text && nat_le (length text) 255) (are_filter_tokens (tokens text)) h).1 in
+    let of_tokens = (and_parts (has_one_to 255 text) (are_filter_tokens (tokens text)) h).1 in
     let plain = all_from_tokens is_plain text refl (plain_tokens (tokens text) of_tokens) in
     slice_split_none (λ c. eqb c 44) text (All-weaker (λ c. is_plain c ≡ true) (λ c. eqb c 44 ≡ false) not_comma text (AllPass-from_list_all is_plain text plain))
 

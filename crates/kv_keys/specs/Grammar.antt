@@ -4,6 +4,10 @@ use Rattle.std.specs.Char.{is_ascii_alphanumeric}
 use Rattle.std.specs.List.{list_all, slice_split}
 use Rattle.kv_keys.specs.Matching.{tokens, is_star, is_rest}
 
+-- a list has 1 to `most` elements
+abbrev pub has_one_to : {X : Type 0} → ℕ → List X → Bool
+has_one_to most xs = nat_lt 0 (length xs) && nat_le (length xs) most
+
 -- a text is not empty
 abbrev pub is_present : List ℕ → Bool
 is_present text = nat_lt 0 (length text)
@@ -14,7 +18,7 @@ is_name_character c = is_ascii_alphanumeric c || (c == 95 || c == 45)
 
 -- a name has 1 to 64 such characters
 unfoldable pub is_name : List ℕ → Bool
-is_name text = (is_present text && nat_le (length text) 64) && list_all is_name_character text
+is_name text = has_one_to 64 text && list_all is_name_character text
 
 -- keys have letters, digits, `-`, `/`, `_`, `=` and `.`
 abbrev pub is_key_character : ℕ → Bool
@@ -22,7 +26,7 @@ is_key_character c = is_ascii_alphanumeric c || ((c == 45 || c == 47) || ((c == 
 
 -- a key has 1 to 255 such characters, and no token of it is empty
 unfoldable pub is_key : List ℕ → Bool
-is_key text = (is_present text && nat_le (length text) 255) && (list_all is_key_character text && list_all is_present (tokens text))
+is_key text = has_one_to 255 text && (list_all is_key_character text && list_all is_present (tokens text))
 
 -- a token that stands for itself: one or more characters of keys
 abbrev pub is_literal : List ℕ → Bool
@@ -35,7 +39,7 @@ are_filter_tokens (token ∷ more) = is_rest (token ∷ more) || ((is_star token
 
 -- a filter has 1 to 255 bytes
 unfoldable pub is_filter : List ℕ → Bool
-is_filter text = (is_present text && nat_le (length text) 255) && are_filter_tokens (tokens text)
+is_filter text = has_one_to 255 text && are_filter_tokens (tokens text)
 
 -- the texts between the commas
 abbrev pub parts : List ℕ → List (List ℕ)
@@ -43,4 +47,4 @@ parts text = slice_split (λ c. c == 44) text
 
 -- a list has 1 to 16 filters, of which some may be equal
 unfoldable pub are_filters : List (List ℕ) → Bool
-are_filters filters = (nat_lt 0 (length filters) && nat_le (length filters) 16) && list_all is_filter filters
+are_filters filters = has_one_to 16 filters && list_all is_filter filters

@@ -1,5 +1,5 @@
 -- What an error tells of the outcome that the rules give.
-use Rattle.std.specs.Prelude.{◌≡◌, ℕ, Result, Ok, Err, IsOk}
+use Rattle.std.specs.Prelude.{◌≡◌, Result, Ok, Err, IsOk}
 use Rattle.kv_keys.specs.declared.error.KvError.{KvError}
 use Rattle.kv_keys.specs.declared.error.KvError.TheVariants.{OutOfMemory, BadBucket, BadConfig, BadKey, BadFilter, OptionsClash, ValueTooLarge, Sealed, JournalFull, KeyExists, WrongLastRevision, KeyNotFound, NoSuchWatch, TooManyWatches, NoReader, BadCommand, ReadFault, WriteFault, BadFloor, WatchBehind, Lagged}
 

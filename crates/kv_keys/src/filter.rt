@@ -57,7 +57,7 @@ impl Filter {
     pub fn matches(&self, key: &Key) -> bool
         ensures { result ≡ matches self.now key.now }
     {
-        matching::matches(self.text.as_str(), key.as_str())
+        matching::matches(self.as_str(), key.as_str())
     }
 
     /// An equal filter, in memory of its own.
@@ -65,7 +65,7 @@ impl Filter {
         ensures ok { IfOk result (λ filter. filter ≡ self.now) }
         ensures err { IfErr result (λ e. e ≡ OutOfMemory) }
     {
-        let text = String::from_str(alloc, self.text.as_str())?;
+        let text = String::from_str(alloc, self.as_str())?;
         Ok(Filter { text })
     }
 }

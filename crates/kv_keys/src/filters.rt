@@ -75,6 +75,7 @@ impl Filters {
     }
 
     /// The list of one filter.
+    #[tactic(auto, using(crate::proofs::Parts::parts_one, crate::proofs::Parts::are_filters_one))]
     pub fn one(alloc: Global, filter: &Filter) -> Result<Filters, KvError>
         ensures ok { IfOk result (λ filters. filters ≡ filter.now ∷ []) }
         ensures err { IfErr result (λ e. e ≡ OutOfMemory) }
@@ -87,16 +88,16 @@ impl Filters {
     pub fn as_str(&self) -> &str
         ensures value { result.now ≡ join_with_byte 44 self.now }
         ensures parts { parts result.now ≡ self.now }
+        ensures filters { IsTrue (are_filters self.now) }
     {
         self.text.as_str()
     }
 
     /// How many filters the list has.
     pub fn count(&self) -> u64
-        ensures value { result ≡ length self.now }
-        ensures filters { IsTrue (are_filters self.now) }
+        ensures { result ≡ length self.now }
     {
-        count_of(self.text.as_str()) as u64
+        count_of(self.as_str()) as u64
     }
 
     /// Whether one of the filters matches the key. It takes no memory, and reads each byte a fixed number of times for
@@ -104,7 +105,7 @@ impl Filters {
     pub fn matches(&self, key: &Key) -> bool
         ensures { result ≡ any_matches self.now key.now }
     {
-        any_matches(self.text.as_str(), key.as_str())
+        any_matches(self.as_str(), key.as_str())
     }
 
     /// An equal list, in memory of its own.
@@ -112,7 +113,7 @@ impl Filters {
         ensures ok { IfOk result (λ filters. filters ≡ self.now) }
         ensures err { IfErr result (λ e. e ≡ OutOfMemory) }
     {
-        let text = String::from_str(alloc, self.text.as_str())?;
+        let text = String::from_str(alloc, self.as_str())?;
         Ok(Filters { text })
     }
 }

@@ -3,13 +3,19 @@
 ghost use Rattle.std.specs.Prelude.{◌≡◌};
 ghost use Rattle.std.specs.List.{list_all};
 ghost use Rattle.kv_keys.specs.Matching.{tokens};
-ghost use Rattle.kv_keys.specs.Grammar.{is_present, is_name_character, is_name, is_key_character, is_key, is_literal, are_filter_tokens, is_filter};
+ghost use Rattle.kv_keys.specs.Grammar.{has_one_to, is_present, is_name_character, is_name, is_key_character, is_key, is_literal, are_filter_tokens, is_filter};
 
 use crate::matching::{first_token, is_rest};
 
 const MOST_OF_NAME: usize = 64;
 
 const MOST_OF_KEY: usize = 255;
+
+fn has_one_to(most: usize, text: &str) -> bool
+    ensures { result ≡ has_one_to most text.now }
+{
+    !text.is_empty() && text.len() <= most
+}
 
 fn is_name_character(byte: u8) -> bool
     ensures { result ≡ is_name_character byte }
@@ -28,7 +34,7 @@ fn all_name_characters(bytes: &[u8]) -> bool
 pub fn is_name(text: &str) -> bool
     ensures { result ≡ is_name text.now }
 {
-    !text.is_empty() && text.len() <= MOST_OF_NAME && all_name_characters(text.as_bytes())
+    has_one_to(MOST_OF_NAME, text) && all_name_characters(text.as_bytes())
 }
 
 fn is_key_character(byte: u8) -> bool
@@ -54,10 +60,7 @@ fn all_tokens_present(text: &str) -> bool
 pub(crate) fn is_key(text: &str) -> bool
     ensures { result ≡ is_key text.now }
 {
-    !text.is_empty()
-        && text.len() <= MOST_OF_KEY
-        && all_key_characters(text.as_bytes())
-        && all_tokens_present(text)
+    has_one_to(MOST_OF_KEY, text) && all_key_characters(text.as_bytes()) && all_tokens_present(text)
 }
 
 fn is_literal(token: &str) -> bool
@@ -87,5 +90,5 @@ fn are_filter_tokens(text: &str) -> bool
 pub(crate) fn is_filter(text: &str) -> bool
     ensures { result ≡ is_filter text.now }
 {
-    !text.is_empty() && text.len() <= MOST_OF_KEY && are_filter_tokens(text)
+    has_one_to(MOST_OF_KEY, text) && are_filter_tokens(text)
 }

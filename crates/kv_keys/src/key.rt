@@ -1,15 +1,11 @@
 //! Keys of a bucket.
 
 ghost use Rattle.std.specs.Prelude.{◌≡◌, if◌then◌else◌, IfOk, IfErr, IsTrue};
-ghost use Rattle.std.specs.Str.{bytes_eq};
-ghost use Rattle.std.specs.Ordering.{nat_cmp};
-ghost use Rattle.std.specs.Cmp.Lexicographic.{slice_cmp};
 ghost use Rattle.kv_keys.specs.Grammar.{is_key};
 
 use crate::error::KvError;
-use crate::fnv::fnv32;
 use crate::grammar;
-use crate::place::Place;
+use crate::place::{Place, fnv32};
 use std::alloc::Global;
 use std::cmp::Ordering;
 use std::marker::Model;
@@ -61,7 +57,7 @@ impl Key {
         ensures ok { IfOk result (λ key. key ≡ self.now) }
         ensures err { IfErr result (λ e. e ≡ OutOfMemory) }
     {
-        let text = String::from_str(alloc, self.text.as_str())?;
+        let text = String::from_str(alloc, self.as_str())?;
         Ok(Key { text })
     }
 }

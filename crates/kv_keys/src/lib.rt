@@ -4,7 +4,6 @@
 mod error;
 mod filter;
 mod filters;
-mod fnv;
 mod grammar;
 mod key;
 mod matching;
@@ -14,10 +13,9 @@ mod short;
 pub use error::KvError;
 pub use filter::Filter;
 pub use filters::Filters;
-pub use fnv::fnv32;
 pub use grammar::is_name;
 pub use key::Key;
-pub use place::Place;
+pub use place::{Place, fnv32};
 pub use short::Short;
 
 #[cfg(test)]
