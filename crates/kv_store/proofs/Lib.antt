@@ -1,0 +1,4 @@
+pub mod Keeping
+pub mod Members
+pub mod Numbered
+pub mod Rising
