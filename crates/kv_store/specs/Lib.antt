@@ -1,6 +1,8 @@
 pub mod Acceptance
 pub mod Acts
+pub mod Bounds
 pub mod Configuration
+pub mod Inside
 pub mod Reads
 pub mod Requests
 pub mod Retained

@@ -1,6 +1,19 @@
 //! The configuration of a bucket.
 
+ghost use Rattle.std.specs.Prelude.{◌≡◌, OnOk, IfErr};
+ghost use Rattle.kv_keys.specs.Outcome.{Refuses};
+ghost use Rattle.kv_store.specs.Configuration.{IsLegal, configure, has_legal_numbers};
+
+use kv_keys::{KvError, is_name};
 use std::marker::Model;
+
+const MOST_HISTORY: u64 = 64;
+
+const MOST_VALUE: u64 = 1_048_576;
+
+const MOST_WRITES: u64 = 1_000_000;
+
+const MOST_REVISIONS: u64 = 4_294_967_295;
 
 /// A bucket's name and its limits. `Version::empty` checks them.
 #[derive(Drop)]
@@ -30,4 +43,30 @@ impl Model for Config {
       write_limit = c.write_limit;
       revision_limit = c.revision_limit;
     } };
+}
+
+impl Config {
+    /// Whether each number is within its limits.
+    fn has_legal_numbers(&self) -> bool
+        ensures { result ≡ has_legal_numbers self.now }
+    {
+        (1 <= self.history && self.history <= MOST_HISTORY)
+            && self.value_limit <= MOST_VALUE
+            && (1 <= self.write_limit && self.write_limit <= MOST_WRITES)
+            && (1 <= self.revision_limit && self.revision_limit <= MOST_REVISIONS)
+    }
+
+    /// Checks the name, and then the numbers.
+    pub(crate) fn check(&self) -> Result<(), KvError>
+        ensures ok { OnOk result (IsLegal self.now) }
+        ensures refused { IfErr result (λ e. Refuses e (configure self.now)) }
+    {
+        if !is_name(self.bucket.as_str()) {
+            return Err(KvError::BadBucket);
+        }
+        if !self.has_legal_numbers() {
+            return Err(KvError::BadConfig);
+        }
+        Ok(())
+    }
 }

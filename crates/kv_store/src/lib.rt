@@ -3,10 +3,14 @@
 
 mod config;
 mod request;
+mod rev;
 mod status;
+mod version;
 mod write;
 
 pub use config::Config;
 pub use request::Request;
+pub use rev::Rev;
 pub use status::Status;
+pub use version::Version;
 pub use write::{Op, Write};

@@ -1,0 +1,26 @@
+-- What a version's fields store.
+use Rattle.std.specs.Prelude.{ℕ, List, map, string_bytes, Vec}
+use Rattle.std.specs.Arc.{arc_value}
+use Rattle.std.specs.declared.alloc.Global.{Global}
+use Rattle.kv_store.specs.Stored.{Stored}
+use Rattle.kv_store.specs.declared.version.Version.TheInside.{Inside}
+
+-- the entries of the key trie, whatever memory holds the revisions
+abbrev pub kept_entries : List (List ℕ × Vec ℕ Global) → List (List ℕ × List ℕ)
+kept_entries entries = map (λ e. (e.0, e.1.items)) entries
+
+abbrev pub stored_of : Inside → Stored
+stored_of v = record {
+  config = record {
+    bucket = string_bytes (arc_value v.name);
+    history = v.history;
+    value_limit = v.value_limit;
+    write_limit = v.write_limit;
+    revision_limit = v.revision_limit;
+  };
+  by_key = kept_entries v.by_key;
+  by_revision = v.by_revision;
+  last = v.last;
+  values = v.values;
+  sealed = v.sealed;
+}

@@ -1,0 +1,102 @@
+//! Revisions as keys.
+
+ghost use Rattle.std.specs.Prelude.{◌≡◌};
+
+use kv_keys::Place;
+use std::cmp::Ordering;
+use std::marker::Model;
+
+/// A revision as a key of a trie, where its place is its number.
+///
+/// Contracts see it as its number.
+#[derive(Debug, Drop)]
+pub struct Rev(u32);
+
+impl Model for Rev {
+    ghost use Rattle.std.specs.Prelude.{ℕ};
+
+    ghost Value = { ℕ };
+
+    ghost view = { λ rev. rev.0 };
+}
+
+impl Rev {
+    /// The revision with this number.
+    pub fn new(number: u32) -> Rev
+        ensures { result ≡ number }
+    {
+        Rev(number)
+    }
+
+    /// Its number.
+    pub fn number(&self) -> u32
+        ensures { result ≡ self.now }
+    {
+        self.0
+    }
+}
+
+impl PartialEq for Rev {
+    ghost use Rattle.std.specs.Prelude.{nat_eq};
+    ghost use Rattle.std.specs.Cmp.{partial_equiv_from_equiv};
+    ghost use Rattle.std.proofs.lemmas.Cmp.{nat_eq_equiv};
+
+    ghost eq = { nat_eq };
+
+    ghost laws = { partial_equiv_from_equiv nat_eq_equiv };
+
+    fn eq(&self, other: &Rev) -> bool {
+        self.0 == other.0
+    }
+}
+
+impl Eq for Rev {
+    ghost use Rattle.std.proofs.lemmas.Cmp.{nat_eq_equiv};
+
+    ghost laws = { nat_eq_equiv };
+}
+
+impl PartialOrd for Rev {
+    ghost use Rattle.std.specs.Prelude.{Some};
+    ghost use Rattle.std.specs.Ordering.{nat_cmp};
+    ghost use Rattle.std.specs.Cmp.Rules.{comparing};
+    ghost use Rattle.std.proofs.Common.{rules};
+
+    ghost partial_cmp = { λ x y. Some (nat_cmp x y) };
+
+    ghost laws = { Prim.search (comparing, rules) };
+
+    fn partial_cmp(&self, other: &Rev) -> Option<Ordering> {
+        Some(self.cmp(other))
+    }
+}
+
+impl Ord for Rev {
+    ghost use Rattle.std.specs.Ordering.{nat_cmp};
+    ghost use Rattle.std.proofs.Common.{rules};
+    ghost use Rattle.std.proofs.lemmas.Cmp.{nat_cmp_total};
+
+    ghost cmp = { nat_cmp };
+
+    ghost total = { nat_cmp_total };
+
+    ghost matches_partial_cmp = { Prim.search rules };
+
+    ghost matches_eq = { Prim.search rules };
+
+    fn cmp(&self, other: &Rev) -> Ordering {
+        self.0.cmp(&other.0)
+    }
+}
+
+impl Place for Rev {
+    ghost use Rattle.std.specs.FinMap.{nat_cmp-IsAntisymmetric};
+
+    ghost place_of = { λ rev. rev };
+
+    fn place(&self) -> u32 {
+        self.0
+    }
+
+    ghost respects_equal = { nat_cmp-IsAntisymmetric };
+}

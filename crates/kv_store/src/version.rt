@@ -1,0 +1,180 @@
+//! Versions of a bucket.
+
+ghost use Rattle.std.specs.Prelude.{◌≡◌, ℕ, ◌==◌, [], ◌∷◌, ◌++◌, List, true, length, IfErr, IfOk};
+ghost use Rattle.std.specs.Map.{lookup};
+ghost use Rattle.std.specs.Option.{option_copied};
+ghost use Rattle.std.specs.Str.{bytes_eq};
+ghost use Rattle.kv_keys.specs.Outcome.{Refuses};
+ghost use Rattle.kv_keys.specs.declared.error.KvError.TheVariants.{OutOfMemory};
+ghost use Rattle.kv_store.specs.Acts.{Act, Seal, is_sealed, writes_of};
+ghost use Rattle.kv_store.specs.Configuration.{configure};
+ghost use Rattle.kv_store.specs.Reads.{unless_empty, write_at_of};
+ghost use Rattle.kv_store.specs.Retained.{kept, revisions};
+ghost use Rattle.kv_store.specs.Standing.{StandsFor};
+ghost use Rattle.kv_store.specs.Stored.{kept_at, write_at};
+
+use crate::config::Config;
+use crate::rev::Rev;
+use crate::write::Write;
+use kv_keys::{Key, KvError};
+use kv_trie::Trie;
+use std::alloc::Global;
+use std::marker::Model;
+use std::sync::Arc;
+
+/// A version of a bucket. It never changes: a write or a seal makes another one, which shares what both have.
+///
+/// Contracts see what it stores, and say which lists of accepted acts that stands for.
+#[derive(Drop)]
+pub struct Version {
+    pub(crate) name: Arc<String>,
+    pub(crate) history: u64,
+    pub(crate) value_limit: u64,
+    pub(crate) write_limit: u64,
+    pub(crate) revision_limit: u64,
+    pub(crate) by_key: Trie<Key, Vec<u64>>,
+    pub(crate) by_revision: Trie<Rev, Write>,
+    pub(crate) last: u64,
+    pub(crate) values: u64,
+    pub(crate) sealed: bool,
+}
+
+impl Model for Version {
+    ghost use Rattle.kv_store.specs.Stored.{Stored};
+
+    ghost Value = { Stored };
+
+    ghost use Rattle.kv_store.specs.Bounds.{IsBounded};
+    ghost use Rattle.kv_store.specs.Inside.{stored_of};
+
+    ghost view = { stored_of };
+
+    ghost invariant = { λ v. IsBounded (stored_of v) };
+}
+
+impl Version {
+    ghost use Rattle.kv_store.specs.Inside.{kept_entries};
+
+    /// The version of a new bucket: no write, not sealed. The name is checked before the numbers, and both before any
+    /// request for memory.
+    pub fn empty(alloc: Global, config: &Config) -> Result<Version, KvError>
+        ensures ok { IfOk result (λ version. (version.config ≡ config.now) × StandsFor [] version) }
+        ensures refused { IfErr result (λ e. Refuses e (configure config.now)) }
+    {
+        config.check()?;
+        let name = Arc::new(alloc, String::from_str(alloc, config.bucket.as_str())?)?;
+        Ok(Version {
+            name,
+            history: config.history,
+            value_limit: config.value_limit,
+            write_limit: config.write_limit,
+            revision_limit: config.revision_limit,
+            by_key: Trie::new(),
+            by_revision: Trie::new(),
+            last: 0,
+            values: 0,
+            sealed: false,
+        })
+    }
+
+    // The same version, or one that is sealed.
+    fn share(&self, sealed: bool) -> Result<Version, KvError>
+        ensures ok { IfOk result (λ version. version ≡ record self.now { sealed = sealed }) }
+        ensures err { IfErr result (λ e. e ≡ OutOfMemory) }
+    {
+        Ok(Version {
+            name: Arc::try_clone(&self.name)?,
+            history: self.history,
+            value_limit: self.value_limit,
+            write_limit: self.write_limit,
+            revision_limit: self.revision_limit,
+            by_key: self.by_key.snapshot()?,
+            by_revision: self.by_revision.snapshot()?,
+            last: self.last,
+            values: self.values,
+            sealed,
+        })
+    }
+
+    /// An equal version, which shares everything, at once at every size. It is refused only where something is shared
+    /// as often as can be counted.
+    pub fn snapshot(&self) -> Result<Version, KvError>
+        ensures ok { IfOk result (λ version. version ≡ self.now) }
+        ensures stands { IfOk result (λ version. (acts : List Act) → StandsFor acts self.now → StandsFor acts version) }
+        ensures err { IfErr result (λ e. e ≡ OutOfMemory) }
+    {
+        self.share(self.sealed)
+    }
+
+    /// The sealed version, which refuses writes. A version that is sealed already is so again.
+    pub fn seal(&self, _alloc: Global) -> Result<Version, KvError>
+        ensures ok { IfOk result (λ version. version ≡ record self.now { sealed = true }) }
+        ensures stands { IfOk result (λ version. (acts : List Act) → StandsFor acts self.now → StandsFor (acts ++ Seal ∷ []) version) }
+        ensures err { IfErr result (λ e. e ≡ OutOfMemory) }
+    {
+        self.share(true)
+    }
+
+    /// The bucket's name.
+    pub fn bucket(&self) -> &str
+        ensures { result.now ≡ self.now.config.bucket }
+    {
+        let name: &String = &self.name;
+        name.as_str()
+    }
+
+    /// The last revision, 0 where nothing was written.
+    pub fn revision(&self) -> u64
+        ensures value { result ≡ self.now.last }
+        ensures acts { (acts : List Act) → StandsFor acts self.now → result ≡ length (writes_of acts) }
+    {
+        self.last
+    }
+
+    /// Whether writes have ended.
+    pub fn sealed(&self) -> bool
+        ensures value { result ≡ self.now.sealed }
+        ensures acts { (acts : List Act) → StandsFor acts self.now → result ≡ is_sealed acts }
+    {
+        self.sealed
+    }
+
+    /// Of each key the revisions that are kept of it, in order.
+    pub fn by_key(&self) -> &Trie<Key, Vec<u64>>
+        ensures value { kept_entries result.now ≡ self.now.by_key }
+        ensures acts { (acts : List Act) → StandsFor acts self.now → (key : List ℕ) →
+            lookup (λ k. bytes_eq key k) (kept_entries result.now) ≡ unless_empty (revisions (kept self.now.config.history key acts)) }
+    {
+        &self.by_key
+    }
+
+    /// Of each revision the write that is stored of it.
+    pub fn by_revision(&self) -> &Trie<Rev, Write>
+        ensures value { result.now ≡ self.now.by_revision }
+        ensures acts { (acts : List Act) → StandsFor acts self.now → (revision : ℕ) →
+            lookup (λ r. revision == r) result.now ≡ write_at_of revision acts }
+    {
+        &self.by_revision
+    }
+
+    /// The revisions that are kept of the key, in order. It takes no memory.
+    pub fn kept_at(&self, key: &Key) -> Option<&[u64]>
+        ensures { option_copied result ≡ kept_at key.now self.now }
+    {
+        match self.by_key.get(key) {
+            Some(kept) => Some(kept.as_slice()),
+            None => None,
+        }
+    }
+
+    /// The write that is stored of the revision, retained or not. It takes no memory.
+    pub fn write_at(&self, revision: u64) -> Option<&Write>
+        ensures value { option_copied result ≡ write_at revision self.now }
+        ensures acts { (acts : List Act) → StandsFor acts self.now → option_copied result ≡ write_at_of revision acts }
+    {
+        if revision > self.last {
+            return None;
+        }
+        self.by_revision.get(&Rev::new(revision as u32))
+    }
+}
