@@ -2,6 +2,7 @@
 #![tactic(auto)]
 
 mod call;
+pub mod laws;
 mod reply;
 mod seen;
 mod stopped;

@@ -1,0 +1,53 @@
+-- What a run of calls tells each watch.
+use Rattle.std.specs.Prelude.{◌≡◌, ℕ, ◌+◌, ◌≤◌, false, List, [], ◌∷◌, ◌++◌, Option, Some, None, ⊤, length, take, drop, slice_get}
+use Rattle.kv_store.specs.Acts.{Act, IsPrefix}
+use Rattle.kv_watch.specs.declared.options.Options.{Options}
+use Rattle.kv_watch.specs.Given.{Item, given}
+use Rattle.kv_bucket.specs.declared.call.Call.{Call}
+use Rattle.kv_bucket.specs.declared.call.Call.TheVariants as ask
+use Rattle.kv_bucket.specs.Answers.{Answer, Watching, Ended}
+use Rattle.kv_bucket.specs.Runs.{run, items_for}
+use Rattle.kv_bucket.specs.State.{State, Watch, watch_at, given_to}
+
+-- a watch was handed the first items of what it is given, as many as it counts
+pub record Told (h : ℕ) (acts : List Act) (watch : Watch) (items : List Item) : Type 0 where
+  pub prefix : IsPrefix watch.began acts
+  pub within : watch.handed ≤ length (given_to h acts watch)
+  pub first : items ≡ take watch.handed (given_to h acts watch)
+
+-- and a watch that was not opened was handed nothing
+abbrev pub IsTold : ℕ → List Act → Option Watch → List Item → Type 0
+IsTold h acts None items = items ≡ []
+IsTold h acts (Some watch) items = Told h acts watch items
+
+-- the watch of a number was told these items
+abbrev pub TellsWatch : State → ℕ → List Item → Type 0
+TellsWatch s number items = IsTold s.config.history s.acts (watch_at number s.watches) items
+
+-- a call that neither takes from the watch of a number nor stops it
+abbrev pub IsOther : ℕ → Call → Type 0
+IsOther number (ask.Take asked) = asked ≡ number → ⊥
+IsOther number (ask.Stop asked) = asked ≡ number → ⊥
+IsOther number call = ⊤
+
+-- how a watch goes on: it keeps its beginning, its filters and its options, its count never falls, and once it is stopped it stays so and counts no more
+pub record GoesOn (before watch : Watch) : Type 0 where
+  pub began : watch.began ≡ before.began
+  pub filters : watch.filters ≡ before.filters
+  pub options : watch.options ≡ before.options
+  pub handed : before.handed ≤ watch.handed
+  pub stays_stopped : before.is_open ≡ false → watch.is_open ≡ false
+  pub counts_no_more : before.is_open ≡ false → watch.handed ≡ before.handed
+
+-- the watch theorem for one watch, which calls opened between the acts `began` and the acts `acts`: among the answers, the items from its takes are, in order, the first of what it is given by the acts so far; it counts them; and a stop of it answers how many they are, and none comes after
+pub record TellsOpened (s : State) (calls : List Call) (answers : List Answer) (began : List Act) (filters : List (List ℕ)) (options : Options) (number : ℕ) : Type 0 where
+  pub prefix : IsPrefix (items_for number calls answers) (given s.config.history began (run s calls).acts filters options)
+  pub counted : (watch : Watch) × (watch_at number (run s calls).watches ≡ Some watch) × (watch.handed ≡ length (items_for number calls answers))
+  pub stopped : (earlier later : List Call) (handed : ℕ) → calls ≡ earlier ++ ask.Stop number ∷ later → slice_get answers (length earlier) ≡ Some (Ended handed) →
+      (handed ≡ length (items_for number calls answers)) × (items_for number later (drop (length earlier + 1) answers) ≡ [])
+
+-- the watch theorem, for each watch that the calls opened
+abbrev pub TellsEachWatch : State → List Call → List Answer → Type 0
+TellsEachWatch s calls answers = (before later : List Call) (filters : List (List ℕ)) (options : Options) (number : ℕ) →
+    calls ≡ before ++ ask.Watch filters options ∷ later → slice_get answers (length before) ≡ Some (Watching number) →
+    TellsOpened s calls answers (run s before).acts filters options number
