@@ -1,11 +1,14 @@
 //! What a watch is given, and cursors that go through it.
 #![tactic(auto)]
 
+mod audit;
 mod event;
+pub mod laws;
 mod options;
 mod shown;
 mod taken;
 
+pub use audit::given;
 pub use event::Event;
 pub use options::{Options, Start};
 pub use shown::Shown;

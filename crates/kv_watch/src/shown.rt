@@ -2,8 +2,12 @@
 
 ghost use Rattle.std.specs.Prelude.{◌≡◌};
 ghost use Rattle.std.specs.Option.{option_copied};
+ghost use Rattle.kv_store.specs.Acts.{is_put};
+ghost use Rattle.kv_watch.specs.Given.{entry_of};
+ghost use Rattle.kv_watch.specs.Showing.{is_shown};
 
-use kv_keys::Key;
+use crate::options::Options;
+use kv_keys::{Filters, Key};
 use kv_store::{Op, Write};
 use std::marker::Model;
 
@@ -20,4 +24,70 @@ impl<'a> Model for Shown<'a> {
     ghost Value = { Entry };
 
     ghost view = { λ s. entry_of s.headers_only s.write.now };
+}
+
+impl<'a> Shown<'a> {
+    pub(crate) fn new(write: &'a Write, headers_only: bool) -> Shown<'a>
+        ensures { result ≡ entry_of headers_only write.now }
+    {
+        Shown {
+            write,
+            headers_only,
+        }
+    }
+
+    /// The key that was written.
+    pub fn key(&self) -> &'a Key
+        ensures { result.now ≡ self.now.key }
+    {
+        self.write.key()
+    }
+
+    /// What the write did.
+    pub fn op(&self) -> Op
+        ensures { result ≡ self.now.op }
+    {
+        self.write.op()
+    }
+
+    /// The revision of the write.
+    pub fn revision(&self) -> u64
+        ensures { result ≡ self.now.revision }
+    {
+        self.write.revision()
+    }
+
+    /// How many bytes the value has, also where it isn't shown; 0 for a marker.
+    pub fn size(&self) -> u64
+        ensures { result ≡ self.now.size }
+    {
+        self.write.value().len() as u64
+    }
+
+    /// The value. There is none for a marker, and where the watch asked for no values.
+    pub fn value(&self) -> Option<&'a [u8]>
+        ensures { option_copied result ≡ self.now.value }
+    {
+        if is_put(self.write.op()) && !self.headers_only {
+            return Some(self.write.value());
+        }
+        None
+    }
+}
+
+fn is_put(op: Op) -> bool
+    ensures { result ≡ is_put op }
+{
+    match op {
+        Op::Put => true,
+        Op::Delete => false,
+        Op::Purge => false,
+    }
+}
+
+/// Whether a watch with these filters and options shows a write.
+pub(crate) fn is_shown(filters: &Filters, options: Options, write: &Write) -> bool
+    ensures { result ≡ is_shown filters.now options write.now }
+{
+    filters.matches(write.key()) && !(options.ignore_deletes && !is_put(write.op()))
 }

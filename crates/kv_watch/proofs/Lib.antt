@@ -1,0 +1,4 @@
+pub mod Counted
+pub mod GivenLaws
+pub mod KeptLaws
+pub mod SlowSteps

@@ -1,0 +1,161 @@
+-- The steps of the slow walk over all writes, and that it lists what is given.
+use Rattle.std.proofs.Common.{◌≡◌, ℕ, suc, ◌+◌, ◌-◌, ◌<◌, ◌≤◌, Bool, true, false, cond, ◌&&◌, not, min, List, [], ◌∷◌, ◌++◌, Option, Some, None, length, get_or, take, drop, map, filter, refl, sym, ap, ◌∙◌, arith, append-nil, append_assoc, length-take}
+use Rattle.std.specs.Borrow.{Bor}
+use Rattle.std.specs.List.{last_or, list_any, cons_option}
+use Rattle.std.specs.Str.{bytes_eq}
+use Rattle.std.proofs.lemmas.List.{drop_more, take_more, map-append, take-map, drop-map, length-map, drop-take}
+use Rattle.std.proofs.lemmas.List.Elements.{filter-append}
+use Rattle.kv_keys.specs.Matching.{any_matches}
+use Rattle.kv_store.specs.Acts.{Act, Write, Wrote, writes_of, write_of, is_put, is_purge}
+use Rattle.kv_store.specs.Retained.{writes_of_key, last_write, since_purge, last_n, kept, revisions}
+use Rattle.kv_watch.specs.declared.event.Event.{Event}
+use Rattle.kv_watch.specs.declared.event.Event.TheVariants as events
+use Rattle.kv_watch.specs.declared.options.Options.{Options}
+use Rattle.kv_watch.specs.declared.options.Start.{Start}
+use Rattle.kv_watch.specs.Given.{Item, AnEntry, matching, all_shown, entry_of, initial, ending, given, event_of}
+use Rattle.kv_watch.specs.Listing.{revisions_after}
+use Rattle.kv_watch.specs.Showing.{events_where, is_initial, is_shown, wrote_all}
+use Rattle.kv_watch.proofs.Counted.{writes-append}
+use Rattle.kv_watch.proofs.GivenLaws.{filter-filter, initial_selects}
+
+-- the writes behind the references
+abbrev pub plain : List (Bor Write) → List Write
+plain writes = map (λ w. w.now) writes
+
+pub writes_of_wrote : (writes : List (Bor Write)) → writes_of (wrote_all writes) ≡ plain writes
+writes_of_wrote [] = refl
+writes_of_wrote (w ∷ ws) = ap (λ vs. w.now ∷ vs) (writes_of_wrote ws)
+
+-- ---- a loop that gathers events
+
+-- what is left to gather from a place on
+abbrev pub events_from : (Write → Bool) → ℕ → List (Bor Write) → List Event
+events_from test place writes = events_where test (plain (drop place writes))
+
+events_where-append : (test : Write → Bool) (ws more : List Write) → events_where test (ws ++ more) ≡ events_where test ws ++ events_where test more
+events_where-append test ws more =
+    ap (map (λ w. events.Entry w.revision)) (filter-append test ws more)
+    ∙ map-append (λ w. events.Entry w.revision) (filter test ws) (filter test more)
+
+pub events_first : (test : Write → Bool) (place : ℕ) (writes : List (Bor Write)) (w : Bor Write) → place < length writes → w ≡ get_or writes place w
+    → events_from test place writes ≡ events_where test (w.now ∷ []) ++ events_from test (place + 1) writes
+events_first test place writes w l e =
+    ap (λ vs. events_where test (plain vs)) (drop_more writes place w l ∙ ap (λ v. v ∷ drop (place + 1) writes) (sym e))
+    ∙ events_where-append test (w.now ∷ []) (plain (drop (place + 1) writes))
+
+-- ---- a loop that finds the last write of a key
+
+wrote-push : (writes : List (Bor Write)) (place : ℕ) (w : Bor Write) → place < length writes → w ≡ get_or writes place w
+    → writes_of (wrote_all (take (place + 1) writes)) ≡ writes_of (wrote_all (take place writes)) ++ w.now ∷ []
+wrote-push writes place w l e =
+    ap (λ vs. writes_of (wrote_all vs)) (take_more writes place w l ∙ ap (λ v. take place writes ++ v ∷ []) (sym e))
+    ∙ ap writes_of (map-append (λ v. Wrote v.now) (take place writes) (w ∷ []))
+    ∙ writes-append (wrote_all (take place writes)) (Wrote w.now ∷ [])
+
+last_or-push : {X : Type 0} (o : Option X) (xs : List X) (x : X) → last_or o (xs ++ x ∷ []) ≡ Some x
+last_or-push o [] x = refl
+last_or-push o (y ∷ xs) x = last_or-push (Some y) xs x
+
+pub last_write_more : (key : List ℕ) (writes : List (Bor Write)) (place : ℕ) (w : Bor Write) → place < length writes → w ≡ get_or writes place w
+    → last_write key (wrote_all (take (place + 1) writes)) ≡ cond (bytes_eq w.now.key key) (Some w.now) (last_write key (wrote_all (take place writes)))
+last_write_more key writes place w l e =
+    ap (λ vs. last_or None (filter (λ v. bytes_eq v.key key) vs)) (wrote-push writes place w l e)
+    ∙ ap (last_or None) (filter-append (λ v. bytes_eq v.key key) (writes_of (wrote_all (take place writes))) (w.now ∷ []))
+    ∙ by_test (bytes_eq w.now.key key)
+  where
+    by_test : (b : Bool) → last_or None (writes_of_key key (wrote_all (take place writes)) ++ cond b (w.now ∷ []) []) ≡ cond b (Some w.now) (last_write key (wrote_all (take place writes)))
+    by_test true = last_or-push None (writes_of_key key (wrote_all (take place writes))) w.now
+    by_test false = ap (last_or None) (append-nil (writes_of_key key (wrote_all (take place writes))))
+
+-- ---- a loop that gathers the revisions since the last purge
+
+any_push : (ws : List Write) (w : Write) → list_any (λ v. is_purge v.op) (ws ++ w ∷ []) ≡ cond (list_any (λ v. is_purge v.op) ws) true (is_purge w.op)
+any_push [] w = elim (is_purge w.op) as (λ b. cond b true false ≡ b) [ true ↦ refl | false ↦ refl ]
+any_push (v ∷ ws) w = elim (is_purge v.op) as (λ b. cond b true (list_any (λ v. is_purge v.op) (ws ++ w ∷ [])) ≡ cond (cond b true (list_any (λ v. is_purge v.op) ws)) true (is_purge w.op)) [
+      | true ↦ refl
+      | false ↦ any_push ws w
+    ]
+
+since_purge-push : (ws : List Write) (w : Write) → since_purge (ws ++ w ∷ []) ≡ (cond (is_purge w.op) [] (since_purge ws)) ++ w ∷ []
+since_purge-push [] w = elim (is_purge w.op) as (λ b. w ∷ [] ≡ cond b [] [] ++ w ∷ []) [ true ↦ refl | false ↦ refl ]
+since_purge-push (v ∷ ws) w = grind (arith, any_push ws w, since_purge-push ws w)
+
+pub revisions-last_n : (n : ℕ) (ws : List Write) → revisions (last_n n ws) ≡ last_n n (revisions ws)
+revisions-last_n n ws =
+    sym (ap (λ m. drop (m - n) (revisions ws)) (length-map ws (λ w. w.revision)) ∙ drop-map (λ w. w.revision) (length ws - n) ws)
+
+abbrev pub revisions_to : List ℕ → ℕ → List (Bor Write) → List ℕ
+revisions_to key place writes = revisions (since_purge (writes_of_key key (wrote_all (take place writes))))
+
+-- the writes of a key before a place
+abbrev of_key_to : List ℕ → ℕ → List (Bor Write) → List Write
+of_key_to key place writes = writes_of_key key (wrote_all (take place writes))
+
+pub revisions_more : (key : List ℕ) (writes : List (Bor Write)) (place : ℕ) (w : Bor Write) → place < length writes → w ≡ get_or writes place w
+    → revisions_to key (place + 1) writes ≡ revisions_after (revisions_to key place writes) key w.now
+revisions_more key writes place w l e =
+    let before = writes_of (wrote_all (take place writes)) in
+    ap (λ vs. revisions (since_purge (filter (λ v. bytes_eq v.key key) vs))) (wrote-push writes place w l e)
+    ∙ ap (λ vs. revisions (since_purge vs)) (filter-append (λ v. bytes_eq v.key key) before (w.now ∷ []))
+    ∙ by_test (bytes_eq w.now.key key)
+  where
+    by_purge : (b : Bool) → revisions (cond b [] (since_purge (of_key_to key place writes)) ++ w.now ∷ []) ≡ cond b [] (revisions (since_purge (of_key_to key place writes))) ++ w.now.revision ∷ []
+    by_purge true = refl
+    by_purge false = map-append (λ v. v.revision) (since_purge (of_key_to key place writes)) (w.now ∷ [])
+
+    by_test : (b : Bool) → revisions (since_purge (of_key_to key place writes ++ cond b (w.now ∷ []) [])) ≡ cond b (cond (is_purge w.now.op) [] (revisions (since_purge (of_key_to key place writes))) ++ w.now.revision ∷ []) (revisions (since_purge (of_key_to key place writes)))
+    by_test true = ap revisions (since_purge-push (of_key_to key place writes) w.now) ∙ by_purge (is_purge w.now.op)
+    by_test false = ap (λ vs. revisions (since_purge vs)) (append-nil (of_key_to key place writes))
+
+-- ---- the list is what is given
+
+-- the events of what is shown of writes
+events_shown : (options : Options) (filters : List (List ℕ)) (ws : List Write) → map event_of (all_shown options (matching filters ws)) ≡ events_where (is_shown filters options) ws
+events_shown options filters [] = refl
+events_shown options filters (w ∷ ws) = by_match (any_matches filters w.key) (options.ignore_deletes && not (is_put w.op)) (events_shown options filters ws)
+  where
+    by_hide : (hides : Bool) → map event_of (all_shown options (matching filters ws)) ≡ events_where (is_shown filters options) ws
+        → map event_of (cons_option (cond hides None (Some (AnEntry (entry_of options.headers_only w)))) (all_shown options (matching filters ws)))
+          ≡ map (λ v. events.Entry v.revision) (cond (not hides) (w ∷ filter (is_shown filters options) ws) (filter (is_shown filters options) ws))
+    by_hide true rest = rest
+    by_hide false rest = ap (λ es. events.Entry w.revision ∷ es) rest
+
+    by_match : (m hides : Bool) → map event_of (all_shown options (matching filters ws)) ≡ events_where (is_shown filters options) ws
+        → map event_of (all_shown options (cond m (w ∷ matching filters ws) (matching filters ws)))
+          ≡ map (λ v. events.Entry v.revision) (cond (m && not (options.ignore_deletes && not (is_put w.op))) (w ∷ filter (is_shown filters options) ws) (filter (is_shown filters options) ws))
+    by_match true hides rest = by_hide (options.ignore_deletes && not (is_put w.op)) rest
+    by_match false hides rest = rest
+
+-- the same of the initial part
+events_initial : (h : ℕ) (options : Options) (filters : List (List ℕ)) (acts : List Act)
+    → map event_of (all_shown options (matching filters (initial h options.start acts))) ≡ events_where (λ w. is_initial h options.start acts w && is_shown filters options w) (writes_of acts)
+events_initial h options filters acts =
+    events_shown options filters (initial h options.start acts)
+    ∙ ap (events_where (is_shown filters options)) (initial_selects h options.start acts)
+    ∙ ap (map (λ w. events.Entry w.revision)) (filter-filter (is_shown filters options) (is_initial h options.start acts) (writes_of acts))
+
+-- the three parts together, where the acts are so many of the writes
+pub listed_is_given : (h base end : ℕ) (writes : List (Bor Write)) (filters : List (List ℕ)) (options : Options) → base ≤ end → end ≤ length writes
+    → events_where (λ w. is_initial h options.start (wrote_all (take base writes)) w && is_shown filters options w) (plain (take base writes))
+      ++ map event_of (ending options.start)
+      ++ events_where (is_shown filters options) (plain (drop base (take end writes)))
+      ≡ map event_of (given h (take base (wrote_all writes)) (take end (wrote_all writes)) filters options)
+listed_is_given h base end writes filters options l k =
+    let began = wrote_all (take base writes) in
+    let ended = wrote_all (take end writes) in
+    let counts : length (writes_of began) ≡ base = ap length (writes_of_wrote (take base writes)) ∙ length-map (take base writes) (λ w. w.now) ∙ length-take base writes ∙ omega arith in
+    let first : map event_of (all_shown options (matching filters (initial h options.start began))) ≡ events_where (λ w. is_initial h options.start began w && is_shown filters options w) (plain (take base writes)) =
+    events_initial h options filters began ∙ ap (events_where (λ w. is_initial h options.start began w && is_shown filters options w)) (writes_of_wrote (take base writes)) in
+    let behind : drop (length (writes_of began)) (writes_of ended) ≡ plain (drop base (take end writes)) =
+    ap (λ n. drop n (writes_of ended)) counts ∙ ap (drop base) (writes_of_wrote (take end writes)) ∙ drop-map (λ w. w.now) base (take end writes) in
+    let second : map event_of (all_shown options (matching filters (drop (length (writes_of began)) (writes_of ended)))) ≡ events_where (is_shown filters options) (plain (drop base (take end writes))) =
+    events_shown options filters (drop (length (writes_of began)) (writes_of ended)) ∙ ap (events_where (is_shown filters options)) behind in
+    sym (
+      ap (map event_of) (ap (λ before. given h before (take end (wrote_all writes)) filters options) (take-map (λ w. Wrote w.now) base writes) ∙ ap (λ later. given h began later filters options) (take-map (λ w. Wrote w.now) end writes))
+      ∙ map-append event_of (all_shown options (matching filters (initial h options.start began))) (ending options.start ++ all_shown options (matching filters (drop (length (writes_of began)) (writes_of ended))))
+      ∙ ap (λ es. map event_of (all_shown options (matching filters (initial h options.start began))) ++ es) (map-append event_of (ending options.start) (all_shown options (matching filters (drop (length (writes_of began)) (writes_of ended)))))
+      ∙ joined first second
+    )
+  where
+    joined : {a b c d : List Event} → a ≡ b → c ≡ d → a ++ (map event_of (ending options.start) ++ c) ≡ b ++ map event_of (ending options.start) ++ d
+    joined p q = rw (p, q, append_assoc) refl

@@ -1,0 +1,59 @@
+-- Where a cursor stands in what its watch is given.
+use Rattle.std.specs.Prelude.{◌≡◌, ℕ, suc, ◌-◌, ◌≤◌, Bool, true, false, nat_lt, List, [], ◌∷◌, length, drop, filter, take, Option, None, unwrap_or}
+use Rattle.std.specs.List.{last_or}
+use Rattle.kv_store.specs.Acts.{Act, Write, IsPrefix, writes_of}
+use Rattle.kv_store.specs.Standing.{StandsFor}
+use Rattle.kv_store.specs.Stored.{Stored}
+use Rattle.kv_watch.specs.declared.options.Options.{Options}
+use Rattle.kv_watch.specs.declared.options.Start.{Start}
+use Rattle.kv_watch.specs.declared.options.Start.TheVariants.{Latest, History, Updates, From}
+use Rattle.kv_watch.specs.Given.{Item, EndMarker, matching, all_shown, initial, ending, given, item_revisions}
+
+-- what a cursor keeps: which initial entries it still owes, by their revisions, and whether it owes the end marker; up to which revision it has looked at live writes; one more than the revision of the last live entry that it handed out; and how many items it handed out
+pub record Following : Type 0 where
+  pub filters : List (List ℕ)
+  pub options : Options
+  pub owed : List ℕ
+  pub marker : Bool
+  pub seen : ℕ
+  pub next : ℕ
+  pub handed : ℕ
+
+-- all that the watch of a cursor is given
+abbrev pub given_to : ℕ → List Act → List Act → Following → List Item
+given_to h began acts cursor = given h began acts cursor.filters cursor.options
+
+-- of it, the initial entries
+abbrev pub initial_to : ℕ → List Act → Following → List Item
+initial_to h began cursor = all_shown cursor.options (matching cursor.filters (initial h cursor.options.start began))
+
+-- the live entries
+abbrev pub live_to : List Act → List Act → Following → List Item
+live_to began acts cursor = all_shown cursor.options (matching cursor.filters (drop (length (writes_of began)) (writes_of acts)))
+
+-- and of n items the number of live ones: those behind the initial entries and the end marker
+abbrev pub live_count : ℕ → List Act → ℕ → Following → ℕ
+live_count h began n cursor = n - length (initial_to h began cursor) - length (ending cursor.options.start)
+
+-- the end marker, if it is owed
+abbrev pub marker_if : Bool → List Item
+marker_if true = EndMarker ∷ []
+marker_if false = []
+
+-- what is shown of the writes behind a revision
+abbrev pub shown_behind : ℕ → List Act → List (List ℕ) → Options → List Item
+shown_behind revision acts filters options = all_shown options (matching filters (filter (λ w. nat_lt revision w.revision) (writes_of acts)))
+
+-- a cursor that handed out n items is in place by the acts of its watch's beginning and the present ones, for versions that stand for them: it owes the initial entries that are not among the first n items, the end marker if it isn't, and of the live entries all but the first ones; of those its next revision is one behind the last, and perhaps it has looked further
+pub record InPlace (began acts : List Act) (n : ℕ) (base now : Stored) (cursor : Following) : Type 0 where
+  pub base_stands : StandsFor began base
+  pub now_stands : StandsFor acts now
+  pub same_config : now.config ≡ base.config
+  pub prefix : IsPrefix began acts
+  pub handed : cursor.handed ≡ n
+  pub taken : n ≤ length (given_to base.config.history began acts cursor)
+  pub owed : cursor.owed ≡ item_revisions (drop n (initial_to base.config.history began cursor))
+  pub marker : marker_if cursor.marker ≡ drop (n - length (initial_to base.config.history began cursor)) (ending cursor.options.start)
+  pub left : shown_behind cursor.seen acts cursor.filters cursor.options ≡ drop (live_count base.config.history began n cursor) (live_to began acts cursor)
+  pub seen : cursor.seen ≤ length (writes_of acts)
+  pub next : cursor.next ≡ suc (unwrap_or (last_or None (item_revisions (take (live_count base.config.history began n cursor) (live_to began acts cursor)))) (length (writes_of began)))
