@@ -13,14 +13,12 @@ use Rattle.kv_watch.specs.declared.options.Start.{Start}
 use Rattle.kv_watch.specs.declared.options.Start.TheVariants.{Latest, History, Updates, From}
 use Rattle.kv_watch.specs.Showing.{is_initial, is_shown}
 use Rattle.kv_watch.specs.Given.{Item, matching, shown, all_shown, item_revisions, revision_of, initial, ending, given}
-use Rattle.kv_watch.proofs.Counted.{Rises, Rises-append, increasing_from_Rises, CountsFrom, CountsFrom-left, CountsFrom-right, shown_rises, writes-append, counts_lawful}
+use Rattle.kv_store.proofs.Members.{filter-filter}
+use Rattle.kv_store.proofs.Numbered.{CountsFrom, CountsFrom-left, CountsFrom-right, writes_of-append, counts_from_lawful}
+use Rattle.kv_store.proofs.Rising.{Rises, Rises-append, increasing_from_Rises}
+use Rattle.kv_watch.proofs.Counted.{shown_rises}
 
 -- ---- the initial writes are a selection of the writes
-
--- two filters are one
-pub filter-filter : {X : Type 0} (p q : X → Bool) (xs : List X) → filter p (filter q xs) ≡ filter (λ x. q x && p x) xs
-filter-filter p q [] = refl
-filter-filter p q (x ∷ xs) = grind (arith, filter-filter p q xs)
 
 none_pass : {X : Type 0} (xs : List X) → [] ≡ filter (λ _. false) xs
 none_pass [] = refl
@@ -47,14 +45,14 @@ all_shown-matching-append options filters ws more =
 
 pub no_fewer_writes : (began acts : List Act) → IsPrefix began acts → length (writes_of began) ≤ length (writes_of acts)
 no_fewer_writes began acts p =
-    omega (arith, length-append (writes_of began) (writes_of p.0), ap length (sym (writes-append began p.0) ∙ ap writes_of p.1))
+    omega (arith, length-append (writes_of began) (writes_of p.0), ap length (sym (writes_of-append began p.0) ∙ ap writes_of p.1))
 
 -- what more acts add to the live writes
 pub live-append : (began acts more : List Act) (filters : List (List ℕ)) (options : Options) → length (writes_of began) ≤ length (writes_of acts)
     → all_shown options (matching filters (drop (length (writes_of began)) (writes_of (acts ++ more))))
-      ≡ all_shown options (matching filters (drop (length (writes_of began)) (writes_of acts))) ++ all_shown options (matching filters (writes_of more))
+    ≡ all_shown options (matching filters (drop (length (writes_of began)) (writes_of acts))) ++ all_shown options (matching filters (writes_of more))
 live-append began acts more filters options l =
-    ap (λ ws. all_shown options (matching filters ws)) (ap (drop (length (writes_of began))) (writes-append acts more) ∙ drop-append-le (length (writes_of began)) (writes_of acts) (writes_of more) l)
+    ap (λ ws. all_shown options (matching filters ws)) (ap (drop (length (writes_of began))) (writes_of-append acts more) ∙ drop-append-le (length (writes_of began)) (writes_of acts) (writes_of more) l)
     ∙ all_shown-matching-append options filters (drop (length (writes_of began)) (writes_of acts)) (writes_of more)
 
 -- what more acts add to what is given
@@ -87,8 +85,8 @@ drop_prefix (x ∷ xs) ys = drop_prefix xs ys
 pub given_rises : (config : Configuration) (h : ℕ) (began acts : List Act) (filters : List (List ℕ)) (options : Options)
     → IsLawful config acts → IsPrefix began acts → IsStrictlyIncreasing (item_revisions (given h began acts filters options))
 given_rises config h began acts filters options lawful p =
-    let ws : writes_of acts ≡ writes_of began ++ writes_of p.0 = sym (ap writes_of p.1) ∙ writes-append began p.0 in
-    let counts : CountsFrom 1 (writes_of began ++ writes_of p.0) = subst (CountsFrom 1) ws (counts_lawful config acts lawful) in
+    let ws : writes_of acts ≡ writes_of began ++ writes_of p.0 = sym (ap writes_of p.1) ∙ writes_of-append began p.0 in
+    let counts : CountsFrom 1 (writes_of began ++ writes_of p.0) = subst (CountsFrom 1) ws (counts_from_lawful config acts lawful) in
     let n = length (writes_of began) in
     let rest : drop n (writes_of acts) ≡ writes_of p.0 = ap (drop n) ws ∙ drop_prefix (writes_of began) (writes_of p.0) in
     let initially = all_shown options (matching filters (initial h options.start began)) in

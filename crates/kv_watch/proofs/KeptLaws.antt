@@ -11,7 +11,7 @@ use Rattle.kv_store.specs.Retained.{retained, latest, is_kept, is_latest, writes
 use Rattle.kv_watch.specs.declared.options.Options.{Options}
 use Rattle.kv_watch.specs.declared.options.Start.TheVariants.{History, From}
 use Rattle.kv_watch.specs.Given.{Item, EndMarker, all_shown, matching, given}
-use Rattle.kv_watch.proofs.Counted.{CountsFrom, counts_lawful}
+use Rattle.kv_store.proofs.Numbered.{CountsFrom, counts_from_lawful}
 
 -- ---- a history of one
 
@@ -64,8 +64,8 @@ all_from p revision n (w ∷ ws) l h =
 
 pub from_first : (config : Configuration) (h revision : ℕ) (began acts : List Act) (filters : List (List ℕ)) (ignore_deletes headers_only : Bool) → IsLawful config began → revision ≤ 1
     → given h began acts filters (record { start = From revision; ignore_deletes = ignore_deletes; headers_only = headers_only })
-      ≡ given h began acts filters (record { start = History; ignore_deletes = ignore_deletes; headers_only = headers_only })
+    ≡ given h began acts filters (record { start = History; ignore_deletes = ignore_deletes; headers_only = headers_only })
 from_first config h revision began acts filters ignore_deletes headers_only lawful l =
     let options : Options = record { start = History; ignore_deletes = ignore_deletes; headers_only = headers_only } in
     ap (λ ws. all_shown options (matching filters ws) ++ (EndMarker ∷ all_shown options (matching filters (drop (length (writes_of began)) (writes_of acts)))))
-    (all_from (is_kept h began) revision 1 (writes_of began) l (counts_lawful config began lawful))
+    (all_from (is_kept h began) revision 1 (writes_of began) l (counts_from_lawful config began lawful))

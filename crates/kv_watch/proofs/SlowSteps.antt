@@ -15,8 +15,10 @@ use Rattle.kv_watch.specs.declared.options.Start.{Start}
 use Rattle.kv_watch.specs.Given.{Item, AnEntry, matching, all_shown, entry_of, initial, ending, given, event_of}
 use Rattle.kv_watch.specs.Listing.{revisions_after}
 use Rattle.kv_watch.specs.Showing.{events_where, is_initial, is_shown, wrote_all}
-use Rattle.kv_watch.proofs.Counted.{writes-append}
-use Rattle.kv_watch.proofs.GivenLaws.{filter-filter, initial_selects}
+use Rattle.kv_store.proofs.Keeping.{since_purge-push}
+use Rattle.kv_store.proofs.Members.{filter-filter}
+use Rattle.kv_store.proofs.Numbered.{writes_of-append}
+use Rattle.kv_watch.proofs.GivenLaws.{initial_selects}
 
 -- the writes behind the references
 abbrev pub plain : List (Bor Write) → List Write
@@ -43,6 +45,10 @@ events_first test place writes w l e =
     ap (λ vs. events_where test (plain vs)) (drop_more writes place w l ∙ ap (λ v. v ∷ drop (place + 1) writes) (sym e))
     ∙ events_where-append test (w.now ∷ []) (plain (drop (place + 1) writes))
 
+-- whether a watch begins with a write, and shows it
+abbrev pub begins_with : ℕ → List (List ℕ) → Options → List (Bor Write) → Write → Bool
+begins_with h filters options began w = is_initial h options.start (wrote_all began) w && is_shown filters options w
+
 -- ---- a loop that finds the last write of a key
 
 wrote-push : (writes : List (Bor Write)) (place : ℕ) (w : Bor Write) → place < length writes → w ≡ get_or writes place w
@@ -50,7 +56,7 @@ wrote-push : (writes : List (Bor Write)) (place : ℕ) (w : Bor Write) → place
 wrote-push writes place w l e =
     ap (λ vs. writes_of (wrote_all vs)) (take_more writes place w l ∙ ap (λ v. take place writes ++ v ∷ []) (sym e))
     ∙ ap writes_of (map-append (λ v. Wrote v.now) (take place writes) (w ∷ []))
-    ∙ writes-append (wrote_all (take place writes)) (Wrote w.now ∷ [])
+    ∙ writes_of-append (wrote_all (take place writes)) (Wrote w.now ∷ [])
 
 last_or-push : {X : Type 0} (o : Option X) (xs : List X) (x : X) → last_or o (xs ++ x ∷ []) ≡ Some x
 last_or-push o [] x = refl
@@ -68,21 +74,6 @@ last_write_more key writes place w l e =
     by_test false = ap (last_or None) (append-nil (writes_of_key key (wrote_all (take place writes))))
 
 -- ---- a loop that gathers the revisions since the last purge
-
-any_push : (ws : List Write) (w : Write) → list_any (λ v. is_purge v.op) (ws ++ w ∷ []) ≡ cond (list_any (λ v. is_purge v.op) ws) true (is_purge w.op)
-any_push [] w = elim (is_purge w.op) as (λ b. cond b true false ≡ b) [ true ↦ refl | false ↦ refl ]
-any_push (v ∷ ws) w = elim (is_purge v.op) as (λ b. cond b true (list_any (λ v. is_purge v.op) (ws ++ w ∷ [])) ≡ cond (cond b true (list_any (λ v. is_purge v.op) ws)) true (is_purge w.op)) [
-      | true ↦ refl
-      | false ↦ any_push ws w
-    ]
-
-since_purge-push : (ws : List Write) (w : Write) → since_purge (ws ++ w ∷ []) ≡ (cond (is_purge w.op) [] (since_purge ws)) ++ w ∷ []
-since_purge-push [] w = elim (is_purge w.op) as (λ b. w ∷ [] ≡ cond b [] [] ++ w ∷ []) [ true ↦ refl | false ↦ refl ]
-since_purge-push (v ∷ ws) w = grind (arith, any_push ws w, since_purge-push ws w)
-
-pub revisions-last_n : (n : ℕ) (ws : List Write) → revisions (last_n n ws) ≡ last_n n (revisions ws)
-revisions-last_n n ws =
-    sym (ap (λ m. drop (m - n) (revisions ws)) (length-map ws (λ w. w.revision)) ∙ drop-map (λ w. w.revision) (length ws - n) ws)
 
 abbrev pub revisions_to : List ℕ → ℕ → List (Bor Write) → List ℕ
 revisions_to key place writes = revisions (since_purge (writes_of_key key (wrote_all (take place writes))))
@@ -116,13 +107,13 @@ events_shown options filters (w ∷ ws) = by_match (any_matches filters w.key) (
   where
     by_hide : (hides : Bool) → map event_of (all_shown options (matching filters ws)) ≡ events_where (is_shown filters options) ws
         → map event_of (cons_option (cond hides None (Some (AnEntry (entry_of options.headers_only w)))) (all_shown options (matching filters ws)))
-          ≡ map (λ v. events.Entry v.revision) (cond (not hides) (w ∷ filter (is_shown filters options) ws) (filter (is_shown filters options) ws))
+        ≡ map (λ v. events.Entry v.revision) (cond (not hides) (w ∷ filter (is_shown filters options) ws) (filter (is_shown filters options) ws))
     by_hide true rest = rest
     by_hide false rest = ap (λ es. events.Entry w.revision ∷ es) rest
 
     by_match : (m hides : Bool) → map event_of (all_shown options (matching filters ws)) ≡ events_where (is_shown filters options) ws
         → map event_of (all_shown options (cond m (w ∷ matching filters ws) (matching filters ws)))
-          ≡ map (λ v. events.Entry v.revision) (cond (m && not (options.ignore_deletes && not (is_put w.op))) (w ∷ filter (is_shown filters options) ws) (filter (is_shown filters options) ws))
+        ≡ map (λ v. events.Entry v.revision) (cond (m && not (options.ignore_deletes && not (is_put w.op))) (w ∷ filter (is_shown filters options) ws) (filter (is_shown filters options) ws))
     by_match true hides rest = by_hide (options.ignore_deletes && not (is_put w.op)) rest
     by_match false hides rest = rest
 
@@ -137,9 +128,9 @@ events_initial h options filters acts =
 -- the three parts together, where the acts are so many of the writes
 pub listed_is_given : (h base end : ℕ) (writes : List (Bor Write)) (filters : List (List ℕ)) (options : Options) → base ≤ end → end ≤ length writes
     → events_where (λ w. is_initial h options.start (wrote_all (take base writes)) w && is_shown filters options w) (plain (take base writes))
-      ++ map event_of (ending options.start)
-      ++ events_where (is_shown filters options) (plain (drop base (take end writes)))
-      ≡ map event_of (given h (take base (wrote_all writes)) (take end (wrote_all writes)) filters options)
+    ++ map event_of (ending options.start)
+    ++ events_where (is_shown filters options) (plain (drop base (take end writes)))
+    ≡ map event_of (given h (take base (wrote_all writes)) (take end (wrote_all writes)) filters options)
 listed_is_given h base end writes filters options l k =
     let began = wrote_all (take base writes) in
     let ended = wrote_all (take end writes) in
@@ -151,10 +142,10 @@ listed_is_given h base end writes filters options l k =
     let second : map event_of (all_shown options (matching filters (drop (length (writes_of began)) (writes_of ended)))) ≡ events_where (is_shown filters options) (plain (drop base (take end writes))) =
     events_shown options filters (drop (length (writes_of began)) (writes_of ended)) ∙ ap (events_where (is_shown filters options)) behind in
     sym (
-      ap (map event_of) (ap (λ before. given h before (take end (wrote_all writes)) filters options) (take-map (λ w. Wrote w.now) base writes) ∙ ap (λ later. given h began later filters options) (take-map (λ w. Wrote w.now) end writes))
-      ∙ map-append event_of (all_shown options (matching filters (initial h options.start began))) (ending options.start ++ all_shown options (matching filters (drop (length (writes_of began)) (writes_of ended))))
-      ∙ ap (λ es. map event_of (all_shown options (matching filters (initial h options.start began))) ++ es) (map-append event_of (ending options.start) (all_shown options (matching filters (drop (length (writes_of began)) (writes_of ended)))))
-      ∙ joined first second
+    ap (map event_of) (ap (λ before. given h before (take end (wrote_all writes)) filters options) (take-map (λ w. Wrote w.now) base writes) ∙ ap (λ later. given h began later filters options) (take-map (λ w. Wrote w.now) end writes))
+    ∙ map-append event_of (all_shown options (matching filters (initial h options.start began))) (ending options.start ++ all_shown options (matching filters (drop (length (writes_of began)) (writes_of ended))))
+    ∙ ap (λ es. map event_of (all_shown options (matching filters (initial h options.start began))) ++ es) (map-append event_of (ending options.start) (all_shown options (matching filters (drop (length (writes_of began)) (writes_of ended)))))
+    ∙ joined first second
     )
   where
     joined : {a b c d : List Event} → a ≡ b → c ≡ d → a ++ (map event_of (ending options.start) ++ c) ≡ b ++ map event_of (ending options.start) ++ d

@@ -218,11 +218,7 @@ fn kept_revisions(
     last_n(alloc, history, &since_purge)
 }
 
-fn push_revision(
-    since_purge: &mut Vec<u64>,
-    key: &Key,
-    write: &Write,
-) -> Result<(), AllocError>
+fn push_revision(since_purge: &mut Vec<u64>, key: &Key, write: &Write) -> Result<(), AllocError>
     ensures { OnOk result (since_purge.new.items ≡ revisions_after since_purge.old.items key.now write.now) }
 {
     if *write.key() == *key {
