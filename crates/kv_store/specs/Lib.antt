@@ -6,5 +6,6 @@ pub mod Inside
 pub mod Reads
 pub mod Requests
 pub mod Retained
+pub mod Selected
 pub mod Standing
 pub mod Stored

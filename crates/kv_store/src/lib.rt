@@ -2,15 +2,22 @@
 #![tactic(auto)]
 
 mod config;
+mod entries;
+mod gather;
+mod listed;
 mod request;
 mod rev;
+mod selection;
 mod status;
 mod version;
+mod wanted;
 mod write;
 
 pub use config::Config;
 pub use request::Request;
 pub use rev::Rev;
+pub use selection::Selection;
 pub use status::Status;
 pub use version::Version;
+pub use wanted::Wanted;
 pub use write::{Op, Write};

@@ -1,0 +1,115 @@
+-- What a version that stands for acts has to be read from.
+use Rattle.std.proofs.Common.{◌≡◌, ℕ, suc, ◌+◌, ◌<◌, true, false, cond, ◌&&◌, ◌==◌, List, [], ◌∷◌, ◌++◌, Option, Some, None, length, get_or, take, map, filter, refl, sym, subst, ap, ◌∙◌, ⊎_elim, arith}
+use Rattle.std.specs.Prelude.{nat_le}
+use Rattle.std.specs.List.{Contains, filter_map, find, cons_option}
+use Rattle.std.specs.Option.{option_and_then, option_map, option_to_list}
+use Rattle.std.specs.Str.{bytes_eq}
+use Rattle.std.proofs.lemmas.Bool.{and_parts, leb-true, eq-eqb, ne_eqb}
+use Rattle.std.proofs.lemmas.List.{take_more, map-append}
+use Rattle.std.proofs.lemmas.List.Elements.{Contains-append_right, filter_map-append}
+use Rattle.kv_keys.specs.Matching.{matches}
+use Rattle.kv_store.specs.Acts.{Act, Write, is_put, writes_of}
+use Rattle.kv_store.specs.Configuration.{Configuration, IsLegal}
+use Rattle.kv_store.specs.Reads.{unless_empty, history_of, keys_of, if_put}
+use Rattle.kv_store.specs.Retained.{kept, latest, revisions, is_latest}
+use Rattle.kv_store.specs.Selected.{key_put}
+use Rattle.kv_store.specs.Standing.{StandsFor}
+use Rattle.kv_store.specs.Stored.{Stored, kept_at, write_at}
+use Rattle.kv_store.proofs.Keeping.{kept_is_end}
+use Rattle.kv_store.proofs.Members.{Contains-here, Contains-there, Contains-cases, Contains-none, Contains-from_filter, filter-filter}
+use Rattle.kv_store.proofs.Numbered.{CountsFrom, counts_from_lawful}
+use Rattle.kv_store.proofs.Selecting.{revision_after}
+
+-- some entry of each key is kept
+pub history_some : (config : Configuration) → IsLegal config → 0 < config.history
+history_some config l =
+    let history = nat_le 1 config.history && nat_le config.history 64 in
+    let value = nat_le config.value_limit 1048576 in
+    let writes = nat_le 1 config.write_limit && nat_le config.write_limit 1000000 in
+    let revision = nat_le 1 config.revision_limit && nat_le config.revision_limit 4294967295 in
+    let three = (and_parts (history && value && writes) revision l.1).0 in
+    let two = (and_parts (history && value) writes three).0 in
+    let both = (and_parts history value two).0 in
+    leb-true 1 config.history (and_parts (nat_le 1 config.history) (nat_le config.history 64) both).0
+
+find_member : (n : ℕ) (ws : List Write) (w : Write) → CountsFrom n ws → Contains ws w → find (λ v. v.revision == w.revision) ws ≡ Some w
+find_member n [] w c m = absurd (Contains-none w m)
+find_member n (v ∷ ws) w c m = ⊎_elim (λ e. here e) (λ k. later k (find_member (suc n) ws w c.1 k)) (Contains-cases v ws w m)
+  where
+    here : v ≡ w → cond (v.revision == w.revision) (Some v) (find (λ v. v.revision == w.revision) ws) ≡ Some w
+    here e = rw (eq-eqb v.revision w.revision (ap (λ (u : Write). u.revision) e)) (ap Some e)
+
+    later : Contains ws w → find (λ v. v.revision == w.revision) ws ≡ Some w → cond (v.revision == w.revision) (Some v) (find (λ v. v.revision == w.revision) ws) ≡ Some w
+    later k rest =
+        let above = revision_after (suc n) ws w c.1 k in
+        rw (ne_eqb v.revision w.revision (λ e. omega (arith, e, c.0, above))) rest
+
+filter_map_more : {X Y : Type 0} (f : X → Option Y) (xs : List X) (i : ℕ) (d : X) → i < length xs → filter_map f (take (i + 1) xs) ≡ filter_map f (take i xs) ++ option_to_list (f (get_or xs i d))
+filter_map_more {X} {Y} f xs i d l =
+    ap (filter_map f) (take_more xs i d l) ∙ filter_map-append f (take i xs) (get_or xs i d ∷ []) ∙ ap (λ ys. filter_map f (take i xs) ++ ys) (one (f (get_or xs i d)))
+  where
+    one : (o : Option Y) → cons_option o [] ≡ option_to_list o
+    one None = refl
+    one (Some y) = refl
+
+-- one more is read
+pub read_more : {T Y : Type 0} (read : T → Y) (f : ℕ → Option Y) (rs : List ℕ) (i : ℕ) (o : Option T) (before after : List T) → i < length rs → option_map read o ≡ f (get_or rs i 0) → map read before ≡ filter_map f (take i rs) → after ≡ before ++ option_to_list o → map read after ≡ filter_map f (take (i + 1) rs)
+read_more {T} {Y} read f rs i o before after l one all is =
+    ap (map read) is ∙ map-append read before (option_to_list o) ∙ ap (λ ys. ys ++ map read (option_to_list o)) all ∙ ap (λ ys. filter_map f (take i rs) ++ ys) (listed o ∙ ap option_to_list one) ∙ sym (filter_map_more f rs i 0 l)
+  where
+    listed : (p : Option T) → map read (option_to_list p) ≡ option_to_list (option_map read p)
+    listed None = refl
+    listed (Some t) = refl
+
+-- each write is stored of its revision
+pub stored_write : (acts : List Act) (version : Stored) (w : Write) → StandsFor acts version → Contains (writes_of acts) w → write_at w.revision version ≡ Some w
+stored_write acts version w s m = s.written w.revision ∙ find_member 1 (writes_of acts) w (counts_from_lawful version.config acts s.lawful) m
+
+pub kept_is_written : (h : ℕ) (key : List ℕ) (acts : List Act) (w : Write) → Contains (kept h key acts) w → Contains (writes_of acts) w
+kept_is_written h key acts w m =
+    let end = kept_is_end h key acts in
+    (Contains-from_filter (λ v. bytes_eq v.key key) (writes_of acts) w (subst (λ ws. Contains ws w) end.1 (Contains-append_right end.0 (kept h key acts) w m))).0
+
+-- what is found of the revisions of writes
+pub found_of_revisions : {Y : Type 0} (f : ℕ → Option Y) (g : Write → Option Y) (ws : List Write) → ((w : Write) → Contains ws w → f w.revision ≡ g w) → filter_map f (revisions ws) ≡ filter_map g ws
+found_of_revisions f g [] h = refl
+found_of_revisions f g (w ∷ ws) h = rw (h w (Contains-here w ws), found_of_revisions f g ws (λ v m. h v (Contains-there w ws v m))) refl
+
+all_found : (ws : List Write) → filter_map Some ws ≡ ws
+all_found [] = refl
+all_found (w ∷ ws) = ap (λ vs. w ∷ vs) (all_found ws)
+
+puts_found : (ws : List Write) → filter_map (λ w. option_map (λ (v : Write). v.key) (if_put w)) ws ≡ map (λ (w : Write). w.key) (filter (λ w. is_put w.op) ws)
+puts_found [] = refl
+puts_found (w ∷ ws) =
+    elim (is_put w.op) as (λ b. cons_option (option_map (λ (v : Write). v.key) (cond b (Some w) None)) (filter_map (λ w. option_map (λ (v : Write). v.key) (if_put w)) ws) ≡ map (λ (w : Write). w.key) (cond b (w ∷ filter (λ w. is_put w.op) ws) (filter (λ w. is_put w.op) ws))) [
+      | true ↦ ap (λ ks. w.key ∷ ks) (puts_found ws)
+      | false ↦ puts_found ws
+    ]
+
+-- the writes of the kept revisions are the kept writes
+pub kept_writes : (acts : List Act) (version : Stored) (key : List ℕ) → StandsFor acts version → filter_map (λ r. write_at r version) (revisions (kept version.config.history key acts)) ≡ kept version.config.history key acts
+kept_writes acts version key s =
+    let ws = kept version.config.history key acts in
+    found_of_revisions (λ r. write_at r version) Some ws (λ w m. stored_write acts version w s (kept_is_written version.config.history key acts w m)) ∙ all_found ws
+
+unless_empty-revisions : (ws : List Write) (rs : List ℕ) → unless_empty (revisions ws) ≡ Some rs → (revisions ws ≡ rs) × (unless_empty ws ≡ Some ws)
+unless_empty-revisions [] rs h = cc
+unless_empty-revisions (w ∷ ws) rs h = (cc, refl)
+
+-- a key's history is what is stored of its kept revisions
+pub history_there : (acts : List Act) (version : Stored) (key rs : List ℕ) → StandsFor acts version → kept_at key version ≡ Some rs → history_of version.config.history key acts ≡ Some (filter_map (λ r. write_at r version) rs)
+history_there acts version key rs s h =
+    let both = unless_empty-revisions (kept version.config.history key acts) rs (sym (s.kept key) ∙ h) in
+    both.1 ∙ ap Some (sym (kept_writes acts version key s) ∙ ap (filter_map (λ r. write_at r version)) both.0)
+
+-- the keys are those of the puts among the latest writes
+pub keys_found : (acts : List Act) (version : Stored) (filtering : List ℕ) → StandsFor acts version → filter_map (λ r. key_put r version) (revisions (filter (λ w. matches filtering w.key) (latest acts))) ≡ keys_of filtering acts
+keys_found acts version filtering s =
+    let ws = filter (λ w. matches filtering w.key) (latest acts) in
+    found_of_revisions (λ r. key_put r version) (λ w. option_map (λ (v : Write). v.key) (if_put w)) ws (λ w m. ap (λ o. option_map (λ (v : Write). v.key) (option_and_then if_put o)) (stored_write acts version w s (written w m)))
+    ∙ puts_found ws
+    ∙ ap (map (λ (w : Write). w.key)) (filter-filter (λ w. is_put w.op) (λ w. matches filtering w.key) (latest acts))
+  where
+    written : (w : Write) → Contains (filter (λ v. matches filtering v.key) (latest acts)) w → Contains (writes_of acts) w
+    written w m = (Contains-from_filter (is_latest acts) (writes_of acts) w (Contains-from_filter (λ v. matches filtering v.key) (latest acts) w m).0).0
