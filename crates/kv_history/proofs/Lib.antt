@@ -1,0 +1,3 @@
+pub mod Adding
+pub mod Notes
+pub mod Prefixes

@@ -1,0 +1,125 @@
+//! The history of an opening: the acts that were offered to its readers, and which of them were shown. It exists in proofs alone, beside one word with its length.
+
+ghost use Rattle.std.specs.Prelude.{◌≡◌, []};
+ghost use Rattle.kv_history.specs.Rules.{head_of};
+
+use kv_store::Write;
+use logbook::{Gain, Plain, Play, Rule, Seen, Start, Word};
+use std::marker::{Brand, PhantomData};
+use std::snapshot::Snapshot;
+
+/// What is noted: that an act is about to be published, and then that it was. The code keeps no list of these.
+#[derive(Drop)]
+pub enum Note {
+    /// A write is offered.
+    Wrote(Snapshot<Write>),
+    /// A seal is offered.
+    Sealed,
+    /// The last offer was shown.
+    Shown,
+}
+
+/// The rule of the history.
+pub struct Noted;
+
+impl Rule<Note, u64> for Noted {
+    ghost use Rattle.std.specs.Prelude.{[]};
+    ghost use base.Fml.{ftrue};
+    ghost use Rattle.kv_history.specs.Rules.{IsKept};
+
+    ghost holds = { λ cells log. IsKept cells log };
+
+    ghost first = { [] };
+
+    ghost hinted = { λ n log. Unit {0} };
+
+    ghost shows = { λ log. [] };
+
+    ghost keeps = { λ names log. ftrue };
+
+    ghost moves = { λ ask before after answer. Unit {0} };
+}
+
+/// Callers trade nothing.
+pub struct Nothing;
+
+impl Gain<Note, u64> for Nothing {
+    ghost use base.Fml.{ftrue};
+
+    ghost after = { λ names about answer. ftrue };
+}
+
+/// A step that adds a note.
+pub struct Adds;
+
+impl Play<Note, u64> for Adds {
+    ghost use Rattle.kv_history.specs.Rules.{Adding};
+
+    ghost then = { Adding };
+}
+
+/// What a step asks for: the note.
+impl Plain<Note, Note, u64> for Adds {
+    ghost use Rattle.std.specs.Prelude.{None};
+
+    ghost ask = { λ note. note };
+
+    ghost state = { λ note. None };
+}
+
+/// Stands for one opening of a bucket. What has one name has one published list.
+///
+/// A function generic over it is called with std's `Brand`.
+pub trait LiveName {
+    ghost use Rattle.logbook.specs.Pages.{Book};
+
+    ghost book: { Book };
+}
+
+impl LiveName for Brand {
+    ghost book = { record { number = 0; log_name = 0; cells_name = 0 } };
+}
+
+/// What was seen of a history that has no name yet. It has no bytes.
+pub type Sight = Seen<Note, u64, Noted>;
+
+/// The word with the history's length.
+pub type Length = Word<Note, u64, Noted>;
+
+/// An empty history, which has no name yet.
+#[derive(Drop)]
+pub struct Blank {
+    pub length: Length,
+    pub sight: Sight,
+    pub ghost empty: { sight.log ≡ [] },
+    pub ghost length_is: { length ≡ head_of sight.book },
+}
+
+impl Blank {
+    pub fn new() -> Blank {
+        let (sight, mut first, _second) = Seen::open(Start::alone(), 0, 0);
+        Blank {
+            length: Word::tracked(0, &mut first),
+            sight,
+        }
+    }
+}
+
+/// The right end of the history of N. It lies under the lock, beside the front that knows the whole history.
+#[derive(Drop)]
+pub struct Head<N: LiveName> {
+    pub(crate) length: Length,
+    of: PhantomData<N>,
+    ghost length_is: { length ≡ head_of N.book },
+}
+
+impl<N: LiveName> Head<N> {
+    pub fn new(length: Length) -> Head<N>
+        requires { length ≡ head_of N.book }
+    {
+        Head {
+            length,
+            of: PhantomData,
+        }
+    }
+}
