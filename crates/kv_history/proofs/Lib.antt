@@ -1,3 +1,4 @@
 pub mod Adding
 pub mod Notes
 pub mod Prefixes
+pub mod Publishing

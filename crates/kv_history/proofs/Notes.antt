@@ -2,9 +2,8 @@
 use Rattle.std.proofs.Common.{◌≡◌, ◌+◌, ◌≤◌, List, [], ◌∷◌, ◌++◌, length, fold, refl, ap, sym, ◌∙◌, subst, arith, length-append, lt_of_not-le}
 use native.Mathlib.Decide.{dec_le}
 use Rattle.kv_store.specs.Acts.{IsPrefix}
-use Rattle.kv_store.specs.Acts as acts
 use Rattle.kv_history.specs.declared.history.Note.{Note}
-use Rattle.kv_history.specs.declared.history.Note.TheVariants.{Wrote, Sealed, Shown}
+use Rattle.kv_history.specs.declared.history.Note.TheVariants.{Offered, Shown}
 use Rattle.kv_history.specs.History.{Lists, noted, nothing, lists_of, shown_of, offered_of}
 use Rattle.kv_history.proofs.Prefixes.{prefix_self, prefix_trans, prefix_shorter}
 
@@ -13,13 +12,11 @@ abbrev Ready : Lists → Type 0
 Ready lists = IsPrefix lists.shown lists.offered
 
 noted_ready : (lists : Lists) (note : Note) → Ready lists → Ready (noted lists note)
-noted_ready lists (Wrote write) h = (acts.Wrote write.value ∷ [], refl)
-noted_ready lists Sealed h = (acts.Seal ∷ [], refl)
+noted_ready lists (Offered act) h = (act ∷ [], refl)
 noted_ready lists Shown h = prefix_self lists.offered
 
 noted_grows : (lists : Lists) (note : Note) → Ready lists → IsPrefix lists.shown (noted lists note).shown
-noted_grows lists (Wrote write) h = prefix_self lists.shown
-noted_grows lists Sealed h = prefix_self lists.shown
+noted_grows lists (Offered act) h = prefix_self lists.shown
 noted_grows lists Shown h = h
 
 fold_ready : (lists : Lists) (more : List Note) → Ready lists → Ready (fold noted lists more)
@@ -48,8 +45,7 @@ shown_grows log later p =
 
 one_past : (log : List Note) (more : List Note) → length more ≤ 1 → IsPrefix (fold noted (lists_of log) more).shown (offered_of log)
 one_past log [] few = ready log
-one_past log (Wrote write ∷ []) few = ready log
-one_past log (Sealed ∷ []) few = ready log
+one_past log (Offered act ∷ []) few = ready log
 one_past log (Shown ∷ []) few = prefix_self (offered_of log)
 one_past log (a ∷ b ∷ more) few = absurd (omega arith)
 

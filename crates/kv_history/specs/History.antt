@@ -1,9 +1,8 @@
 -- What the notes of a history come to.
 use Rattle.std.specs.Prelude.{List, [], ◌∷◌, ◌++◌, fold}
 use Rattle.kv_store.specs.Acts.{Act}
-use Rattle.kv_store.specs.Acts as acts
 use Rattle.kv_history.specs.declared.history.Note.{Note}
-use Rattle.kv_history.specs.declared.history.Note.TheVariants.{Wrote, Sealed, Shown}
+use Rattle.kv_history.specs.declared.history.Note.TheVariants.{Offered, Shown}
 
 -- the acts that were shown, and those that the last offer stands for
 pub record Lists : Type 0 where
@@ -12,8 +11,7 @@ pub record Lists : Type 0 where
 
 -- an offer is one act after those that were shown; once it was shown, it is one of them
 abbrev pub noted : Lists → Note → Lists
-noted lists (Wrote write) = record { shown = lists.shown; offered = lists.shown ++ acts.Wrote write.value ∷ [] }
-noted lists Sealed = record { shown = lists.shown; offered = lists.shown ++ acts.Seal ∷ [] }
+noted lists (Offered act) = record { shown = lists.shown; offered = lists.shown ++ act ∷ [] }
 noted lists Shown = record { shown = lists.offered; offered = lists.offered }
 
 abbrev pub nothing : Lists

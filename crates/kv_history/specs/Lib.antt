@@ -1,2 +1,6 @@
+pub mod Deeds
 pub mod History
+pub mod Known
 pub mod Rules
+pub mod Shelves
+pub mod Views

@@ -3,19 +3,14 @@
 ghost use Rattle.std.specs.Prelude.{◌≡◌, []};
 ghost use Rattle.kv_history.specs.Rules.{head_of};
 
-use kv_store::Write;
+use crate::deed::Deed;
 use logbook::{Gain, Plain, Play, Rule, Seen, Start, Word};
 use std::marker::{Brand, PhantomData};
-use std::snapshot::Snapshot;
 
 /// What is noted: that an act is about to be published, and then that it was. The code keeps no list of these.
 #[derive(Drop)]
 pub enum Note {
-    /// A write is offered.
-    Wrote(Snapshot<Write>),
-    /// A seal is offered.
-    Sealed,
-    /// The last offer was shown.
+    Offered(Deed),
     Shown,
 }
 
@@ -67,17 +62,24 @@ impl Plain<Note, Note, u64> for Adds {
     ghost state = { λ note. None };
 }
 
-/// Stands for one opening of a bucket. What has one name has one published list.
+/// Stands for one opening of a bucket: for its history, and for its configuration. What has one name has one published list.
 ///
 /// A function generic over it is called with std's `Brand`.
 pub trait LiveName {
     ghost use Rattle.logbook.specs.Pages.{Book};
+    ghost use Rattle.kv_store.specs.Configuration.{Configuration};
 
     ghost book: { Book };
+
+    ghost config: { Configuration };
 }
 
 impl LiveName for Brand {
+    ghost use Rattle.std.specs.Prelude.{[]};
+
     ghost book = { record { number = 0; log_name = 0; cells_name = 0 } };
+
+    ghost config = { record { bucket = []; history = 1; value_limit = 0; write_limit = 1; revision_limit = 1 } };
 }
 
 /// What was seen of a history that has no name yet. It has no bytes.

@@ -1,8 +1,16 @@
 //! What threads share of a bucket: the history that was published, readers and feeds that take no lock, and receipts.
 #![tactic(auto)]
 
+mod deed;
 mod front;
 mod history;
+mod rule;
+mod shelf;
+mod version;
 
+pub use deed::Deed;
 pub use front::{Front, Glimpse};
 pub use history::{Blank, Head, LiveName, Note, Sight};
+pub use rule::{Published, View};
+pub use shelf::Shelf;
+pub use version::Version;

@@ -1,0 +1,50 @@
+//! The rule of what is published: it only grows.
+
+use crate::deed::Deed;
+use crate::history::LiveName;
+use crate::shelf::Shelf;
+use crossbeam_utils::rule::{Outcome, Protocol};
+use std::collections::LinkedList;
+use std::marker::PhantomData;
+
+/// What a thread has seen. No value of it is made.
+pub struct View {
+    pub seen: LinkedList<Deed>,
+}
+
+/// What each thread has seen begins what is published, which is of the history of N under the configuration of N.
+pub struct Published<N: LiveName> {
+    of: PhantomData<N>,
+}
+
+impl<N: LiveName> Protocol<Shelf, View> for Published<N> {
+    ghost use Rattle.std.specs.Prelude.{◌≡◌};
+    ghost use Rattle.kv_history.specs.History.{offered_of};
+    ghost use Rattle.kv_history.specs.Views.{Follows, newcomer};
+
+    ghost holds = { λ shelf views. (shelf.glimpse.sight.book ≡ N.book) × (shelf.version.config ≡ N.config) × Follows (offered_of shelf.glimpse.sight.log) views };
+
+    ghost first = { newcomer };
+}
+
+/// A step of a reader, which sees what is published.
+pub struct Sees<N: LiveName> {
+    of: PhantomData<N>,
+}
+
+impl<N: LiveName> Outcome<Shelf, View> for Sees<N> {
+    ghost use Rattle.std.specs.Prelude.{◌≡◌};
+    ghost use Rattle.kv_history.specs.History.{offered_of};
+    ghost use Rattle.kv_history.specs.Views.{Seeing};
+
+    ghost then = { λ v x y w. Seeing v (offered_of y.glimpse.sight.log) w × (y.glimpse.sight.book ≡ N.book) };
+}
+
+/// A step of the writer, which tells it nothing.
+pub struct Shows;
+
+impl Outcome<Shelf, View> for Shows {
+    ghost use Rattle.std.specs.Prelude.{◌≡◌};
+
+    ghost then = { λ v x y w. w ≡ v };
+}
