@@ -1,6 +1,7 @@
 //! What threads share of a bucket: the history that was published, readers and feeds that take no lock, and receipts.
 #![tactic(auto)]
 
+mod copies;
 mod deed;
 mod front;
 mod history;
@@ -8,6 +9,7 @@ mod rule;
 mod shelf;
 mod version;
 
+pub use copies::Copies;
 pub use deed::Deed;
 pub use front::{Front, Glimpse};
 pub use history::{Blank, Head, LiveName, Note, Sight};

@@ -18,11 +18,11 @@ pub struct Published<N: LiveName> {
 }
 
 impl<N: LiveName> Protocol<Shelf, View> for Published<N> {
-    ghost use Rattle.std.specs.Prelude.{◌≡◌};
     ghost use Rattle.kv_history.specs.History.{offered_of};
+    ghost use Rattle.kv_history.specs.Shelves.{IsOf};
     ghost use Rattle.kv_history.specs.Views.{Follows, newcomer};
 
-    ghost holds = { λ shelf views. (shelf.glimpse.sight.book ≡ N.book) × (shelf.version.config ≡ N.config) × Follows (offered_of shelf.glimpse.sight.log) views };
+    ghost holds = { λ shelf views. IsOf N.book N.config shelf × Follows (offered_of shelf.glimpse.sight.log) views };
 
     ghost first = { newcomer };
 }
@@ -33,11 +33,11 @@ pub struct Sees<N: LiveName> {
 }
 
 impl<N: LiveName> Outcome<Shelf, View> for Sees<N> {
-    ghost use Rattle.std.specs.Prelude.{◌≡◌};
     ghost use Rattle.kv_history.specs.History.{offered_of};
+    ghost use Rattle.kv_history.specs.Shelves.{IsOf};
     ghost use Rattle.kv_history.specs.Views.{Seeing};
 
-    ghost then = { λ v x y w. Seeing v (offered_of y.glimpse.sight.log) w × (y.glimpse.sight.book ≡ N.book) };
+    ghost then = { λ v x y w. Seeing v (offered_of y.glimpse.sight.log) w × IsOf N.book N.config y };
 }
 
 /// A step of the writer, which tells it nothing.

@@ -9,6 +9,7 @@ use crate::front::Glimpse;
 use crate::history::Sight;
 use crate::version::Version;
 use kv_keys::KvError;
+use kv_store::Config;
 use left_right::Absorb;
 use std::alloc::AllocError;
 use std::marker::Model;
@@ -77,13 +78,13 @@ impl Shelf {
     }
 }
 
-/// An operation is the whole next shelf. The two copies have the sight in common, and so what it stands for.
+/// An operation is the whole next shelf. The two copies have the sight in common, and so what they stand for, and the configuration.
 impl Absorb<Shelf> for Shelf {
-    type State = Sight;
+    type State = (Sight, Config);
 
-    ghost state = { λ s. s.glimpse.sight };
+    ghost state = { λ s. (s.glimpse.sight, s.version.config) };
 
-    ghost applied = { λ before next. next.glimpse.sight };
+    ghost applied = { λ before next. (next.glimpse.sight, next.version.config) };
 
     fn absorb_first(&mut self, next: &Shelf, _other: &Shelf) -> Result<(), AllocError> {
         match next.again() {

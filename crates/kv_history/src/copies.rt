@@ -1,0 +1,95 @@
+//! The two copies of what is published, and the end of them that publishes.
+
+ghost use Rattle.std.specs.Prelude.{◌≡◌, ◌<◌, ◌^◌, [], MatchResult};
+ghost use Rattle.left_right.specs.Sides.{view};
+ghost use Rattle.kv_keys.specs.declared.error.KvError.TheVariants.{OutOfMemory, NoReader};
+ghost use Rattle.kv_store.specs.Acts.{IsPrefix};
+ghost use Rattle.kv_history.specs.History.{offered_of};
+ghost use Rattle.kv_history.specs.Shelves.{IsOf};
+
+use crate::history::LiveName;
+use crate::rule::{Published, Shows, View};
+use crate::shelf::Shelf;
+use kv_keys::KvError;
+use left_right::reader::Reader as Seat;
+use left_right::writer::Writer;
+use std::alloc::Global;
+use std::marker::Model;
+use std::mem::ManuallyDrop;
+use std::sync::Wait;
+
+/// Contracts see it as the acts that are published. It is not `Drop`: end it by `close`. The writer lies in a `ManuallyDrop`, since a lock asks how to drop what it holds, and no code can drop a writer.
+pub struct Copies<N: LiveName> {
+    writer: ManuallyDrop<Writer<Shelf, Shelf, View, Published<N>>>,
+}
+
+impl<N: LiveName> Model for Copies<N> {
+    ghost use Rattle.std.specs.Prelude.{List};
+    ghost use Rattle.std.specs.Mem.{manually_drop_value};
+    ghost use Rattle.kv_store.specs.Acts.{Act};
+    ghost use Rattle.kv_history.specs.History.{offered_of};
+
+    ghost Value = { List Act };
+
+    ghost view = { λ p. offered_of (manually_drop_value p.writer).desk.shown.value.glimpse.sight.log };
+}
+
+impl<N: LiveName> Copies<N> {
+    fn of(writer: Writer<Shelf, Shelf, View, Published<N>>) -> Copies<N>
+        ensures { result ≡ offered_of writer.desk.shown.value.glimpse.sight.log }
+    {
+        // `close` and `publish` take it out again.
+        let writer = unsafe { ManuallyDrop::new_unchecked(writer) };
+        Copies { writer }
+    }
+
+    /// Two copies that are alike, with room for so many readers.
+    pub fn new(
+        alloc: Global,
+        first: Shelf,
+        second: Shelf,
+        readers: usize,
+    ) -> Result<Copies<N>, KvError>
+        requires of { IsOf N.book N.config first }
+        requires alike { (first.glimpse.sight ≡ second.glimpse.sight) × (first.version.config ≡ second.version.config) }
+        requires readers { (0 < readers) × (readers < 2 ^ 32) }
+        ensures { MatchResult result (λ p. p ≡ offered_of first.glimpse.sight.log) (λ e. e ≡ OutOfMemory) }
+    {
+        let writer = Writer::new(alloc, first, second, readers)?;
+        Ok(Copies::of(writer))
+    }
+
+    /// A new place for a reader.
+    pub fn seat(&self) -> Result<Seat<Shelf, View, Published<N>>, KvError>
+        ensures { MatchResult result (λ s. (view s.place).seen ≡ []) (λ e. e ≡ NoReader) }
+    {
+        match self.writer.factory().reader() {
+            Ok(seat) => Ok(seat),
+            Err(_) => Err(KvError::NoReader),
+        }
+    }
+
+    /// Publishes a shelf. What is pending is replaced by it. It waits for those that read the other copy.
+    pub fn publish<R: Wait>(self, rt: &R, shelf: Shelf) -> (Copies<N>, Result<(), KvError>)
+        requires of { IsOf N.book N.config shelf }
+        requires grows { IsPrefix self (offered_of shelf.glimpse.sight.log) }
+        ensures { MatchResult result.1 (λ _. result.0 ≡ offered_of shelf.glimpse.sight.log) (λ e. (result.0 ≡ self) × (e ≡ OutOfMemory)) }
+    {
+        let Copies { writer } = self;
+        let mut writer = ManuallyDrop::into_inner(writer);
+        if writer.append(shelf).is_err() {
+            return (Copies::of(writer), Err(KvError::OutOfMemory));
+        }
+        let (writer, published) = writer.publish_as::<Shows, R>(rt);
+        match published {
+            Ok(()) => (Copies::of(writer), Ok(())),
+            Err(_) => (Copies::of(writer), Err(KvError::OutOfMemory)),
+        }
+    }
+
+    /// Ends it. It waits for the readers that are reading.
+    pub fn close<R: Wait>(self, rt: &R) {
+        let Copies { writer } = self;
+        drop(ManuallyDrop::into_inner(writer).take(rt));
+    }
+}
