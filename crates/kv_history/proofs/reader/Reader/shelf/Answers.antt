@@ -1,0 +1,25 @@
+use Rattle.std.proofs.Common.{rules, ◌≡◌, List, subst, ap, ◌∙◌}
+use Rattle.std.proofs.lemmas.Result.{IfOk-weaker}
+use Rattle.left_right.specs.Sides.{view}
+use Rattle.kv_store.specs.Acts.{Act, IsPrefix}
+use Rattle.kv_history.specs.History.{shown_of, offered_of}
+use Rattle.kv_history.specs.Shelves.{IsOf}
+use Rattle.kv_history.proofs.Publishing.{sees}
+use Rattle.kv_history.proofs.reader.Reader.shelf.Goals as goal
+
+pub enter_as-requires : goal.enter_as-requires
+enter_as-requires g c x = sees (IsOf g.N.LiveName.book g.N.LiveName.config) (λ s. offered_of s.glimpse.sight.log) _ _ x
+
+pub returns-in-Ok-clause-ok : goal.returns-in-Ok-clause-ok
+returns-in-Ok-clause-ok g c =
+    let shelf = c.get.result.now in
+    let seen : offered_of shelf.glimpse.sight.log ≡ (view c.leave.result.place).seen = search rules in
+    let told : shown_of c.self.inside.told ≡ c.args.self.now.told = ap (λ v. v.told) c.self.view_is in
+    let entered : IsOf g.N.LiveName.book g.N.LiveName.config shelf = search rules in
+    IfOk-weaker c.shelf_past-shelf.result _ (λ s. (offered_of s.glimpse.sight.log ≡ (view c.leave.result.place).seen) × IsOf g.N.LiveName.book g.N.LiveName.config s × IsPrefix c.args.self.now.told (view c.leave.result.place).seen)
+    (λ s h. (
+      ap (λ k. offered_of k.log) h.0 ∙ seen,
+      (ap (λ k. k.book) h.0 ∙ entered.0, h.1 ∙ entered.1),
+      subst (λ (acts : List Act). IsPrefix acts (view c.leave.result.place).seen) told (subst (IsPrefix (shown_of c.self.inside.told)) seen h.2),
+    ))
+    c.shelf_past-shelf.ensures.ok

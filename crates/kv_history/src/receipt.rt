@@ -1,0 +1,44 @@
+//! Receipts for what was written.
+
+ghost use Rattle.std.specs.Prelude.{◌≡◌, length};
+ghost use Rattle.kv_store.specs.Acts.{writes_of};
+ghost use Rattle.kv_history.specs.History.{shown_of};
+
+use crate::front::Front;
+use crate::history::LiveName;
+use std::marker::Model;
+
+/// Tells that a write was accepted, to any number of readers of the same opening. Contracts see it as the acts that it tells, of which the write is the last.
+#[derive(Drop)]
+pub struct Receipt<N: LiveName> {
+    pub(crate) front: Front<N>,
+    revision: u64,
+}
+
+impl<N: LiveName> Model for Receipt<N> {
+    ghost use Rattle.std.specs.Prelude.{◌≡◌, List, length};
+    ghost use Rattle.kv_store.specs.Acts.{Act, writes_of};
+    ghost use Rattle.kv_history.specs.History.{shown_of};
+
+    ghost Value = { List Act };
+
+    ghost view = { λ r. shown_of r.front };
+
+    ghost invariant = { λ r. r.revision ≡ length (writes_of (shown_of r.front)) };
+}
+
+impl<N: LiveName> Receipt<N> {
+    pub(crate) fn new(front: Front<N>, revision: u64) -> Receipt<N>
+        requires { revision ≡ length (writes_of (shown_of front)) }
+        ensures { result ≡ shown_of front }
+    {
+        Receipt { front, revision }
+    }
+
+    /// The revision of the write.
+    pub fn revision(&self) -> u64
+        ensures { result ≡ length (writes_of self.now) }
+    {
+        self.revision
+    }
+}
