@@ -9,7 +9,6 @@ mod reader;
 mod receipt;
 mod rule;
 mod shelf;
-mod version;
 
 pub use copies::Copies;
 pub use deed::Deed;
@@ -19,4 +18,3 @@ pub use reader::Reader;
 pub use receipt::Receipt;
 pub use rule::{Published, View};
 pub use shelf::Shelf;
-pub use version::Version;

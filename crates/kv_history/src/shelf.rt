@@ -7,9 +7,8 @@ ghost use Rattle.kv_history.specs.History.{offered_of};
 
 use crate::front::Glimpse;
 use crate::history::Sight;
-use crate::version::Version;
 use kv_keys::KvError;
-use kv_store::Config;
+use kv_store::{Config, Version};
 use left_right::Absorb;
 use std::alloc::AllocError;
 use std::marker::Model;
