@@ -55,6 +55,7 @@ impl Key {
     /// An equal key, in memory of its own.
     pub fn copy(&self, alloc: Global) -> Result<Key, KvError>
         ensures ok { IfOk result (λ key. key ≡ self.now) }
+        ensures key { IsTrue (is_key self.now) }
         ensures err { IfErr result (λ e. e ≡ OutOfMemory) }
     {
         let text = String::from_str(alloc, self.as_str())?;

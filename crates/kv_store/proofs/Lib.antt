@@ -1,5 +1,6 @@
 pub mod Distinct
 pub mod Gathering
+pub mod Found
 pub mod Keeping
 pub mod Lasts
 pub mod Lookups

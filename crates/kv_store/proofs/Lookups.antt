@@ -1,17 +1,19 @@
 -- What is found in the entries of the two tries.
-use Rattle.std.proofs.Common.{◌≡◌, ℕ, ◌<◌, ◌≤◌, Bool, ◌==◌, List, [], ◌∷◌, None, refl, sym, ap, ◌∙◌, arith, rules}
+use Rattle.std.proofs.Common.{◌≡◌, ℕ, suc, ◌+◌, ◌<◌, ◌≤◌, Bool, true, false, cond, ◌==◌, List, [], ◌∷◌, Some, None, length, refl, sym, ap, ◌∙◌, arith, rules, Ordering}
 use Rattle.std.specs.Prelude.{All, Vec}
+use Rattle.std.specs.declared.cmp.Ordering.TheVariants.{Less, Equal, Greater}
 use Rattle.std.specs.BTreeMap.{is_at}
-use Rattle.std.specs.Ordering.{nat_cmp, is_eq}
+use Rattle.std.specs.Ordering.{nat_cmp, is_eq, match_ordering}
 use Rattle.std.specs.Cmp.Lexicographic.{slice_cmp}
 use Rattle.std.specs.Map.{lookup}
 use Rattle.std.specs.Option.{option_map}
 use Rattle.std.specs.Str.{bytes_eq}
 use Rattle.std.specs.declared.alloc.Global.{Global}
 use Rattle.std.proofs.lemmas.Bool.{ne_eqb}
-use Rattle.std.proofs.lemmas.List.Elements.{All-head, All-tail}
+use Rattle.std.proofs.lemmas.List.Elements.{All-cons, All-head, All-tail}
 use Rattle.std.proofs.lemmas.Map.Made.{lookup-map_values}
 use Rattle.std.proofs.lemmas.Map.Text.{is_eq-slice_cmp}
+use Rattle.kv_trie.specs.Form.{put_pair}
 use Rattle.kv_store.specs.Inside.{kept_entries}
 
 -- two tests that say the same find the same
@@ -25,7 +27,7 @@ kept_by_bytes key es =
     lookup-map_values (λ v. v.items) (λ k. bytes_eq key k) es
     ∙ ap (option_map (λ v. v.items)) (lookup-agree (λ k. bytes_eq key k) (is_at (slice_cmp nat_cmp key)) (λ k. sym (is_eq-slice_cmp key k)) es)
 
-is_eq-nat_cmp : (a b : ℕ) → is_eq (nat_cmp a b) ≡ (a == b)
+pub is_eq-nat_cmp : (a b : ℕ) → is_eq (nat_cmp a b) ≡ (a == b)
 is_eq-nat_cmp a b = search rules
 
 -- a revision is found by its number
@@ -38,3 +40,48 @@ none_above revision last [] h l = refl
 none_above {X} revision last (e ∷ es) h l =
     let small : e.0 ≤ last = All-head (λ (e : ℕ × X). e.0 ≤ last) e es h in
     rw (ne_eqb revision e.0 (λ same. omega (arith, same, small)), none_above revision last es (All-tail (λ (e : ℕ × X). e.0 ≤ last) e es h) l) refl
+
+pub length-kept_entries : (es : List (List ℕ × Vec ℕ Global)) → length (kept_entries es) ≡ length es
+length-kept_entries [] = refl
+length-kept_entries (e ∷ es) = ap suc (length-kept_entries es)
+
+-- ---- after a pair is put
+
+pub kept_more : (key q : List ℕ) (kept : Vec ℕ Global) (old new : List (List ℕ × Vec ℕ Global)) → lookup (is_at (slice_cmp nat_cmp q)) new ≡ cond (is_at (slice_cmp nat_cmp key) q) (Some kept) (lookup (is_at (slice_cmp nat_cmp q)) old) → lookup (λ k. bytes_eq q k) (kept_entries new) ≡ cond (bytes_eq key q) (Some kept.items) (lookup (λ k. bytes_eq q k) (kept_entries old))
+kept_more key q kept old new h =
+    kept_by_bytes q new
+    ∙ ap (option_map (λ v. v.items)) h
+    ∙ inside (is_at (slice_cmp nat_cmp key) q)
+    ∙ ap (λ b. cond b (Some kept.items) (option_map (λ v. v.items) (lookup (is_at (slice_cmp nat_cmp q)) old))) (is_eq-slice_cmp key q)
+    ∙ ap (cond (bytes_eq key q) (Some kept.items)) (sym (kept_by_bytes q old))
+  where
+    inside : (b : Bool) → option_map (λ (v : Vec ℕ Global). v.items) (cond b (Some kept) (lookup (is_at (slice_cmp nat_cmp q)) old)) ≡ cond b (Some kept.items) (option_map (λ v. v.items) (lookup (is_at (slice_cmp nat_cmp q)) old))
+    inside true = refl
+    inside false = refl
+
+pub written_more : {X : Type 0} (number r : ℕ) (x : X) (old new : List (ℕ × X)) → lookup (is_at (nat_cmp r)) new ≡ cond (is_at (nat_cmp number) r) (Some x) (lookup (is_at (nat_cmp r)) old) → lookup (λ n. r == n) new ≡ cond (number == r) (Some x) (lookup (λ n. r == n) old)
+written_more number r x old new h =
+    write_by_number r new
+    ∙ h
+    ∙ ap (λ b. cond b (Some x) (lookup (is_at (nat_cmp r)) old)) (is_eq-nat_cmp number r)
+    ∙ ap (cond (number == r) (Some x)) (sym (write_by_number r old))
+
+-- a put adds at most one entry
+pub length-put_pair : {K X : Type 0} (R : K → K → Ordering) (p : K × X) (es : List (K × X)) → length (put_pair R p es) ≤ length es + 1
+length-put_pair R p [] = omega arith
+length-put_pair {K} {X} R p (e ∷ es) = by_order (R p.0 e.0) (length-put_pair R p es)
+  where
+    by_order : (o : Ordering) → length (put_pair R p es) ≤ length es + 1 → length (match_ordering o (p ∷ e ∷ es) (p ∷ es) (e ∷ put_pair R p es)) ≤ suc (length es) + 1
+    by_order Less h = omega arith
+    by_order Equal h = omega arith
+    by_order Greater h = omega (arith, h)
+
+-- what holds of each entry, and of the one that is put, holds of each after
+pub All-put_pair : {K X : Type 0} (P : K × X → Type 0) (R : K → K → Ordering) (p : K × X) (es : List (K × X)) → P p → All P es → All P (put_pair R p es)
+All-put_pair P R p [] h all = All-cons P p [] h all
+All-put_pair {K} {X} P R p (e ∷ es) h all = by_order (R p.0 e.0) (All-put_pair P R p es h (All-tail P e es all))
+  where
+    by_order : (o : Ordering) → All P (put_pair R p es) → All P (match_ordering o (p ∷ e ∷ es) (p ∷ es) (e ∷ put_pair R p es))
+    by_order Less rest = All-cons P p (e ∷ es) h all
+    by_order Equal rest = All-cons P p es h (All-tail P e es all)
+    by_order Greater rest = All-cons P e (put_pair R p es) (All-head P e es all) rest

@@ -1,15 +1,23 @@
--- Which acts a version stands for once one more is accepted.
-use Rattle.std.proofs.Common.{◌≡◌, true, ◌==◌, List, [], ◌∷◌, ◌++◌, length, refl, sym, subst, ap, ◌∙◌, append_assoc, append-nil}
-use Rattle.std.specs.List.{find}
+-- Which acts a version stands for once one more is accepted, and what it stores of a key.
+use Rattle.std.proofs.Common.{◌≡◌, ℕ, suc, ◌+◌, ◌-◌, ◌<◌, ◌≤◌, Bool, true, false, cond, ◌==◌, List, [], ◌∷◌, ◌++◌, Some, None, unwrap_or, length, refl, sym, subst, ap, ◌∙◌, arith, append_assoc, append-nil, length-append, length-drop}
+use Rattle.std.specs.List.{find, last_or}
+use Rattle.std.specs.Str.{bytes_eq}
+use Rattle.std.proofs.lemmas.Bool.{eqb-true}
+use Rattle.std.proofs.lemmas.Bool.Decides.{nat_tests}
+use Rattle.std.proofs.lemmas.List.{length-map}
+use Rattle.std.proofs.lemmas.Slice.Eq.{bytes_eq-Decides}
 use Rattle.kv_store.specs.Acceptance.{IsAccepted, IsLawful, LawfulFrom}
-use Rattle.kv_store.specs.Acts.{Act, Wrote, Seal, Write, is_sealed}
-use Rattle.kv_store.specs.Configuration.{Configuration}
+use Rattle.kv_store.specs.Acts.{Act, Wrote, Seal, Write, is_purge, is_sealed, writes_of}
+use Rattle.kv_store.specs.Configuration.{Configuration, IsLegal}
+use Rattle.kv_store.specs.Next.{HasOneMore, kept_after, kept_before, next_kept}
 use Rattle.kv_store.specs.Reads.{unless_empty}
-use Rattle.kv_store.specs.Retained.{revisions}
+use Rattle.kv_store.specs.Retained.{kept, last_n, last_revision, retained, revisions}
 use Rattle.kv_store.specs.Standing.{StandsFor}
-use Rattle.kv_store.specs.Stored.{Stored}
-use Rattle.kv_store.proofs.Keeping.{kept_seal, retained_seal}
-use Rattle.kv_store.proofs.Numbered.{writes_of-seal}
+use Rattle.kv_store.specs.Stored.{Stored, kept_at}
+use Rattle.kv_store.specs.declared.write.Op.{Op}
+use Rattle.kv_store.proofs.Found.{last_revision-kept, or_empty, unless_empty-long, unless_empty-none, unless_empty-some}
+use Rattle.kv_store.proofs.Keeping.{kept_other, kept_revisions_same, kept_seal, retained_count, retained_seal}
+use Rattle.kv_store.proofs.Numbered.{CountsFrom, accepted_is_next, counts_from_lawful, writes_of-seal, writes_of-wrote}
 
 -- ---- acts
 
@@ -33,6 +41,28 @@ is_sealed-wrote [] w = refl
 is_sealed-wrote (Wrote v ∷ acts) w = is_sealed-wrote acts w
 is_sealed-wrote (Seal ∷ acts) w = refl
 
+-- ---- what is stored of a key
+
+-- some entry of each key is kept
+pub history_some : (config : Configuration) → IsLegal config → 0 < config.history
+history_some config legal = let numbers = legal.1 in grind (arith, nat_tests)
+
+pub kept_before-is : (acts : List Act) (version : Stored) (key : List ℕ) → StandsFor acts version → kept_before key version ≡ revisions (kept version.config.history key acts)
+kept_before-is acts version key s = ap (λ o. unwrap_or o []) (s.kept key) ∙ or_empty (revisions (kept version.config.history key acts))
+
+-- the last revision of a key is the last that is stored of it
+pub last_revision-some : (acts : List Act) (version : Stored) (key rs : List ℕ) → StandsFor acts version → kept_at key version ≡ Some rs → last_revision key acts ≡ unwrap_or (last_or None rs) 0
+last_revision-some acts version key rs s e =
+    let h = version.config.history in
+    last_revision-kept h key acts (history_some version.config s.legal)
+    ∙ ap (λ vs. unwrap_or (last_or None vs) 0) (unless_empty-some (revisions (kept h key acts)) rs (sym (s.kept key) ∙ e))
+
+pub last_revision-none : (acts : List Act) (version : Stored) (key : List ℕ) → StandsFor acts version → kept_at key version ≡ None → last_revision key acts ≡ 0
+last_revision-none acts version key s e =
+    let h = version.config.history in
+    last_revision-kept h key acts (history_some version.config s.legal)
+    ∙ ap (λ vs. unwrap_or (last_or None vs) 0) (unless_empty-none (revisions (kept h key acts)) (sym (s.kept key) ∙ e))
+
 -- ---- a seal
 
 pub stands_for_seal : (acts : List Act) (version : Stored) → StandsFor acts version → StandsFor (acts ++ Seal ∷ []) (record version { sealed = true })
@@ -47,3 +77,76 @@ stands_for_seal acts version s =
       values = s.values ∙ ap length (sym (retained_seal h acts));
       sealed = sym (is_sealed-seal acts);
     }
+
+-- ---- a write
+
+find-push : (n r : ℕ) (ws : List Write) (w : Write) → CountsFrom n ws → w.revision ≡ n + length ws → find (λ v. v.revision == r) (ws ++ w ∷ []) ≡ cond (w.revision == r) (Some w) (find (λ v. v.revision == r) ws)
+find-push n r [] w h e = refl
+find-push n r (v ∷ ws) w h e =
+    ap (cond (v.revision == r) (Some v)) (find-push (suc n) r ws w h.1 (omega (arith, e)))
+    ∙ in_turn (v.revision == r) refl (w.revision == r) refl
+  where
+    in_turn : (a : Bool) → (v.revision == r) ≡ a → (b : Bool) → (w.revision == r) ≡ b → cond a (Some v) (cond b (Some w) (find (λ u. u.revision == r) ws)) ≡ cond b (Some w) (cond a (Some v) (find (λ u. u.revision == r) ws))
+    in_turn true p true q = absurd (omega (arith, h.0, e, eqb-true v.revision r p, eqb-true w.revision r q))
+    in_turn true p false q = refl
+    in_turn false p b q = refl
+
+length-last_n : {X : Type 0} (n : ℕ) (xs : List X) (x : X) → 0 < n → 0 < length (last_n n (xs ++ x ∷ []))
+length-last_n n xs x some = omega (arith, length-drop (length (xs ++ x ∷ []) - n) (xs ++ x ∷ []), length-append xs (x ∷ []))
+
+-- at most one revision more is kept
+pub next_kept-length : (h : ℕ) (op : Op) (revision : ℕ) (before : List ℕ) → length (next_kept h op revision before) ≤ length before + 1
+next_kept-length h op revision before = by_purge (is_purge op)
+  where
+    by_purge : (b : Bool) → length (last_n h (cond b [] before ++ revision ∷ [])) ≤ length before + 1
+    by_purge true = omega (arith, length-drop (length (revision ∷ []) - h) (revision ∷ []))
+    by_purge false = omega (arith, length-drop (length (before ++ revision ∷ []) - h) (before ++ revision ∷ []), length-append before (revision ∷ []))
+
+module _ (acts : List Act) (old new : Stored) (w : Write) (s : StandsFor acts old) (more : HasOneMore w old new) (accepted : IsAccepted old.config acts (Wrote w)) where
+  lawful_after : IsLawful old.config (acts ++ Wrote w ∷ [])
+  lawful_after = lawful-push old.config acts (Wrote w) s.lawful accepted
+
+  counted : w.revision ≡ 1 + length (writes_of acts)
+  counted =
+      omega (arith, ap (λ (v : Write). v.revision) (sym (accepted_is_next old.config accepted.0 acts w accepted.1.1)))
+
+  length_after : length (writes_of (acts ++ Wrote w ∷ [])) ≡ length (writes_of acts) + 1
+  length_after = omega (arith, ap length (writes_of-wrote acts w), length-append (writes_of acts) (w ∷ []))
+
+  kept_after-is : (key : List ℕ) → bytes_eq w.key key ≡ true → kept_after w old ≡ revisions (kept old.config.history key (acts ++ Wrote w ∷ []))
+  kept_after-is key e =
+      ap (next_kept old.config.history w.op w.revision) (kept_before-is acts old w.key s ∙ ap (λ k. revisions (kept old.config.history k acts)) ((bytes_eq-Decides w.key key).0 e))
+      ∙ sym (kept_revisions_same old.config.history key acts w (history_some old.config s.legal) e)
+
+  kept_of : (key : List ℕ) (b : Bool) → bytes_eq w.key key ≡ b → cond b (Some (kept_after w old)) (kept_at key old) ≡ unless_empty (revisions (kept old.config.history key (acts ++ Wrote w ∷ [])))
+  kept_of key true e =
+      let is = kept_after-is key e in
+      let long : 0 < length (kept_after w old) = length-last_n old.config.history (cond (is_purge w.op) [] (kept_before w.key old)) w.revision (history_some old.config s.legal) in
+      sym (unless_empty-long (kept_after w old) long) ∙ ap unless_empty is
+  kept_of key false e =
+      s.kept key ∙ ap (λ ws. unless_empty (revisions ws)) (sym (kept_other old.config.history key acts w e))
+
+  values_after : new.values ≡ length (retained old.config.history (acts ++ Wrote w ∷ []))
+  values_after =
+      let itself : bytes_eq w.key w.key ≡ true = (bytes_eq-Decides w.key w.key).1 refl in
+      let count = retained_count old.config.history acts w (counts_from_lawful old.config (acts ++ Wrote w ∷ []) lawful_after) in
+      let now : length (kept_after w old) ≡ length (kept old.config.history w.key (acts ++ Wrote w ∷ [])) = ap length (kept_after-is w.key itself) ∙ length-map (kept old.config.history w.key (acts ++ Wrote w ∷ [])) (λ v. v.revision) in
+      let before : length (kept_before w.key old) ≡ length (kept old.config.history w.key acts) = ap length (kept_before-is acts old w.key s) ∙ length-map (kept old.config.history w.key acts) (λ v. v.revision) in
+      omega (arith, more.values, s.values, count, now, before)
+
+  pub stands_for_write : StandsFor (acts ++ Wrote w ∷ []) new
+  stands_for_write = record {
+    legal = subst IsLegal (sym more.config) s.legal;
+    lawful = subst (λ c. IsLawful c (acts ++ Wrote w ∷ [])) (sym more.config) lawful_after;
+    last = more.last ∙ ap (λ n. n + 1) s.last ∙ sym length_after;
+    written = λ r.
+        more.written r
+        ∙ ap (cond (w.revision == r) (Some w)) (s.written r)
+        ∙ sym (ap (find (λ (v : Write). v.revision == r)) (writes_of-wrote acts w) ∙ find-push 1 r (writes_of acts) w (counts_from_lawful old.config acts s.lawful) counted);
+    kept = λ key.
+        more.kept key
+        ∙ kept_of key (bytes_eq w.key key) refl
+        ∙ ap (λ (c : Configuration). unless_empty (revisions (kept c.history key (acts ++ Wrote w ∷ [])))) (sym more.config);
+    values = values_after ∙ ap (λ (c : Configuration). length (retained c.history (acts ++ Wrote w ∷ []))) (sym more.config);
+    sealed = more.sealed ∙ s.sealed ∙ sym (is_sealed-wrote acts w);
+  }

@@ -3,6 +3,7 @@ pub mod Acts
 pub mod Bounds
 pub mod Configuration
 pub mod Inside
+pub mod Next
 pub mod Reads
 pub mod Requests
 pub mod Retained

@@ -1,10 +1,15 @@
 //! Versions of a bucket: each is a value that stands for a list of accepted acts, and stays as it is.
 #![tactic(auto)]
 
+mod accept;
+mod apply;
 mod config;
 mod entries;
 mod gather;
+mod kept;
 mod listed;
+mod put;
+mod reads;
 mod request;
 mod rev;
 mod selection;

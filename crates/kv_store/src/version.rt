@@ -53,6 +53,7 @@ impl Model for Version {
 }
 
 impl Version {
+    ghost use Rattle.kv_store.specs.Bounds.{IsBounded};
     ghost use Rattle.kv_store.specs.Inside.{kept_entries};
 
     /// The version of a new bucket: no write, not sealed. The name is checked before the numbers, and both before any
@@ -77,9 +78,18 @@ impl Version {
         })
     }
 
-    // The same version, or one that is sealed.
-    fn share(&self, sealed: bool) -> Result<Version, KvError>
-        ensures ok { IfOk result (λ version. version ≡ record self.now { sealed = sealed }) }
+    // The version of the same bucket with these parts.
+    pub(crate) fn with_parts(
+        &self,
+        by_key: Trie<Key, Vec<u64>>,
+        by_revision: Trie<Rev, Write>,
+        last: u64,
+        values: u64,
+        sealed: bool,
+    ) -> Result<Version, KvError>
+        requires { IsBounded (record self.now { by_key = kept_entries by_key; by_revision = by_revision; last = last; values = values; sealed = sealed }) }
+        ensures ok { IfOk result (λ version. version ≡
+            record self.now { by_key = kept_entries by_key; by_revision = by_revision; last = last; values = values; sealed = sealed }) }
         ensures err { IfErr result (λ e. e ≡ OutOfMemory) }
     {
         Ok(Version {
@@ -88,12 +98,23 @@ impl Version {
             value_limit: self.value_limit,
             write_limit: self.write_limit,
             revision_limit: self.revision_limit,
-            by_key: self.by_key.snapshot()?,
-            by_revision: self.by_revision.snapshot()?,
-            last: self.last,
-            values: self.values,
+            by_key,
+            by_revision,
+            last,
+            values,
             sealed,
         })
+    }
+
+    // The same version, or one that is sealed.
+    fn share(&self, sealed: bool) -> Result<Version, KvError>
+        ensures ok { IfOk result (λ version. version ≡ record self.now { sealed = sealed }) }
+        ensures err { IfErr result (λ e. e ≡ OutOfMemory) }
+    {
+        let by_key = self.by_key.snapshot()?;
+        let by_revision = self.by_revision.snapshot()?;
+        let version = self.with_parts(by_key, by_revision, self.last, self.values, sealed)?;
+        Ok(version)
     }
 
     /// An equal version, which shares everything, at once at every size. It is refused only where something is shared

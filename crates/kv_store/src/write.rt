@@ -1,6 +1,7 @@
 //! Accepted writes.
 
 ghost use Rattle.std.specs.Prelude.{◌≡◌};
+ghost use Rattle.kv_store.specs.Acts.{is_put, is_purge};
 
 use kv_keys::Key;
 use std::marker::Model;
@@ -14,6 +15,30 @@ pub enum Op {
     Delete,
     /// Writes such a marker, and removes all earlier entries.
     Purge,
+}
+
+impl Op {
+    /// Whether it gives a value; else it is a marker.
+    pub fn is_put(self) -> bool
+        ensures { result ≡ is_put self }
+    {
+        match self {
+            Op::Put => true,
+            Op::Delete => false,
+            Op::Purge => false,
+        }
+    }
+
+    /// Whether it removes earlier entries.
+    pub fn is_purge(self) -> bool
+        ensures { result ≡ is_purge self }
+    {
+        match self {
+            Op::Put => false,
+            Op::Delete => false,
+            Op::Purge => true,
+        }
+    }
 }
 
 /// An accepted write.
@@ -34,6 +59,17 @@ impl Model for Write {
 }
 
 impl Write {
+    pub(crate) fn new(key: Key, op: Op, value: Vec<u8>, revision: u64) -> Write
+        ensures { result ≡ record { key = key; op = op; value = value.items; revision = revision } }
+    {
+        Write {
+            key,
+            op,
+            value,
+            revision,
+        }
+    }
+
     /// The key that was written.
     pub fn key(&self) -> &Key
         ensures { result.now ≡ self.now.key }

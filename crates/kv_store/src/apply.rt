@@ -1,0 +1,67 @@
+//! Accepted writes make new versions.
+
+ghost use Rattle.std.specs.Prelude.{◌≡◌, ◌+◌, ◌<◌, List, [], ◌∷◌, ◌++◌, unwrap_or, IfErr, IfOk};
+ghost use Rattle.kv_keys.specs.Outcome.{Refuses};
+ghost use Rattle.kv_keys.specs.declared.error.KvError.TheVariants.{OutOfMemory};
+ghost use Rattle.kv_store.specs.Acceptance.{accept};
+ghost use Rattle.kv_store.specs.Acts.{Act, Wrote, Write as AWrite};
+ghost use Rattle.kv_store.specs.Next.{HasOneMore, kept_before};
+ghost use Rattle.kv_store.specs.Requests.{asked};
+ghost use Rattle.kv_store.specs.Standing.{StandsFor};
+
+use crate::kept::next_kept;
+use crate::put::{put_kept, put_write};
+use crate::request::Request;
+use crate::version::Version;
+use crate::write::Write;
+use kv_keys::{Key, KvError};
+use std::alloc::Global;
+
+impl Version {
+    pub(crate) fn kept_before(&self, key: &Key) -> &[u64]
+        ensures { result.now ≡ kept_before key.now self.now }
+    {
+        match self.kept_at(key) {
+            Some(kept) => kept,
+            None => &[],
+        }
+    }
+
+    // The version with this write. The number of entries goes up by those that are kept of the key now, and down by
+    // those that were.
+    fn with_write(&self, alloc: Global, write: Write) -> Result<Version, KvError>
+        requires room { self.now.last < self.now.config.revision_limit }
+        requires revision { write.revision ≡ self.now.last + 1 }
+        ensures ok { IfOk result (λ next. HasOneMore write self.now next) }
+        ensures err { IfErr result (λ e. e ≡ OutOfMemory) }
+    {
+        let revision = write.revision();
+        let before = self.kept_before(write.key());
+        let kept = next_kept(alloc, self.history, write.op(), revision, before)?;
+        let values = (self.values + kept.len() as u64).saturating_sub(before.len() as u64);
+        let key = write.key().copy(alloc)?;
+        let by_key = put_kept(alloc, &self.by_key, key, kept)?;
+        let by_revision = put_write(alloc, &self.by_revision, write)?;
+        let next = self.with_parts(by_key, by_revision, revision, values, self.sealed)?;
+        Ok(next)
+    }
+
+    /// The next version, with the write that is asked for, or why it is refused, the first reason that fits: its value
+    /// is longer than the value limit, the bucket is sealed, the journal is full, the key to be created has a value or
+    /// the revision that is asked for is not the key's last (NATS ADR-8); and only then want of memory.
+    ///
+    /// It makes the nodes of one path of either trie anew, copies the key twice and the value once, and shares the
+    /// rest with `self`.
+    pub fn apply(&self, alloc: Global, request: &Request) -> Result<Version, KvError>
+        ensures config { IfOk result (λ next. next.config ≡ self.now.config) }
+        ensures ok { IfOk result (λ next. (acts : List Act) → StandsFor acts self.now →
+            (w : AWrite) × ((accept self.now.config (asked request.now) acts ≡ Ok w) × StandsFor (acts ++ Wrote w ∷ []) next)) }
+        ensures refused { IfErr result (λ e. (acts : List Act) → StandsFor acts self.now →
+            Refuses e (accept self.now.config (asked request.now) acts)) }
+    {
+        self.accept(request)?;
+        let write = request.write(alloc, self.last + 1)?;
+        let next = self.with_write(alloc, write)?;
+        Ok(next)
+    }
+}

@@ -1,0 +1,94 @@
+//! Reads of a version that take no memory.
+
+ghost use Rattle.std.specs.Prelude.{◌≡◌, ℕ, ◌==◌, List, [], unwrap_or, IfErr, MatchResult};
+ghost use Rattle.std.specs.List.{find, list_any};
+ghost use Rattle.std.specs.Option.{option_and_then, option_copied};
+ghost use Rattle.kv_keys.specs.declared.error.KvError.TheVariants.{KeyNotFound};
+ghost use Rattle.kv_store.specs.Acts.{Act};
+ghost use Rattle.kv_store.specs.Next.{kept_before};
+ghost use Rattle.kv_store.specs.Reads.{get_at_of, get_of, if_put, status_of};
+ghost use Rattle.kv_store.specs.Retained.{kept};
+ghost use Rattle.kv_store.specs.Standing.{StandsFor};
+
+use crate::status::Status;
+use crate::version::Version;
+use crate::write::Write;
+use kv_keys::{Key, KvError};
+
+fn if_put(write: Option<&Write>) -> Result<&Write, KvError>
+    ensures { MatchResult result
+        (λ w. option_and_then if_put (option_copied write.entry) ≡ Some w.now)
+        (λ e. (e ≡ KeyNotFound) × (option_and_then if_put (option_copied write.entry) ≡ None)) }
+{
+    match write {
+        Some(write) => {
+            if write.op().is_put() {
+                Ok(write)
+            } else {
+                Err(KvError::KeyNotFound)
+            }
+        }
+        None => Err(KvError::KeyNotFound),
+    }
+}
+
+impl Version {
+    /// The history bound, the last revision, whether writes have ended, and how many writes are stored and how many
+    /// entries retained. Nothing is walked.
+    pub fn status(&self) -> Status
+        ensures value { result ≡ record {
+          history = self.now.config.history;
+          last = self.now.last;
+          sealed = self.now.sealed;
+          stored = self.now.last;
+          values = self.now.values;
+        } }
+        ensures acts { (acts : List Act) → StandsFor acts self.now → result ≡ status_of self.now.config.history acts }
+    {
+        Status {
+            history: self.history,
+            last: self.last,
+            sealed: self.sealed,
+            stored: self.last,
+            values: self.values,
+        }
+    }
+
+    /// The latest entry of the key, where it is a put. It takes no memory.
+    pub fn get(&self, key: &Key) -> Result<&Write, KvError>
+        ensures value { (acts : List Act) → StandsFor acts self.now → MatchResult result
+            (λ w. get_of key.now acts ≡ Some w.now)
+            (λ e. (e ≡ KeyNotFound) × (get_of key.now acts ≡ None)) }
+        ensures err { IfErr result (λ e. e ≡ KeyNotFound) }
+    {
+        if_put(self.last_write(key))
+    }
+
+    fn is_kept(&self, key: &Key, revision: u64) -> bool
+        ensures { result ≡ list_any (λ r. r == revision) (kept_before key.now self.now) }
+    {
+        self.kept_before(key).iter().any(|kept| *kept == revision)
+    }
+
+    // The write of the key with the revision, where it is kept.
+    fn kept_write(&self, key: &Key, revision: u64) -> Option<&Write>
+        ensures { (acts : List Act) → StandsFor acts self.now →
+            option_copied result ≡ find (λ w. w.revision == revision) (kept self.now.config.history key.now acts) }
+    {
+        if self.is_kept(key, revision) {
+            self.write_at(revision)
+        } else {
+            None
+        }
+    }
+
+    /// The retained entry of the key with the revision, where it is a put. It takes no memory.
+    pub fn get_at(&self, key: &Key, revision: u64) -> Result<&Write, KvError>
+        ensures value { (acts : List Act) → StandsFor acts self.now → MatchResult result
+            (λ w. get_at_of self.now.config.history key.now revision acts ≡ Some w.now)
+            (λ e. (e ≡ KeyNotFound) × (get_at_of self.now.config.history key.now revision acts ≡ None)) }
+        ensures err { IfErr result (λ e. e ≡ KeyNotFound) }
+    {
+        if_put(self.kept_write(key, revision))
+    }
+}
