@@ -1,0 +1,88 @@
+//! Reads the lines of a script as commands.
+
+ghost use Rattle.std.specs.Prelude.{◌≡◌};
+ghost use Rattle.std.specs.List.{list_all};
+ghost use Rattle.kv_keys.specs.Grammar.{is_present};
+ghost use Rattle.kv_script.specs.Commands.{Gives, texts, is_skipped, named_command, words_command, present_words_command, line_command};
+
+use crate::command::Command;
+use crate::{reads, watches, writes};
+use kv_keys::KvError;
+use std::alloc::Global;
+use std::str;
+
+const MOST_OF_LINE: usize = 1_400_000;
+
+/// Whether a line, without its end, is to be skipped: it is empty, or begins with `#`.
+pub fn is_skipped(line: &[u8]) -> bool
+    ensures { result ≡ is_skipped line.now }
+{
+    match line.first() {
+        Some(byte) => *byte == b'#',
+        None => true,
+    }
+}
+
+#[tactic(auto, unfolding(crate::specs::Commands::named_command))]
+fn named_command(alloc: Global, name: &str, arguments: &[&str]) -> Result<Command, KvError>
+    ensures { Gives result (named_command name.now (texts arguments.now)) }
+{
+    match name {
+        "put" => writes::put_command(alloc, arguments),
+        "create" => writes::create_command(alloc, arguments),
+        "update" => writes::update_command(alloc, arguments),
+        "delete" => writes::delete_command(alloc, arguments),
+        "purge" => writes::purge_command(alloc, arguments),
+        "get" => reads::get_command(alloc, arguments),
+        "history" => reads::history_command(alloc, arguments),
+        "keys" => reads::keys_command(alloc, arguments),
+        "watch" => watches::watch_command(alloc, arguments),
+        "take" => watches::take_command(arguments),
+        "stop" => watches::stop_command(arguments),
+        "status" => reads::status_command(arguments),
+        "seal" => writes::seal_command(arguments),
+        "place" => reads::place_command(alloc, arguments),
+        _ => Err(KvError::BadCommand),
+    }
+}
+
+fn words_command(alloc: Global, words: &[&str]) -> Result<Command, KvError>
+    ensures { Gives result (words_command (texts words.now)) }
+{
+    match words.split_first() {
+        Some((name, arguments)) => named_command(alloc, name, arguments),
+        None => Err(KvError::BadCommand),
+    }
+}
+
+fn all_present(words: &[&str]) -> bool
+    ensures { result ≡ list_all is_present (texts words.now) }
+{
+    words.iter().all(|word| !word.is_empty())
+}
+
+fn present_words_command(alloc: Global, words: &[&str]) -> Result<Command, KvError>
+    ensures { Gives result (present_words_command (texts words.now)) }
+{
+    if all_present(words) {
+        words_command(alloc, words)
+    } else {
+        Err(KvError::BadCommand)
+    }
+}
+
+/// Reads a line, without its end, that is not to be skipped. A line that is no command is refused before its key or
+/// filters are read, and those before options that clash. Memory goes to the list of the words and to the command.
+#[tactic(auto, unfolding(crate::specs::Commands::line_command))]
+pub fn parse(alloc: Global, line: &[u8]) -> Result<Command, KvError>
+    ensures { Gives result (line_command line.now) }
+{
+    if line.len() > MOST_OF_LINE {
+        return Err(KvError::BadCommand);
+    }
+    let Ok(text) = str::from_utf8(line) else {
+        return Err(KvError::BadCommand);
+    };
+    let words: Vec<&str> = text.split(' ').collect(alloc)?;
+    present_words_command(alloc, &words)
+}
