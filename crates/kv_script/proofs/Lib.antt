@@ -1,2 +1,4 @@
+pub mod Compact
 pub mod Digits
+pub mod Lines
 pub mod Texts

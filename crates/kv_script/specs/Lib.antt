@@ -1,3 +1,7 @@
+pub mod Answered
 pub mod Choices
 pub mod Commands
+pub mod Fields
+pub mod Line
+pub mod Text
 pub mod Words

@@ -1,14 +1,28 @@
 //! The lines of a script: what each asks for, and the text of each answer.
 #![tactic(auto)]
 
+mod answers;
 mod choices;
 mod command;
+mod entries;
 mod grammar;
+mod json_line;
 mod numbers;
 mod reads;
+mod refusals;
+mod status;
+mod taken;
 mod values;
 mod watches;
 mod writes;
 
+pub use answers::{
+    append_empty, append_marker, append_revision, append_sealed, append_stopped, append_told,
+    append_watch,
+};
 pub use command::Command;
+pub use entries::{append_entry, append_history, append_keys};
 pub use grammar::{is_skipped, parse};
+pub use refusals::{append_refusal, append_worker_refusal};
+pub use status::{append_place, append_status};
+pub use taken::append_taken_entry;

@@ -1,0 +1,193 @@
+-- The compact text of the JSON of each answer is the answer's text.
+use Rattle.std.proofs.Common.{◌≡◌, ℕ, List, [], ◌∷◌, Bool, true, false, map, codes, decimal, Option, Some, None, refl, ap}
+use Rattle.json.specs.Print.{quoted}
+use Rattle.serde_json.specs.Data.{boolean, string, object, array, Items, item, Members, no_members, member}
+use Rattle.serde_json.specs.Written.{compact_text, has_float, members_have_float, items_have_float}
+use Rattle.serde_json.specs.View.{items_of}
+use Rattle.serde_json.proofs.OnLiterals.{serde_json_on_literals}
+use Rattle.kv_keys.specs.declared.error.KvError.{KvError}
+use Rattle.kv_keys.specs.declared.error.KvError.TheVariants.{OutOfMemory, BadBucket, BadConfig, BadKey, BadFilter, OptionsClash, ValueTooLarge, Sealed, JournalFull, KeyExists, WrongLastRevision, KeyNotFound, NoSuchWatch, TooManyWatches, NoReader, BadCommand, ReadFault, WriteFault, BadFloor, WatchBehind, Lagged}
+use Rattle.kv_store.specs.declared.status.Status.{Status}
+use Rattle.kv_store.specs.declared.write.Op.{Op}
+use Rattle.kv_store.specs.declared.write.Op.TheVariants.{Put, Delete, Purge}
+use Rattle.kv_watch.specs.Given.{Entry}
+use Rattle.kv_script.specs.Fields.{number_field, value_fields, entry_fields, entry_object, entry_items, key_items, watch_field, worker_field, sealed_fields, marker_fields, empty_fields, stopped_fields, status_fields, place_fields, detail_fields, refusal_fields, list_fields}
+use Rattle.kv_script.specs.Line.{Member, object_text, array_text, line}
+use Rattle.kv_script.specs.Text.{truth_text, one, value_members, entry_members, detail_members, refusal_members, watch_members, worker_members, status_members, listed_text, place_digits, revision_text, sealed_text, entry_text, history_text, keys_text, watch_text, taken_entry_text, marker_text, empty_text, stopped_text, status_text, place_text, refusal_text, told_text, worker_refusal_text}
+use Rattle.kv_script.proofs.Compact.{compact-object, compact-array, AreMembers, AreItems}
+
+pub revision_line : (revision : ℕ) → line (compact_text (object (number_field (codes "revision") revision no_members))) ≡ revision_text revision
+unfolding serde_json_on_literals revision_text
+revision_line revision = ap line (compact-object (number_field (codes "revision") revision no_members) (one (codes "revision") (decimal revision)) (refl, refl, tt))
+
+pub sealed_line : line (compact_text (object sealed_fields)) ≡ sealed_text
+unfolding serde_json_on_literals sealed_text
+sealed_line = ap line (compact-object sealed_fields (one (codes "sealed") (codes "true")) (refl, refl, tt))
+
+pub watch_line : (watch : ℕ) → line (compact_text (object (watch_field watch))) ≡ watch_text watch
+unfolding serde_json_on_literals watch_text
+watch_line watch = ap line (compact-object (watch_field watch) (watch_members watch) (refl, refl, tt))
+
+pub marker_line : (watch : ℕ) → line (compact_text (object (marker_fields watch))) ≡ marker_text watch
+unfolding serde_json_on_literals marker_text
+marker_line watch = ap line (compact-object (marker_fields watch) ((codes "marker", codes "true") ∷ watch_members watch) (refl, refl, (refl, refl, tt)))
+
+pub empty_line : (watch : ℕ) → line (compact_text (object (empty_fields watch))) ≡ empty_text watch
+unfolding serde_json_on_literals empty_text
+empty_line watch = ap line (compact-object (empty_fields watch) ((codes "empty", codes "true") ∷ watch_members watch) (refl, refl, (refl, refl, tt)))
+
+pub stopped_line : (watch handed : ℕ) → line (compact_text (object (stopped_fields watch handed))) ≡ stopped_text watch handed
+unfolding serde_json_on_literals stopped_text
+stopped_line watch handed = ap line (compact-object (stopped_fields watch handed) ((codes "handed", decimal handed) ∷ one (codes "stopped") (decimal watch)) (refl, refl, (refl, refl, tt)))
+
+pub told_line : (worker revision : ℕ) → line (compact_text (object (number_field (codes "revision") revision (worker_field worker)))) ≡ told_text worker revision
+unfolding serde_json_on_literals told_text
+told_line worker revision = ap line (compact-object (number_field (codes "revision") revision (worker_field worker)) ((codes "revision", decimal revision) ∷ worker_members worker) (refl, refl, (refl, refl, tt)))
+
+truth_compact : (b : Bool) → compact_text (boolean b) ≡ truth_text b
+unfolding serde_json_on_literals
+truth_compact true = refl
+truth_compact false = refl
+
+pub status_line : (bucket : List ℕ) (status : Status) (watches : ℕ) → line (compact_text (object (status_fields bucket status watches))) ≡ status_text bucket status watches
+unfolding serde_json_on_literals status_text
+status_line bucket status watches =
+    ap line (compact-object (status_fields bucket status watches) (status_members bucket status watches)
+    (refl, refl, (refl, refl, (refl, refl, (refl, truth_compact status.sealed, (refl, refl, (refl, refl, (refl, refl, tt))))))))
+
+pub place_line : (place : ℕ) → line (compact_text (object (place_fields place))) ≡ place_text place
+unfolding serde_json_on_literals place_text
+place_line place = ap line (compact-object (place_fields place) (one (codes "place") (quoted (place_digits place))) (refl, refl, tt))
+
+value_are : (value : Option (List ℕ)) (ms : Members) (members : List Member) → AreMembers ms members → AreMembers (value_fields value ms) (value_members value members)
+unfolding serde_json_on_literals
+value_are None ms members h = h
+value_are (Some value) ms members h = (refl, refl, h)
+
+entry_compact : (entry : Entry) (ms : Members) (members : List Member) → AreMembers ms members
+    → compact_text (object (entry_fields entry ms)) ≡ object_text (entry_members entry members)
+unfolding serde_json_on_literals
+entry_compact entry ms members h =
+    compact-object (entry_fields entry ms) (entry_members entry members)
+    (refl, refl, (refl, refl, (refl, refl, (refl, refl, value_are entry.value ms members h))))
+
+value_no_float : (value : Option (List ℕ)) (ms : Members) → members_have_float ms ≡ false → members_have_float (value_fields value ms) ≡ false
+value_no_float None ms h = h
+value_no_float (Some value) ms h = h
+
+pub entry_no_float : (entry : Entry) (ms : Members) → members_have_float ms ≡ false → has_float (object (entry_fields entry ms)) ≡ false
+entry_no_float entry ms h = value_no_float entry.value ms h
+
+pub entry_line : (entry : Entry) → line (compact_text (entry_object entry)) ≡ entry_text entry
+unfolding entry_text
+entry_line entry = ap line (entry_compact entry no_members [] tt)
+
+pub taken_entry_line : (watch : ℕ) (entry : Entry) → line (compact_text (object (entry_fields entry (watch_field watch)))) ≡ taken_entry_text watch entry
+unfolding serde_json_on_literals taken_entry_text
+taken_entry_line watch entry = ap line (entry_compact entry (watch_field watch) (watch_members watch) (refl, refl, tt))
+
+entries_are : (entries : List Entry) → AreItems (entry_items entries) (map listed_text entries)
+entries_are [] = tt
+entries_are (entry ∷ entries) = (entry_compact entry no_members [] tt, entries_are entries)
+
+pub history_line : (entries : List Entry) → line (compact_text (object (list_fields (codes "entries") (entry_items entries)))) ≡ history_text entries
+unfolding serde_json_on_literals history_text
+history_line entries =
+    ap line (compact-object (list_fields (codes "entries") (entry_items entries)) (one (codes "entries") (array_text (map listed_text entries)))
+    (refl, compact-array (entry_items entries) (map listed_text entries) (entries_are entries), tt))
+
+keys_are : (keys : List (List ℕ)) → AreItems (key_items keys) (map quoted keys)
+keys_are [] = tt
+keys_are (key ∷ keys) = (refl, keys_are keys)
+
+pub keys_line : (keys : List (List ℕ)) → line (compact_text (object (list_fields (codes "keys") (key_items keys)))) ≡ keys_text keys
+unfolding serde_json_on_literals keys_text
+keys_line keys =
+    ap line (compact-object (list_fields (codes "keys") (key_items keys)) (one (codes "keys") (array_text (map quoted keys)))
+    (refl, compact-array (key_items keys) (map quoted keys) (keys_are keys), tt))
+
+items_no_float : (entries : List Entry) → items_have_float (entry_items entries) ≡ false
+items_no_float [] = refl
+items_no_float (entry ∷ entries) = rw (entry_no_float entry no_members refl) (items_no_float entries)
+
+keys_no_float : (keys : List (List ℕ)) → items_have_float (key_items keys) ≡ false
+keys_no_float [] = refl
+keys_no_float (key ∷ keys) = keys_no_float keys
+
+pub history_no_float : (entries : List Entry) → has_float (object (list_fields (codes "entries") (entry_items entries))) ≡ false
+history_no_float entries = rw (items_no_float entries) refl
+
+pub keys_list_no_float : (keys : List (List ℕ)) → has_float (object (list_fields (codes "keys") (key_items keys))) ≡ false
+keys_list_no_float keys = rw (keys_no_float keys) refl
+
+pub entry_items-of : (entries : List Entry) → items_of (map entry_object entries) ≡ entry_items entries
+entry_items-of [] = refl
+entry_items-of (entry ∷ entries) = ap (item (entry_object entry)) (entry_items-of entries)
+
+pub key_items-of : (keys : List (List ℕ)) → items_of (map (λ key. string key) keys) ≡ key_items keys
+key_items-of [] = refl
+key_items-of (key ∷ keys) = ap (item (string key)) (key_items-of keys)
+
+detail_no_float : (error : KvError) (ms : Members) → members_have_float ms ≡ false → members_have_float (detail_fields error ms) ≡ false
+detail_no_float OutOfMemory ms h = h
+detail_no_float BadBucket ms h = h
+detail_no_float BadConfig ms h = h
+detail_no_float BadKey ms h = h
+detail_no_float BadFilter ms h = h
+detail_no_float OptionsClash ms h = h
+detail_no_float ValueTooLarge ms h = h
+detail_no_float Sealed ms h = h
+detail_no_float JournalFull ms h = h
+detail_no_float KeyExists ms h = h
+detail_no_float (WrongLastRevision last) ms h = h
+detail_no_float KeyNotFound ms h = h
+detail_no_float NoSuchWatch ms h = h
+detail_no_float TooManyWatches ms h = h
+detail_no_float NoReader ms h = h
+detail_no_float BadCommand ms h = h
+detail_no_float ReadFault ms h = h
+detail_no_float WriteFault ms h = h
+detail_no_float BadFloor ms h = h
+detail_no_float (WatchBehind watch) ms h = h
+detail_no_float (Lagged floor) ms h = h
+
+detail_are : (error : KvError) (ms : Members) (members : List Member) → AreMembers ms members → AreMembers (detail_fields error ms) (detail_members error members)
+unfolding serde_json_on_literals
+detail_are OutOfMemory ms members h = h
+detail_are BadBucket ms members h = h
+detail_are BadConfig ms members h = h
+detail_are BadKey ms members h = h
+detail_are BadFilter ms members h = h
+detail_are OptionsClash ms members h = h
+detail_are ValueTooLarge ms members h = h
+detail_are Sealed ms members h = h
+detail_are JournalFull ms members h = h
+detail_are KeyExists ms members h = h
+detail_are (WrongLastRevision last) ms members h = (refl, refl, h)
+detail_are KeyNotFound ms members h = h
+detail_are NoSuchWatch ms members h = h
+detail_are TooManyWatches ms members h = h
+detail_are NoReader ms members h = h
+detail_are BadCommand ms members h = h
+detail_are ReadFault ms members h = h
+detail_are WriteFault ms members h = h
+detail_are BadFloor ms members h = h
+detail_are (WatchBehind watch) ms members h = (refl, refl, h)
+detail_are (Lagged floor) ms members h = (refl, refl, h)
+
+pub refusal_no_float : (error : KvError) (ms : Members) → members_have_float ms ≡ false → has_float (object (refusal_fields error ms)) ≡ false
+refusal_no_float error ms h = detail_no_float error ms h
+
+refusal_compact : (error : KvError) (ms : Members) (members : List Member) → AreMembers ms members
+    → compact_text (object (refusal_fields error ms)) ≡ object_text (refusal_members error members)
+unfolding serde_json_on_literals
+refusal_compact error ms members h =
+    compact-object (refusal_fields error ms) (refusal_members error members) (refl, refl, (refl, refl, detail_are error ms members h))
+
+pub refusal_line : (error : KvError) → line (compact_text (object (refusal_fields error no_members))) ≡ refusal_text error
+unfolding refusal_text
+refusal_line error = ap line (refusal_compact error no_members [] tt)
+
+pub worker_refusal_line : (worker : ℕ) (error : KvError) → line (compact_text (object (refusal_fields error (worker_field worker)))) ≡ worker_refusal_text worker error
+unfolding serde_json_on_literals worker_refusal_text
+worker_refusal_line worker error = ap line (refusal_compact error (worker_field worker) (worker_members worker) (refl, refl, tt))
