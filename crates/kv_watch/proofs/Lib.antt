@@ -1,4 +1,7 @@
 pub mod Counted
 pub mod GivenLaws
 pub mod KeptLaws
+pub mod Lists
+pub mod Placing
 pub mod SlowSteps
+pub mod Walks

@@ -19,6 +19,7 @@ use Rattle.kv_store.proofs.Keeping.{since_purge-push}
 use Rattle.kv_store.proofs.Members.{filter-filter}
 use Rattle.kv_store.proofs.Numbered.{writes_of-append}
 use Rattle.kv_watch.proofs.GivenLaws.{initial_selects}
+use Rattle.kv_watch.proofs.Lists.{last_or-push}
 
 -- the writes behind the references
 abbrev pub plain : List (Bor Write) → List Write
@@ -57,10 +58,6 @@ wrote-push writes place w l e =
     ap (λ vs. writes_of (wrote_all vs)) (take_more writes place w l ∙ ap (λ v. take place writes ++ v ∷ []) (sym e))
     ∙ ap writes_of (map-append (λ v. Wrote v.now) (take place writes) (w ∷ []))
     ∙ writes_of-append (wrote_all (take place writes)) (Wrote w.now ∷ [])
-
-last_or-push : {X : Type 0} (o : Option X) (xs : List X) (x : X) → last_or o (xs ++ x ∷ []) ≡ Some x
-last_or-push o [] x = refl
-last_or-push o (y ∷ xs) x = last_or-push (Some y) xs x
 
 pub last_write_more : (key : List ℕ) (writes : List (Bor Write)) (place : ℕ) (w : Bor Write) → place < length writes → w ≡ get_or writes place w
     → last_write key (wrote_all (take (place + 1) writes)) ≡ cond (bytes_eq w.now.key key) (Some w.now) (last_write key (wrote_all (take place writes)))

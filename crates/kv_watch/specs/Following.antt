@@ -1,13 +1,11 @@
 -- Where a cursor stands in what its watch is given.
-use Rattle.std.specs.Prelude.{◌≡◌, ℕ, suc, ◌-◌, ◌≤◌, Bool, true, false, nat_lt, List, [], ◌∷◌, length, drop, filter, take, Option, None, unwrap_or}
+use Rattle.std.specs.Prelude.{◌≡◌, ℕ, suc, ◌+◌, ◌-◌, ◌^◌, ◌≤◌, Bool, true, false, nat_lt, min, List, [], ◌∷◌, length, drop, filter, take, Option, Some, None, unwrap_or}
 use Rattle.std.specs.List.{last_or}
 use Rattle.kv_store.specs.Acts.{Act, Write, IsPrefix, writes_of}
 use Rattle.kv_store.specs.Standing.{StandsFor}
 use Rattle.kv_store.specs.Stored.{Stored}
 use Rattle.kv_watch.specs.declared.options.Options.{Options}
-use Rattle.kv_watch.specs.declared.options.Start.{Start}
-use Rattle.kv_watch.specs.declared.options.Start.TheVariants.{Latest, History, Updates, From}
-use Rattle.kv_watch.specs.Given.{Item, EndMarker, matching, all_shown, initial, ending, given, item_revisions}
+use Rattle.kv_watch.specs.Given.{Item, AnEntry, EndMarker, matching, all_shown, initial, ending, given, item_revisions}
 
 -- what a cursor keeps: which initial entries it still owes, by their revisions, and whether it owes the end marker; up to which revision it has looked at live writes; one more than the revision of the last live entry that it handed out; and how many items it handed out
 pub record Following : Type 0 where
@@ -57,3 +55,18 @@ pub record InPlace (began acts : List Act) (n : ℕ) (base now : Stored) (cursor
   pub left : shown_behind cursor.seen acts cursor.filters cursor.options ≡ drop (live_count base.config.history began n cursor) (live_to began acts cursor)
   pub seen : cursor.seen ≤ length (writes_of acts)
   pub next : cursor.next ≡ suc (unwrap_or (last_or None (item_revisions (take (live_count base.config.history began n cursor) (live_to began acts cursor)))) (length (writes_of began)))
+
+-- one more, within 64 bits
+abbrev pub one_more : ℕ → ℕ
+one_more n = min (n + 1) (2 ^ 64 - 1)
+
+-- a cursor behind an entry: an initial one as long as any is owed, else a live one
+abbrev pub behind_entry : ℕ → List ℕ → Following → Following
+behind_entry revision (r ∷ owed) cursor = record cursor { owed = owed; handed = one_more cursor.handed }
+behind_entry revision [] cursor = record cursor { seen = revision; next = one_more revision; handed = one_more cursor.handed }
+
+-- a cursor behind the item that was its next one, if there was one
+abbrev pub behind : Option Item → Following → Following
+behind None cursor = cursor
+behind (Some EndMarker) cursor = record cursor { marker = false; handed = one_more cursor.handed }
+behind (Some (AnEntry entry)) cursor = behind_entry entry.revision cursor.owed cursor

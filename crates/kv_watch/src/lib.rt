@@ -4,6 +4,7 @@
 mod audit;
 mod event;
 pub mod laws;
+mod live;
 mod options;
 mod shown;
 mod taken;

@@ -1,0 +1,50 @@
+//! The live writes of a watch: those behind its beginning.
+
+ghost use Rattle.std.specs.Prelude.{◌≡◌, ◌≤◌, List, [], ◌∷◌, length, MatchOption};
+ghost use Rattle.kv_store.specs.Acts.{Act, writes_of};
+ghost use Rattle.kv_store.specs.Standing.{StandsFor};
+ghost use Rattle.kv_watch.specs.Following.{shown_behind};
+ghost use Rattle.kv_watch.specs.Given.{AnEntry, entry_of};
+
+use crate::options::Options;
+use crate::shown::is_shown;
+use kv_keys::Filters;
+use kv_store::{Version, Write};
+
+/// The first write behind a revision that a watch with these filters and options shows. It looks at each write up to that
+/// one.
+pub(crate) fn next_live<'a>(
+    now: &'a Version,
+    filters: &Filters,
+    options: Options,
+    seen: u64,
+) -> Option<&'a Write>
+    ensures { (acts : List Act) → StandsFor acts now.now → MatchOption result
+        (shown_behind seen acts filters.now options ≡ [])
+        (λ write. shown_behind seen acts filters.now options
+            ≡ AnEntry (entry_of options.headers_only write.now) ∷ shown_behind write.now.revision acts filters.now options) }
+{
+    for place in seen..now.revision() {
+        let Some(write) = now.write_at(place + 1) else {
+            return None;
+        };
+        if is_shown(filters, options, write) {
+            return Some(write);
+        }
+    }
+    None
+}
+
+/// Up to which revision all is looked at: up to the last, where nothing behind `seen` is shown.
+pub(crate) fn settled(now: &Version, filters: &Filters, options: Options, seen: u64) -> u64
+    ensures same { (acts : List Act) → StandsFor acts now.now → seen ≤ length (writes_of acts) →
+        (shown_behind result acts filters.now options ≡ shown_behind seen acts filters.now options)
+        × (result ≤ length (writes_of acts)) }
+    ensures last { (acts : List Act) → StandsFor acts now.now → shown_behind seen acts filters.now options ≡ [] →
+        result ≡ length (writes_of acts) }
+{
+    match next_live(now, filters, options, seen) {
+        Some(_) => seen,
+        None => now.revision(),
+    }
+}
