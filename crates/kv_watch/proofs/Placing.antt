@@ -1,13 +1,15 @@
 -- The next item of a cursor in place, and the cursor behind it.
-use Rattle.std.proofs.Common.{◌≡◌, ℕ, suc, zero, ◌+◌, ◌-◌, ◌^◌, ◌<◌, ◌≤◌, min, Bool, true, false, cond, ◌&&◌, not, nat_lt, List, [], ◌∷◌, ◌++◌, Option, Some, None, unwrap_or, length, take, drop, filter, refl, sym, ap, ◌∙◌, subst, arith, length-append, length-drop, append_assoc, append-nil}
+use Rattle.std.proofs.Common.{◌≡◌, ℕ, suc, zero, ◌+◌, ◌-◌, ◌^◌, ◌<◌, ◌≤◌, min, Bool, true, false, cond, ◌&&◌, not, nat_lt, List, [], ◌∷◌, ◌++◌, Option, Some, None, unwrap_or, Result, Ok, Err, ◌||◌, length, take, drop, filter, refl, sym, ap, ◌∙◌, subst, arith, length-append, length-drop, append_assoc, append-nil, add-one}
 use Rattle.std.specs.Prelude.{nat_le}
 use Rattle.std.specs.List.{Contains, slice_get, cons_option, last_or, find}
 use Rattle.std.specs.Option.{option_len}
-use Rattle.std.proofs.lemmas.Bool.{and_parts, leb-true}
+use Rattle.std.proofs.lemmas.Bool.{and_parts, leb-true, leb-false}
 use Rattle.std.proofs.lemmas.List.{drop_all, drop-append-le, take-append-le}
 use Rattle.std.proofs.lemmas.List.Elements.{filter_map-append}
-use Rattle.std.proofs.lemmas.Option.{slice_get-get_or}
+use Rattle.std.proofs.lemmas.Option.{slice_get-get_or, slice_get_within}
 use Rattle.kv_keys.specs.Matching.{any_matches}
+use Rattle.kv_keys.specs.declared.error.KvError.TheVariants.{ValueTooLarge, Sealed, JournalFull}
+use Rattle.kv_store.specs.Requests.{Asked, value_of}
 use Rattle.kv_store.specs.Acceptance.{IsLawful, LawfulFrom, accept, is_full, objection, next_write, unless}
 use Rattle.kv_store.specs.Acts.{Act, Wrote, Seal, Write, IsPrefix, writes_of, is_put, is_sealed, stored_writes}
 use Rattle.kv_store.specs.Configuration.{Configuration, has_legal_numbers}
@@ -15,7 +17,7 @@ use Rattle.kv_store.specs.Reads.{write_at_of}
 use Rattle.kv_store.specs.Standing.{StandsFor}
 use Rattle.kv_store.specs.Stored.{Stored}
 use Rattle.kv_store.proofs.Members.{Contains-here, Contains-there, Contains-from_filter}
-use Rattle.kv_store.proofs.Numbered.{CountsFrom, find_counted, counts_from_lawful}
+use Rattle.kv_store.proofs.Numbered.{CountsFrom, find_counted, counts_from_lawful, writes_of-wrote, writes_of-seal}
 use Rattle.kv_watch.specs.declared.options.Options.{Options}
 use Rattle.kv_watch.specs.declared.options.Start.{Start}
 use Rattle.kv_watch.specs.declared.options.Start.TheVariants.{Latest, History, Updates, From}
@@ -81,18 +83,56 @@ none_owed acts headers_only (x ∷ xs) h e =
 
 -- ---- numbers are small
 
-full_not : (config : Configuration) (acts : List Act) → is_full config acts ≡ false → length (writes_of acts) < config.revision_limit
-full_not config acts h = ?
+cond_ok : {X E : Type 0} (b : Bool) (e : E) (r : Result X E) (x : X) → cond b (Err e) r ≡ Ok x → (b ≡ false) × (r ≡ Ok x)
+cond_ok true e r x h = cc
+cond_ok false e r x h = (refl, h)
 
--- lawful acts have at most as many writes as there may be revisions
-lawful_bounded : (config : Configuration) (acts : List Act) → IsLawful config acts → length (writes_of acts) ≤ config.revision_limit
-lawful_bounded config acts h = ?
+-- where a write is accepted there are fewer than there may be revisions
+room : (config : Configuration) (asked : Asked) (acts : List Act) (w : Write) → accept config asked acts ≡ Ok w → length (writes_of acts) < config.revision_limit
+room config asked acts w h =
+    let r₃ = unless (objection asked acts) (next_write asked acts) in
+    let r₂ = cond (is_full config acts) (Err JournalFull) r₃ in
+    let r₁ = cond (is_sealed acts) (Err Sealed) r₂ in
+    let first = cond_ok (nat_lt config.value_limit (length (value_of asked))) ValueTooLarge r₁ w h in
+    let second = cond_ok (is_sealed acts) Sealed r₂ w first.1 in
+    let third = cond_ok (is_full config acts) JournalFull r₃ w second.1 in
+    by_test (nat_le config.write_limit (length (stored_writes acts))) third.0
+  where
+    by_test : (b : Bool) → (b || nat_le config.revision_limit (length (writes_of acts))) ≡ false → length (writes_of acts) < config.revision_limit
+    by_test true t = cc
+    by_test false t = leb-false config.revision_limit (length (writes_of acts)) t
 
-few_writes : (acts : List Act) (version : Stored) → StandsFor acts version → length (writes_of acts) ≤ 4294967295
-few_writes acts version s = ?
+bounded_from : (config : Configuration) (before acts : List Act) → LawfulFrom config before acts → length (writes_of before) ≤ config.revision_limit → length (writes_of (before ++ acts)) ≤ config.revision_limit
+bounded_from config before [] h l = rw (append-nil before) l
+bounded_from config before (Wrote w ∷ acts) h l =
+    let space = room config h.0.0 before w h.0.1.1 in
+    let more : length (writes_of (before ++ Wrote w ∷ [])) ≤ config.revision_limit = omega (arith, space, ap length (writes_of-wrote before w), length-append (writes_of before) (w ∷ [])) in
+    subst (λ as'. length (writes_of as') ≤ config.revision_limit) (append_assoc before (Wrote w ∷ []) acts) (bounded_from config (before ++ Wrote w ∷ []) acts h.1 more)
+bounded_from config before (Seal ∷ acts) h l =
+    let more : length (writes_of (before ++ Seal ∷ [])) ≤ config.revision_limit = omega (arith, ap length (writes_of-seal before)) in
+    subst (λ as'. length (writes_of as') ≤ config.revision_limit) (append_assoc before (Seal ∷ []) acts) (bounded_from config (before ++ Seal ∷ []) acts h.1 more)
+
+-- acts that a version stands for have less than 2^32 writes
+pub few_writes : (acts : List Act) (version : Stored) → StandsFor acts version → length (writes_of acts) ≤ 4294967295
+few_writes acts version s =
+    let config = version.config in
+    let numbers = s.legal.1 in
+    let last = (and_parts _ _ numbers).1 in
+    let upper : config.revision_limit ≤ 4294967295 = leb-true config.revision_limit 4294967295 (and_parts (nat_le 1 config.revision_limit) (nat_le config.revision_limit 4294967295) last).1 in
+    let bounded : length (writes_of acts) ≤ config.revision_limit = bounded_from config [] acts s.lawful (omega arith) in
+    omega (arith, upper, bounded)
 
 shown_few : (options : Options) (p : Write → Bool) (ws : List Write) → length (all_shown options (filter p ws)) ≤ length ws
-shown_few options p ws = ?
+shown_few options p [] = omega arith
+shown_few options p (w ∷ ws) = by_pass (p w) (shown_few options p ws)
+  where
+    by_hide : (b : Bool) → length (all_shown options (filter p ws)) ≤ length ws → length (cons_option (cond b None (Some (AnEntry (entry_of options.headers_only w)))) (all_shown options (filter p ws))) ≤ suc (length ws)
+    by_hide true l = omega arith
+    by_hide false l = omega arith
+
+    by_pass : (b : Bool) → length (all_shown options (filter p ws)) ≤ length ws → length (all_shown options (cond b (w ∷ filter p ws) (filter p ws))) ≤ suc (length ws)
+    by_pass true l = by_hide (options.ignore_deletes && not (is_put w.op)) l
+    by_pass false l = omega arith
 
 ending_few : (start : Start) → length (ending start) ≤ 1
 ending_few Latest = omega arith
@@ -135,3 +175,170 @@ next_shown acts version s filters options seen x rest e =
     let from : (k : ℕ) → shown_behind k acts filters options ≡ all_shown options (matching filters (drop k ws)) = λ k. ap (λ vs. all_shown options (matching filters vs)) (behind_counted k ws counted) in
     let found = step_from options filters ws seen (drop seen ws) x rest refl (subst (λ n. CountsFrom n (drop seen ws)) (omega arith) (CountsFrom-drop seen 1 ws counted)) (sym (from seen) ∙ e) in
     (found.0, found.1, found.2, from found.0.revision ∙ found.3)
+
+-- ---- a cursor in place
+
+module _ (began acts : List Act) (base now : Stored) (filters : List (List ℕ)) (options : Options) where
+  abbrev initials : List Item
+  initials = all_shown options (matching filters (initial base.config.history options.start began))
+
+  abbrev lives : List Item
+  lives = all_shown options (matching filters (drop (length (writes_of began)) (writes_of acts)))
+
+  abbrev all_given : List Item
+  all_given = initials ++ (ending options.start ++ lives)
+
+  -- in place with these parts
+  abbrev At : ℕ → List ℕ → Bool → ℕ → ℕ → ℕ → Type 0
+  At n owed marker seen next handed = InPlace began acts n base now (record { filters = filters; options = options; owed = owed; marker = marker; seen = seen; next = next; handed = handed })
+
+  entries : StandsFor began base → (n : ℕ) → AllFrom began options.headers_only (drop n initials)
+  entries s n = AllFrom-drop began options.headers_only initials n (initial_from base.config.history began filters options (counts began base s))
+
+  -- what is left is what is left of the three parts
+  whole : (n : ℕ) (owed : List ℕ) (marker : Bool) (seen next handed : ℕ) → At n owed marker seen next handed
+      → drop n all_given ≡ drop n initials ++ (marker_if marker ++ shown_behind seen acts filters options)
+  whole n owed marker seen next handed at =
+      drop-append initials (ending options.start ++ lives) n
+      ∙ ap (λ xs. drop n initials ++ xs) (drop-append (ending options.start) lives (n - length initials) ∙ ap (λ xs. xs ++ drop (n - length initials - length (ending options.start)) lives) (sym at.marker) ∙ ap (λ xs. marker_if marker ++ xs) (sym at.left))
+
+  -- the next item is the entry of the first owed write
+  pub next_owed : (n r : ℕ) (rs : List ℕ) (marker : Bool) (seen next handed : ℕ) → At n (r ∷ rs) marker seen next handed
+      → (w : Write) × (write_at_of r began ≡ Some w) × (slice_get all_given n ≡ Some (AnEntry (entry_of options.headers_only w)))
+  next_owed n r rs marker seen next handed at =
+      let first = first_owed began options.headers_only (drop n initials) r rs (entries at.base_stands n) at.owed in
+      let left = whole n (r ∷ rs) marker seen next handed at ∙ ap (λ xs. xs ++ (marker_if marker ++ shown_behind seen acts filters options)) first.3 in
+      (first.0, first.2, get_from_drop all_given n _ _ left)
+
+  none_left : (n : ℕ) (marker : Bool) (seen next handed : ℕ) → At n [] marker seen next handed → drop n initials ≡ []
+  none_left n marker seen next handed at = none_owed began options.headers_only (drop n initials) (entries at.base_stands n) at.owed
+
+  left_live : (n : ℕ) (marker : Bool) (seen next handed : ℕ) → At n [] marker seen next handed → drop n all_given ≡ marker_if marker ++ shown_behind seen acts filters options
+  left_live n marker seen next handed at =
+      whole n [] marker seen next handed at ∙ ap (λ xs. xs ++ (marker_if marker ++ shown_behind seen acts filters options)) (none_left n marker seen next handed at)
+
+  pub next_marker : (n seen next handed : ℕ) → At n [] true seen next handed → slice_get all_given n ≡ Some EndMarker
+  next_marker n seen next handed at = get_from_drop all_given n _ _ (left_live n true seen next handed at)
+
+  pub next_live_item : (n seen next handed : ℕ) → At n [] false seen next handed → slice_get all_given n ≡ slice_get (shown_behind seen acts filters options) 0
+  next_live_item n seen next handed at = head_of_drop all_given n ∙ ap (λ xs. slice_get xs 0) (left_live n false seen next handed at)
+
+  -- ---- one item on
+
+  all_few : StandsFor began base → StandsFor acts now → IsPrefix began acts → length all_given ≤ 8589934591
+  all_few bs ns p =
+      let i : length initials ≤ length (writes_of began) = subst (λ ws. length (all_shown options ws) ≤ length (writes_of began)) (sym (matching_initial base.config.history options.start began filters)) (shown_few options _ (writes_of began)) in
+      let l = shown_few options (λ w. any_matches filters w.key) (drop (length (writes_of began)) (writes_of acts)) in
+      omega (
+        arith,
+        i,
+        l,
+        ending_few options.start,
+        few_writes began base bs,
+        few_writes acts now ns,
+        length-drop (length (writes_of began)) (writes_of acts),
+        length-append initials (ending options.start ++ lives),
+        length-append (ending options.start) lives,
+      )
+
+  one_within : (n : ℕ) → n ≤ 8589934591 → one_more n ≡ n + 1
+  one_within n l = omega arith
+
+  length_there : (n : ℕ) (x : Item) → slice_get all_given n ≡ Some x → n + 1 ≤ length all_given
+  length_there n x h = omega (arith, slice_get_within all_given n x h)
+
+  behind_owed : (n r : ℕ) (rs : List ℕ) (marker : Bool) (seen next handed : ℕ) → At n (r ∷ rs) marker seen next handed → At (n + 1) rs marker seen next (one_more handed)
+  behind_owed n r rs marker seen next handed at =
+      let first = first_owed began options.headers_only (drop n initials) r rs (entries at.base_stands n) at.owed in
+      let there = next_owed n r rs marker seen next handed at in
+      let few = all_few at.base_stands at.now_stands at.prefix in
+      let long = length_there n _ there.2 in
+      let inside : n + 1 ≤ length initials = omega (arith, ap length first.3, length-drop n initials) in
+      let zero₁ : n + 1 - length initials ≡ n - length initials = omega (arith, inside) in
+      let zero₂ : n + 1 - length initials - length (ending options.start) ≡ n - length initials - length (ending options.start) = omega (arith, inside) in
+      record {
+        base_stands = at.base_stands;
+        now_stands = at.now_stands;
+        same_config = at.same_config;
+        prefix = at.prefix;
+        handed = ap one_more at.handed ∙ one_within n (omega (arith, few, long));
+        taken = long;
+        owed = first.4 ∙ ap item_revisions (sym (rest_from_drop initials n _ _ first.3));
+        marker = at.marker ∙ ap (λ k. drop k (ending options.start)) (sym zero₁);
+        left = at.left ∙ ap (λ k. drop k lives) (sym zero₂);
+        seen = at.seen;
+        next = at.next ∙ ap (λ k. suc (unwrap_or (last_or None (item_revisions (take k lives))) (length (writes_of began)))) (sym zero₂);
+      }
+
+  behind_marker : (n seen next handed : ℕ) → At n [] true seen next handed → At (n + 1) [] false seen next (one_more handed)
+  behind_marker n seen next handed at =
+      let there = next_marker n seen next handed at in
+      let few = all_few at.base_stands at.now_stands at.prefix in
+      let long = length_there n _ there in
+      let past : length initials ≤ n = omega (arith, ap length (none_left n true seen next handed at), length-drop n initials) in
+      let more : n + 1 - length initials ≡ n - length initials + 1 = omega (arith, past) in
+      let here : n - length initials + 1 ≤ length (ending options.start) = omega (arith, ap length at.marker, length-drop (n - length initials) (ending options.start)) in
+      let zero₂ : n + 1 - length initials - length (ending options.start) ≡ n - length initials - length (ending options.start) = omega (arith, here, more) in
+      record {
+        base_stands = at.base_stands;
+        now_stands = at.now_stands;
+        same_config = at.same_config;
+        prefix = at.prefix;
+        handed = ap one_more at.handed ∙ one_within n (omega (arith, few, long));
+        taken = long;
+        owed = ap item_revisions (sym (drop_all (n + 1) initials (omega (arith, past))));
+        marker = sym (ap (λ k. drop k (ending options.start)) more ∙ rest_from_drop (ending options.start) (n - length initials) EndMarker [] (sym at.marker));
+        left = at.left ∙ ap (λ k. drop k lives) (sym zero₂);
+        seen = at.seen;
+        next = at.next ∙ ap (λ k. suc (unwrap_or (last_or None (item_revisions (take k lives))) (length (writes_of began)))) (sym zero₂);
+      }
+
+  behind_live : (n seen next handed : ℕ) (e : Entry) (rest : List Item) → At n [] false seen next handed → shown_behind seen acts filters options ≡ AnEntry e ∷ rest → At (n + 1) [] false e.revision (one_more e.revision) (one_more handed)
+  behind_live n seen next handed e rest at shown =
+      let there : slice_get all_given n ≡ Some (AnEntry e) = next_live_item n seen next handed at ∙ ap (λ xs. slice_get xs 0) shown in
+      let few = all_few at.base_stands at.now_stands at.prefix in
+      let long = length_there n _ there in
+      let found = next_shown acts now at.now_stands filters options seen (AnEntry e) rest shown in
+      let same : AnEntry e ≡ AnEntry (entry_of options.headers_only found.0) = found.1 in
+      let entry : e ≡ entry_of options.headers_only found.0 = cc in
+      let number : e.revision ≡ found.0.revision = ap (λ (x : Entry). x.revision) entry in
+      let m = n - length initials - length (ending options.start) in
+      let past : length initials ≤ n = omega (arith, ap length (none_left n false seen next handed at), length-drop n initials) in
+      let past' : length (ending options.start) ≤ n - length initials = omega (arith, ap length at.marker, length-drop (n - length initials) (ending options.start)) in
+      let more : n + 1 - length initials - length (ending options.start) ≡ m + 1 = omega (arith, past, past') in
+      let here : drop m lives ≡ AnEntry e ∷ rest = sym at.left ∙ shown in
+      let pushed : take (m + 1) lives ≡ take m lives ++ AnEntry e ∷ [] = take_push lives m (AnEntry e) (get_from_drop lives m (AnEntry e) rest here) in
+      let last : last_or None (item_revisions (take (m + 1) lives)) ≡ Some e.revision = ap (λ xs. last_or None (item_revisions xs)) pushed ∙ ap (last_or None) (filter_map-append revision_of (take m lives) (AnEntry e ∷ [])) ∙ last_or-push None (item_revisions (take m lives)) e.revision in
+      let low : e.revision ≤ length (writes_of acts) = omega (arith, number, found.2) in
+      record {
+        base_stands = at.base_stands;
+        now_stands = at.now_stands;
+        same_config = at.same_config;
+        prefix = at.prefix;
+        handed = ap one_more at.handed ∙ one_within n (omega (arith, few, long));
+        taken = long;
+        owed = ap item_revisions (sym (drop_all (n + 1) initials (omega (arith, past))));
+        marker = sym (drop_all (n + 1 - length initials) (ending options.start) (omega (arith, past, past')));
+        left = ap (λ r. shown_behind r acts filters options) number ∙ found.3 ∙ sym (ap (λ k. drop k lives) more ∙ rest_from_drop lives m (AnEntry e) rest here);
+        seen = low;
+        next = one_within e.revision (omega (arith, low, few_writes acts now at.now_stands)) ∙ add-one e.revision ∙ sym (ap suc (ap (λ o. unwrap_or o (length (writes_of began))) (ap (λ k. last_or None (item_revisions (take k lives))) more ∙ last)));
+      }
+
+  -- behind its next item a cursor is in place again
+  pub passed : (n : ℕ) (owed : List ℕ) (marker : Bool) (seen next handed : ℕ) (item : Option Item) → At n owed marker seen next handed → item ≡ slice_get all_given n
+      → InPlace began acts (n + option_len item) base now (behind item (record { filters = filters; options = options; owed = owed; marker = marker; seen = seen; next = next; handed = handed }))
+  passed n owed marker seen next handed None at e = let same : n + 0 ≡ n = omega arith in rw same at
+  passed n (r ∷ rs) marker seen next handed (Some (AnEntry entry)) at e = behind_owed n r rs marker seen next handed at
+  passed n (r ∷ rs) marker seen next handed (Some EndMarker) at e = let there = (next_owed n r rs marker seen next handed at).2 in cc
+  passed n [] true seen next handed (Some EndMarker) at e = behind_marker n seen next handed at
+  passed n [] true seen next handed (Some (AnEntry entry)) at e = let there = next_marker n seen next handed at in cc
+  passed n [] false seen next handed (Some item) at e = live_case item (shown_behind seen acts filters options) refl (e ∙ next_live_item n seen next handed at)
+    where
+      live_case : (x : Item) (xs : List Item) → shown_behind seen acts filters options ≡ xs → Some x ≡ slice_get xs 0
+          → InPlace began acts (n + 1) base now (behind (Some x) (record { filters = filters; options = options; owed = []; marker = false; seen = seen; next = next; handed = handed }))
+      live_case x [] shown f = cc
+      live_case (AnEntry entry) (y ∷ ys) shown f = let same : AnEntry entry ≡ y = cc in behind_live n seen next handed entry ys at (shown ∙ ap (λ z. z ∷ ys) (sym same))
+      live_case EndMarker (y ∷ ys) shown f =
+          let same : EndMarker ≡ y = cc in
+          let found = next_shown acts now at.now_stands filters options seen y ys shown in
+          let clash : EndMarker ≡ AnEntry (entry_of options.headers_only found.0) = same ∙ found.1 in cc
