@@ -1,9 +1,11 @@
 -- Tests of one write: whether a watch begins with it, and whether it shows it.
 use Rattle.std.specs.Prelude.{ℕ, Bool, false, ◌&&◌, not, nat_le, List, map, filter}
 use Rattle.std.specs.Borrow.{Bor}
+use Rattle.std.specs.Option.{option_map_or}
 use Rattle.kv_keys.specs.Matching.{any_matches}
 use Rattle.kv_store.specs.Acts.{Act, Wrote, Write, is_put}
 use Rattle.kv_store.specs.Retained.{is_kept, is_latest}
+use Rattle.kv_store.specs.Stored.{Stored, write_at}
 use Rattle.kv_watch.specs.declared.event.Event.{Event}
 use Rattle.kv_watch.specs.declared.event.Event.TheVariants as events
 use Rattle.kv_watch.specs.declared.options.Options.{Options}
@@ -28,3 +30,7 @@ wrote_all writes = map (λ w. Wrote w.now) writes
 -- the events of the writes that pass a test
 abbrev pub events_where : (Write → Bool) → List Write → List Event
 events_where test ws = map (λ w. events.Entry w.revision) (filter test ws)
+
+-- whether the write that is stored of a revision is a put
+abbrev pub is_put_at : Stored → ℕ → Bool
+is_put_at version revision = option_map_or (λ w. is_put w.op) (write_at revision version) false

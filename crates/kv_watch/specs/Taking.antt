@@ -1,11 +1,17 @@
 -- What a take hands out, as an item of what the watch is given.
-use Rattle.std.specs.Prelude.{Option, Some, None}
+use Rattle.std.specs.Prelude.{Bool, Option, Some, None}
+use Rattle.kv_store.specs.Acts.{Write}
 use Rattle.kv_watch.specs.declared.taken.Taken.{Taken}
 use Rattle.kv_watch.specs.declared.taken.Taken.TheVariants as taken
-use Rattle.kv_watch.specs.Given.{Item, AnEntry, EndMarker}
+use Rattle.kv_watch.specs.Given.{Item, AnEntry, EndMarker, entry_of}
 
 -- the item that a take hands out; none where it is Empty
 abbrev pub item_taken : Taken → Option Item
 item_taken (taken.Entry entry) = Some (AnEntry entry)
 item_taken taken.Marker = Some EndMarker
 item_taken taken.Empty = None
+
+-- the item of a write, if there is one
+abbrev pub entry_item : Bool → Option Write → Option Item
+entry_item headers_only (Some w) = Some (AnEntry (entry_of headers_only w))
+entry_item headers_only None = None

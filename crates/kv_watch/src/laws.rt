@@ -6,6 +6,9 @@ ghost use Rattle.kv_store.specs.Acceptance.{IsLawful};
 ghost use Rattle.kv_store.specs.Acts.{Act, IsPrefix};
 ghost use Rattle.kv_store.specs.Configuration.{Configuration};
 ghost use Rattle.kv_store.specs.Retained.{retained, latest};
+ghost use Rattle.kv_store.specs.Standing.{StandsFor};
+ghost use Rattle.kv_store.specs.Stored.{Stored};
+ghost use Rattle.kv_watch.specs.Following.{Following, InPlace};
 ghost use Rattle.kv_watch.specs.Given.{given, item_revisions};
 ghost use Rattle.kv_watch.specs.declared.options.Options.{Options};
 ghost use Rattle.kv_watch.specs.declared.options.Start.TheVariants as starts;
@@ -36,4 +39,11 @@ pub fn from_first_is_history()
         IsLawful config began → revision ≤ 1 →
         given h began acts filters (record { start = starts.From revision; ignore_deletes = ignore_deletes; headers_only = headers_only })
         ≡ given h began acts filters (record { start = starts.History; ignore_deletes = ignore_deletes; headers_only = headers_only }) }
+{}
+
+/// A cursor that is in place stays so for each later version of the bucket, with nothing done to it.
+pub fn in_place_later()
+    ensures { (n : ℕ) (began acts later : List Act) (base now newer : Stored) (cursor : Following) →
+        InPlace began acts n base now cursor → StandsFor later newer → newer.config ≡ now.config → IsPrefix acts later →
+        InPlace began later n base newer cursor }
 {}

@@ -75,7 +75,8 @@ impl<'a> Shown<'a> {
     }
 }
 
-fn is_put(op: Op) -> bool
+/// Whether a write with this op gives a value.
+pub(crate) fn is_put(op: Op) -> bool
     ensures { result ≡ is_put op }
 {
     match op {

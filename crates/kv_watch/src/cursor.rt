@@ -1,0 +1,180 @@
+//! Cursors: how far a watch has come in what it is given.
+
+ghost use Rattle.std.specs.Prelude.{◌≡◌, ℕ, ◌+◌, ◌↔◌, List, None, IfOk, IfErr, length, slice_get, IsNone};
+ghost use Rattle.std.specs.Option.{option_len};
+ghost use Rattle.kv_keys.specs.declared.error.KvError.TheVariants.{OutOfMemory};
+ghost use Rattle.kv_store.specs.Acts.{Act};
+ghost use Rattle.kv_store.specs.Standing.{StandsFor};
+ghost use Rattle.kv_store.specs.Stored.{Stored, write_at};
+ghost use Rattle.kv_watch.specs.Following.{given_to, behind, InPlace};
+ghost use Rattle.kv_watch.specs.Taking.{entry_item, item_taken};
+
+use crate::live::{next_live, settled};
+use crate::options::Options;
+use crate::owed::{owed_at_opening, owes_marker};
+use crate::shown::Shown;
+use crate::taken::Taken;
+use kv_keys::{Filters, KvError};
+use kv_store::Version;
+use std::alloc::Global;
+use std::marker::Model;
+
+/// How far a watch has come in what it is given. It keeps no version: each call is handed the one that it was opened on and
+/// the present one, and is exact where the cursor is in place for these two. It is so at its opening, stays so behind each
+/// item, and for every later version of the bucket (see `laws::in_place_later`).
+///
+/// It owes its initial entries as a list of revisions, made when it is opened: a take of one is a single look-up. Of live
+/// writes it remembers how far it has looked.
+#[derive(Drop)]
+pub struct Cursor {
+    filters: Filters,
+    options: Options,
+    // the revisions of the initial entries that are still owed, the next one last
+    owed: Vec<u64>,
+    marker: bool,
+    seen: u64,
+    next: u64,
+    handed: u64,
+}
+
+impl Model for Cursor {
+    ghost use Rattle.std.specs.Prelude.{reverse};
+    ghost use Rattle.kv_watch.specs.Following.{Following};
+
+    ghost Value = { Following };
+
+    ghost view = { λ c. record {
+      filters = c.filters;
+      options = c.options;
+      owed = reverse c.owed.items;
+      marker = c.marker;
+      seen = c.seen;
+      next = c.next;
+      handed = c.handed;
+    } };
+}
+
+impl Cursor {
+    /// A cursor before the first item of a watch that begins at this version. It costs the keys, which are looked at once,
+    /// and what it will hand out.
+    pub fn open(
+        alloc: Global,
+        base: &Version,
+        filters: &Filters,
+        options: Options,
+    ) -> Result<Cursor, KvError>
+        ensures filters { IfOk result (λ cursor. cursor.filters ≡ filters.now) }
+        ensures options { IfOk result (λ cursor. cursor.options ≡ options) }
+        ensures in_place { IfOk result (λ cursor. (acts : List Act) → StandsFor acts base.now →
+            InPlace acts acts 0 base.now base.now cursor) }
+        ensures err { IfErr result (λ e. e ≡ OutOfMemory) }
+    {
+        let owed = owed_at_opening(alloc, base, filters, options)?;
+        let filters = filters.copy(alloc)?;
+        let seen = base.revision();
+        Ok(Cursor {
+            filters,
+            options,
+            owed,
+            marker: owes_marker(options.start),
+            seen,
+            next: seen.saturating_add(1),
+            handed: 0,
+        })
+    }
+
+    /// What `take` would hand out.
+    pub fn peek<'a>(&self, base: &'a Version, now: &'a Version) -> Taken<'a>
+        ensures { (n : ℕ) (began acts : List Act) → InPlace began acts n base.now now.now self.now →
+            item_taken result ≡ slice_get (given_to base.now.config.history began acts self.now) n }
+    {
+        if let Some(revision) = self.owed.last() {
+            return entry_at(base, *revision, self.options.headers_only);
+        }
+        if self.marker {
+            return Taken::Marker;
+        }
+        match next_live(now, &self.filters, self.options, self.seen) {
+            Some(write) => Taken::Entry(Shown::new(write, self.options.headers_only)),
+            None => Taken::Empty,
+        }
+    }
+
+    /// Hands out the next item, lent from the versions, and moves on behind it. Where there is none it is `Empty`, and the
+    /// cursor stays as it is.
+    pub fn take<'a>(&mut self, base: &'a Version, now: &'a Version) -> Taken<'a>
+        ensures filters { self.new.filters ≡ self.old.filters }
+        ensures options { self.new.options ≡ self.old.options }
+        // It is the next item of what the watch is given, or there is none.
+        ensures next { (n : ℕ) (began acts : List Act) → InPlace began acts n base.now now.now self.old →
+            item_taken result ≡ slice_get (given_to base.now.config.history began acts self.old) n }
+        // It is empty exactly where all that the watch is given was handed out.
+        ensures end { (n : ℕ) (began acts : List Act) → InPlace began acts n base.now now.now self.old →
+            (item_taken result ≡ None) ↔ (n ≡ length (given_to base.now.config.history began acts self.old)) }
+        ensures in_place { (n : ℕ) (began acts : List Act) → InPlace began acts n base.now now.now self.old →
+            InPlace began acts (n + option_len (item_taken result)) base.now now.now self.new }
+        ensures none { item_taken result ≡ None → self.new ≡ self.old }
+    {
+        let taken = self.peek(base, now);
+        self.pass(&taken);
+        taken
+    }
+
+    // Moves on behind the item that was the next one. No bucket has so many writes that a number would end: the sums stop
+    // there so that they need no condition.
+    fn pass(&mut self, taken: &Taken)
+        ensures { self.new ≡ behind (item_taken taken.now) self.old }
+    {
+        match taken {
+            Taken::Empty => return,
+            Taken::Marker => self.marker = false,
+            Taken::Entry(shown) => {
+                if self.owed.pop().is_none() {
+                    self.seen = shown.revision();
+                    self.next = shown.revision().saturating_add(1);
+                }
+            }
+        }
+        self.handed = self.handed.saturating_add(1);
+    }
+
+    /// Notes that all live writes were looked at, where `take` would hand out nothing. No later answer changes by it: later
+    /// takes begin behind those writes.
+    pub fn settle(&mut self, now: &Version)
+        ensures same { self.new ≡ record self.old { seen = self.new.seen } }
+        ensures in_place { (n : ℕ) (began acts : List Act) (base : Stored) → InPlace began acts n base now.now self.old →
+            InPlace began acts n base now.now self.new }
+        ensures looked { (n : ℕ) (began acts : List Act) (base : Stored) → InPlace began acts n base now.now self.old →
+            n ≡ length (given_to base.config.history began acts self.old) → self.new.seen ≡ now.now.last }
+    {
+        if self.owed.is_empty() && !self.marker {
+            self.seen = settled(now, &self.filters, self.options, self.seen);
+        }
+    }
+
+    /// How many items were handed out, the end marker counted.
+    pub fn handed(&self) -> u64
+        ensures value { result ≡ self.now.handed }
+        ensures given { (n : ℕ) (began acts : List Act) (base now : Stored) → InPlace began acts n base now self.now → result ≡ n }
+    {
+        self.handed
+    }
+
+    /// One more than the revision of the last live entry that was handed out; where there was none, one more than the last
+    /// revision at the opening.
+    pub fn next(&self) -> u64
+        ensures { result ≡ self.now.next }
+    {
+        self.next
+    }
+}
+
+// The entry of the write that is stored of a revision.
+fn entry_at<'a>(base: &'a Version, revision: u64, headers_only: bool) -> Taken<'a>
+    ensures { item_taken result ≡ entry_item headers_only (write_at revision base.now) }
+{
+    match base.write_at(revision) {
+        Some(write) => Taken::Entry(Shown::new(write, headers_only)),
+        None => Taken::Empty,
+    }
+}

@@ -1,0 +1,83 @@
+//! What a watch owes at its beginning.
+
+ghost use Rattle.std.specs.Prelude.{◌≡◌, false, List, filter, reverse, IfOk, IfErr};
+ghost use Rattle.std.specs.Option.{option_map_or};
+ghost use Rattle.kv_keys.specs.declared.error.KvError.TheVariants.{OutOfMemory};
+ghost use Rattle.kv_store.specs.Acts.{Act};
+ghost use Rattle.kv_store.specs.Retained.{revisions};
+ghost use Rattle.kv_store.specs.Standing.{StandsFor};
+ghost use Rattle.kv_watch.specs.Following.{marker_if};
+ghost use Rattle.kv_watch.specs.Given.{all_shown, ending, initial, item_revisions, matching};
+ghost use Rattle.kv_watch.specs.Showing.{is_put_at};
+
+use crate::options::{Options, Start};
+use crate::shown::is_put;
+use kv_keys::{Filters, KvError};
+use kv_store::{Selection, Version};
+use std::alloc::Global;
+
+/// The revisions of the entries that a watch begins with, the first one last. It looks at each key once, and where deletes
+/// are ignored at each write that is found.
+pub(crate) fn owed_at_opening(
+    alloc: Global,
+    base: &Version,
+    filters: &Filters,
+    options: Options,
+) -> Result<Vec<u64>, KvError>
+    ensures ok { IfOk result (λ owed. (acts : List Act) → StandsFor acts base.now →
+        reverse owed.items ≡ item_revisions (all_shown options (matching filters.now (initial base.now.config.history options.start acts)))) }
+    ensures err { IfErr result (λ e. e ≡ OutOfMemory) }
+{
+    let mut owed = initial_revisions(alloc, base, filters, options.start)?;
+    if options.ignore_deletes {
+        drop_markers(base, &mut owed);
+    }
+    owed.reverse();
+    Ok(owed)
+}
+
+/// Whether an end marker comes behind the entries that a watch begins with.
+pub(crate) fn owes_marker(start: Start) -> bool
+    ensures { marker_if result ≡ ending start }
+{
+    match start {
+        Start::Latest => true,
+        Start::History => true,
+        Start::Updates => false,
+        Start::From(_) => true,
+    }
+}
+
+// The revisions of the entries that a watch begins with, in order, markers among them.
+fn initial_revisions(
+    alloc: Global,
+    base: &Version,
+    filters: &Filters,
+    start: Start,
+) -> Result<Vec<u64>, KvError>
+    ensures ok { IfOk result (λ found. (acts : List Act) → StandsFor acts base.now →
+        found.items ≡ revisions (matching filters.now (initial base.now.config.history start acts))) }
+    ensures err { IfErr result (λ e. e ≡ OutOfMemory) }
+{
+    match start {
+        Start::Latest => base.revisions_where(alloc, filters, Selection::Latest),
+        Start::History => base.revisions_where(alloc, filters, Selection::Retained),
+        Start::Updates => Ok(Vec::new(alloc)),
+        Start::From(revision) => base.revisions_where(alloc, filters, Selection::From(revision)),
+    }
+}
+
+fn is_put_at(base: &Version, revision: u64) -> bool
+    ensures { result ≡ is_put_at base.now revision }
+{
+    match base.write_at(revision) {
+        Some(write) => is_put(write.op()),
+        None => false,
+    }
+}
+
+fn drop_markers(base: &Version, revisions: &mut Vec<u64>)
+    ensures { revisions.new.items ≡ filter (is_put_at base.now) revisions.old.items }
+{
+    revisions.retain(|revision| is_put_at(base, *revision));
+}
