@@ -2,6 +2,7 @@
 use Rattle.std.proofs.Common.{◌≡◌, ℕ, suc, zero, ◌+◌, ◌-◌, List, [], ◌∷◌, ◌++◌, Option, Some, None, length, take, drop, refl, sym, ap, ◌∙◌, arith}
 use Rattle.std.specs.List.{slice_get, last_or}
 use Rattle.std.proofs.lemmas.List.{drop_all}
+use Rattle.std.proofs.lemmas.Option.{slice_get-get_or}
 
 pub drop-append : {X : Type 0} (xs ys : List X) (n : ℕ) → drop n (xs ++ ys) ≡ drop n xs ++ drop (n - length xs) ys
 drop-append {X} [] ys n =
@@ -35,3 +36,17 @@ take_push (y ∷ ys) (suc n) x h = let e : suc n + 1 ≡ suc (n + 1) = omega ari
 pub last_or-push : {X : Type 0} (o : Option X) (xs : List X) (x : X) → last_or o (xs ++ x ∷ []) ≡ Some x
 last_or-push o [] x = refl
 last_or-push o (y ∷ xs) x = last_or-push (Some y) xs x
+
+-- a last element, and what stands before it
+pub last_front : {X : Type 0} (xs : List X) (x : X) → slice_get xs (length xs - 1) ≡ Some x → (front : List X) × (xs ≡ front ++ x ∷ [])
+last_front [] x h = cc
+last_front (y ∷ []) x h = let same : y ≡ x = cc in ([], ap (λ v. v ∷ []) same)
+last_front (y ∷ z ∷ zs) x h =
+    let e : suc (suc (length zs)) - 1 ≡ suc (suc (length zs) - 1) = omega arith in
+    let rest = last_front (z ∷ zs) x (rw e at h) in
+    (y ∷ rest.0, ap (λ vs. y ∷ vs) rest.1)
+
+-- a list without a last element
+pub no_last : {X : Type 0} (xs : List X) → slice_get xs (length xs - 1) ≡ None → xs ≡ []
+no_last [] h = refl
+no_last (y ∷ ys) h = let there = slice_get-get_or (y ∷ ys) (length (y ∷ ys) - 1) y (omega arith) in cc

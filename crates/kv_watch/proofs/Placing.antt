@@ -1,10 +1,10 @@
 -- The next item of a cursor in place, and the cursor behind it.
-use Rattle.std.proofs.Common.{◌≡◌, ℕ, suc, zero, ◌+◌, ◌-◌, ◌^◌, ◌<◌, ◌≤◌, min, Bool, true, false, cond, ◌&&◌, not, nat_lt, List, [], ◌∷◌, ◌++◌, Option, Some, None, unwrap_or, Result, Ok, Err, ◌||◌, length, take, drop, filter, refl, sym, ap, ◌∙◌, subst, arith, length-append, length-drop, append_assoc, append-nil, add-one}
+use Rattle.std.proofs.Common.{◌≡◌, ℕ, suc, zero, ◌+◌, ◌-◌, ◌^◌, ◌<◌, ◌≤◌, min, Bool, true, false, cond, ◌&&◌, not, nat_lt, List, [], ◌∷◌, ◌++◌, Option, Some, None, unwrap_or, Result, Ok, Err, ◌||◌, length, take, drop, filter, reverse, refl, sym, ap, ◌∙◌, subst, arith, length-append, length-drop, append_assoc, append-nil, add-one}
 use Rattle.std.specs.Prelude.{nat_le}
 use Rattle.std.specs.List.{Contains, slice_get, cons_option, last_or, find}
 use Rattle.std.specs.Option.{option_len}
 use Rattle.std.proofs.lemmas.Bool.{and_parts, leb-true, leb-false}
-use Rattle.std.proofs.lemmas.List.{drop_all, drop-append-le, take-append-le}
+use Rattle.std.proofs.lemmas.List.{drop_all, reverse-append}
 use Rattle.std.proofs.lemmas.List.Elements.{filter_map-append}
 use Rattle.std.proofs.lemmas.Option.{slice_get-get_or, slice_get_within}
 use Rattle.kv_keys.specs.Matching.{any_matches}
@@ -15,7 +15,7 @@ use Rattle.kv_store.specs.Acts.{Act, Wrote, Seal, Write, IsPrefix, writes_of, is
 use Rattle.kv_store.specs.Configuration.{Configuration, has_legal_numbers}
 use Rattle.kv_store.specs.Reads.{write_at_of}
 use Rattle.kv_store.specs.Standing.{StandsFor}
-use Rattle.kv_store.specs.Stored.{Stored}
+use Rattle.kv_store.specs.Stored.{Stored, write_at}
 use Rattle.kv_store.proofs.Members.{Contains-here, Contains-there, Contains-from_filter}
 use Rattle.kv_store.proofs.Numbered.{CountsFrom, find_counted, counts_from_lawful, writes_of-wrote, writes_of-seal}
 use Rattle.kv_watch.specs.declared.options.Options.{Options}
@@ -24,8 +24,9 @@ use Rattle.kv_watch.specs.declared.options.Start.TheVariants.{Latest, History, U
 use Rattle.kv_watch.specs.Following.{Following, InPlace, given_to, initial_to, live_to, live_count, marker_if, shown_behind, one_more, behind}
 use Rattle.kv_watch.specs.Given.{Item, AnEntry, EndMarker, Entry, entry_of, matching, all_shown, initial, ending, given, item_revisions, revision_of}
 use Rattle.kv_watch.specs.Showing.{is_shown}
+use Rattle.kv_watch.specs.Taking.{entry_item}
 use Rattle.kv_watch.proofs.GivenLaws.{matching_initial, no_fewer_writes}
-use Rattle.kv_watch.proofs.Lists.{drop-append, head_of_drop, get_from_drop, rest_from_drop, take_push, last_or-push}
+use Rattle.kv_watch.proofs.Lists.{drop-append, head_of_drop, get_from_drop, rest_from_drop, take_push, last_or-push, last_front, no_last}
 use Rattle.kv_watch.proofs.Walks.{counts, revision_at, shown_front, hidden_front, behind_counted}
 
 -- ---- items that are entries of stored writes
@@ -41,7 +42,7 @@ AllFrom-drop acts headers_only (x ∷ xs) zero h = h
 AllFrom-drop acts headers_only (x ∷ xs) (suc n) h = AllFrom-drop acts headers_only xs n h.1
 
 -- a write is found by its revision
-found_in : (acts : List Act) → CountsFrom 1 (writes_of acts) → (w : Write) → Contains (writes_of acts) w → write_at_of w.revision acts ≡ Some w
+pub found_in : (acts : List Act) → CountsFrom 1 (writes_of acts) → (w : Write) → Contains (writes_of acts) w → write_at_of w.revision acts ≡ Some w
 found_in acts counted w m =
     let here : slice_get (writes_of acts) m.0 ≡ Some w = slice_get-get_or (writes_of acts) m.0 w m.1 ∙ ap (λ v. Some v) m.2 in
     let number = revision_at (writes_of acts) m.0 w counted here in
@@ -117,7 +118,10 @@ pub few_writes : (acts : List Act) (version : Stored) → StandsFor acts version
 few_writes acts version s =
     let config = version.config in
     let numbers = s.legal.1 in
-    let last = (and_parts _ _ numbers).1 in
+    let history = nat_le 1 config.history && nat_le config.history 64 in
+    let stored = nat_le 1 config.write_limit && nat_le config.write_limit 1000000 in
+    let given = nat_le 1 config.revision_limit && nat_le config.revision_limit 4294967295 in
+    let last : given ≡ true = (and_parts (history && nat_le config.value_limit 1048576 && stored) given numbers).1 in
     let upper : config.revision_limit ≤ 4294967295 = leb-true config.revision_limit 4294967295 (and_parts (nat_le 1 config.revision_limit) (nat_le config.revision_limit 4294967295) last).1 in
     let bounded : length (writes_of acts) ≤ config.revision_limit = bounded_from config [] acts s.lawful (omega arith) in
     omega (arith, upper, bounded)
@@ -222,6 +226,26 @@ module _ (began acts : List Act) (base now : Stored) (filters : List (List ℕ))
 
   pub next_live_item : (n seen next handed : ℕ) → At n [] false seen next handed → slice_get all_given n ≡ slice_get (shown_behind seen acts filters options) 0
   next_live_item n seen next handed at = head_of_drop all_given n ∙ ap (λ xs. slice_get xs 0) (left_live n false seen next handed at)
+
+  -- ---- the same by the list that ends with the next owed revision
+
+  pub peek_owed : (n r : ℕ) (items : List ℕ) (marker : Bool) (seen next handed : ℕ) → At n (reverse items) marker seen next handed → slice_get items (length items - 1) ≡ Some r
+      → entry_item options.headers_only (write_at r base) ≡ slice_get all_given n
+  peek_owed n r items marker seen next handed at e =
+      let front = last_front items r e in
+      let at' = subst (λ owed. At n owed marker seen next handed) (ap reverse front.1 ∙ reverse-append front.0 (r ∷ [])) at in
+      let found = next_owed n r (reverse front.0) marker seen next handed at' in
+      ap (entry_item options.headers_only) (at.base_stands.written r ∙ found.1) ∙ sym found.2
+
+  pub peek_marker : (n : ℕ) (items : List ℕ) (marker : Bool) (seen next handed : ℕ) → At n (reverse items) marker seen next handed → slice_get items (length items - 1) ≡ None → marker ≡ true
+      → slice_get all_given n ≡ Some EndMarker
+  peek_marker n items marker seen next handed at e t =
+      next_marker n seen next handed (subst (λ b. At n [] b seen next handed) t (subst (λ owed. At n owed marker seen next handed) (ap reverse (no_last items e)) at))
+
+  pub peek_live : (n : ℕ) (items : List ℕ) (marker : Bool) (seen next handed : ℕ) → At n (reverse items) marker seen next handed → slice_get items (length items - 1) ≡ None → marker ≡ false
+      → slice_get all_given n ≡ slice_get (shown_behind seen acts filters options) 0
+  peek_live n items marker seen next handed at e t =
+      next_live_item n seen next handed (subst (λ b. At n [] b seen next handed) t (subst (λ owed. At n owed marker seen next handed) (ap reverse (no_last items e)) at))
 
   -- ---- one item on
 

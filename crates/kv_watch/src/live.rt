@@ -22,7 +22,7 @@ pub(crate) fn next_live<'a>(
     ensures { (acts : List Act) → StandsFor acts now.now → MatchOption result
         (shown_behind seen acts filters.now options ≡ [])
         (λ write. shown_behind seen acts filters.now options
-            ≡ AnEntry (entry_of options.headers_only write.now) ∷ shown_behind write.now.revision acts filters.now options) }
+        ≡ AnEntry (entry_of options.headers_only write.now) ∷ shown_behind write.now.revision acts filters.now options) }
 {
     for place in seen..now.revision() {
         let Some(write) = now.write_at(place + 1) else {
