@@ -27,7 +27,13 @@ fn key(alloc: Global, text: &str) -> Result<Key, KvError> {
 fn answers_without_entries(rt: HostRuntime) -> Result<(), Fail> {
     let alloc = rt.alloc();
     let mut out = Vec::new(alloc);
-    let status = Status { history: 1, last: 7, sealed: false, stored: 7, values: 4 };
+    let status = Status {
+        history: 1,
+        last: 7,
+        sealed: false,
+        stored: 7,
+        values: 4,
+    };
     twice!(append_revision(alloc, &mut out, 7));
     twice!(append_sealed(alloc, &mut out));
     twice!(append_watch(alloc, &mut out, 1));
@@ -92,7 +98,8 @@ fn taken_entries_and_keys(rt: HostRuntime) -> Result<(), Fail> {
     twice!(append_keys(alloc, &mut out, &[&zinke]));
     twice!(append_keys(alloc, &mut out, &[&other, &zinke]));
     twice!(append_history(alloc, &mut out, &[]));
-    let text = "{\"key\":\"zinke\",\"op\":\"PUT\",\"revision\":2,\"size\":1,\"value\":\"Mg==\",\"watch\":1}\n\
+    let text =
+        "{\"key\":\"zinke\",\"op\":\"PUT\",\"revision\":2,\"size\":1,\"value\":\"Mg==\",\"watch\":1}\n\
         {\"key\":\"zinke\",\"op\":\"PUT\",\"revision\":3,\"size\":0,\"value\":\"\",\"watch\":1}\n\
         {\"key\":\"zinke\",\"op\":\"PUT\",\"revision\":4,\"size\":3,\"watch\":2}\n\
         {\"key\":\"a.b\",\"op\":\"DEL\",\"revision\":5,\"size\":0,\"watch\":2}\n\
@@ -109,7 +116,10 @@ fn put(alloc: Global, value: &[u8]) -> Result<Request, KvError> {
     let name = key(alloc, "zinke")?;
     match Vec::from_slice(alloc, value) {
         Ok(value) => Ok(Request::Put { key: name, value }),
-        Err(AllocError) => Ok(Request::Put { key: name, value: Vec::from_slice(alloc, value)? }),
+        Err(AllocError) => Ok(Request::Put {
+            key: name,
+            value: Vec::from_slice(alloc, value)?,
+        }),
     }
 }
 

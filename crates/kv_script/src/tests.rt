@@ -139,28 +139,81 @@ fn options_are_read(rt: HostRuntime) -> Result<(), Fail> {
 fn faults(rt: HostRuntime) -> Result<(), Fail> {
     let alloc = rt.alloc();
     for line in [
-        "PUT a MQ==", "put a", "put a MQ", "put  a MQ==", "take 1 0", "take 1 1000001",
-        "get a 99999999999999999999", "get a 18446744073709551616",
-        "get a 000000000000000000001", "get a +1", "get a 1 2", "put .a MQ", "place",
-        "place a b", "seal x", "status x", "get\ta", "put a M===", "put a MR==", "put a MQ==MQ==",
-        "put a ", " put a -", "get a ", "get", "history", "keys", "watch", "take 1", "stop",
-        "stop x", "delete a x", "purge a 1 2", "update a -", "update a x -", "watch > latest",
-        "watch > meta meta", "watch > from=", "watch > from=x", "watch > from=1 from=1",
-        "watch > from=1 from=2", "watch > history history", "\u{e9}", " ",
+        "PUT a MQ==",
+        "put a",
+        "put a MQ",
+        "put  a MQ==",
+        "take 1 0",
+        "take 1 1000001",
+        "get a 99999999999999999999",
+        "get a 18446744073709551616",
+        "get a 000000000000000000001",
+        "get a +1",
+        "get a 1 2",
+        "put .a MQ",
+        "place",
+        "place a b",
+        "seal x",
+        "status x",
+        "get\ta",
+        "put a M===",
+        "put a MR==",
+        "put a MQ==MQ==",
+        "put a ",
+        " put a -",
+        "get a ",
+        "get",
+        "history",
+        "keys",
+        "watch",
+        "take 1",
+        "stop",
+        "stop x",
+        "delete a x",
+        "purge a 1 2",
+        "update a -",
+        "update a x -",
+        "watch > latest",
+        "watch > meta meta",
+        "watch > from=",
+        "watch > from=x",
+        "watch > from=1 from=1",
+        "watch > from=1 from=2",
+        "watch > history history",
+        "\u{e9}",
+        " ",
     ] {
         assert!(rt; refusal(alloc, line) == Some(KvError::BadCommand), "{line}");
     }
-    for line in ["put .a MQ==", "get a\0", "get a,b", "history a..b", "place *", "delete a* 1"] {
+    for line in [
+        "put .a MQ==",
+        "get a\0",
+        "get a,b",
+        "history a..b",
+        "place *",
+        "delete a* 1",
+    ] {
         assert!(rt; refusal(alloc, line) == Some(KvError::BadKey), "{line}");
     }
-    for line in ["keys a..b", "keys a,b", "watch a,,b", "watch a,", "watch a> history updates"] {
+    for line in [
+        "keys a..b",
+        "keys a,b",
+        "watch a,,b",
+        "watch a,",
+        "watch a> history updates",
+    ] {
         assert!(rt; refusal(alloc, line) == Some(KvError::BadFilter), "{line}");
     }
     for line in [
-        "watch > history updates", "watch > from=1 history", "watch > updates from=1",
+        "watch > history updates",
+        "watch > from=1 history",
+        "watch > updates from=1",
         "watch > history from=2 updates",
     ] {
-        assert!(rt; refusal(alloc, line) == Some(KvError::OptionsClash), "{line}");
+        assert!(rt;
+            refusal(alloc, line) == Some(KvError::OptionsClash),
+            "{line}"
+        );
     }
     assert!(rt; parse(alloc, b"get \xff").is_err());
     Ok(())
