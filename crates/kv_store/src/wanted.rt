@@ -18,7 +18,7 @@ impl Wanted for Filter {
     ghost wants_key = { λ filter. matches filter };
 
     fn wants(&self, key: &Key) -> bool {
-        self.matches(key)
+        Filter::matches(self, key)
     }
 }
 
@@ -26,6 +26,6 @@ impl Wanted for Filters {
     ghost wants_key = { λ filters. any_matches filters };
 
     fn wants(&self, key: &Key) -> bool {
-        self.matches(key)
+        Filters::matches(self, key)
     }
 }
