@@ -1,6 +1,7 @@
 -- The selected writes are those that the kept revisions of the keys name.
-use Rattle.std.proofs.Common.{◌≡◌, ℕ, ◌+◌, ◌<◌, Bool, true, false, cond, ◌&&◌, ◌||◌, ◌==◌, List, [], ◌∷◌, Option, Some, None, filter, refl, sym, ap, ◌∙◌, suc, inl, inr, ◌⊎◌, ⊎_elim, arith}
-use Rattle.std.specs.Prelude.{nat_le}
+use Rattle.std.proofs.Common.{◌≡◌, ℕ, ◌+◌, ◌<◌, Bool, true, false, cond, ◌&&◌, ◌||◌, ◌==◌, List, [], ◌∷◌, Option, Some, None, filter, refl, sym, subst, ap, ◌∙◌, suc, inl, inr, ◌⊎◌, ⊎_elim, arith}
+use Rattle.std.specs.Prelude.{nat_le, ◌↔◌}
+use Rattle.std.proofs.lemmas.Slice.Eq.{bytes_eq-Decides}
 use Rattle.std.specs.List.{Contains, last_or, list_any}
 use Rattle.std.specs.List.Sorted.{IsStrictlyIncreasing}
 use Rattle.std.specs.Option.{option_to_list, option_map, option_map_or}
@@ -13,7 +14,7 @@ use Rattle.kv_store.specs.Retained.{writes_of_key, last_write, since_purge, kept
 use Rattle.kv_store.specs.Selected.{selected, selected_revisions}
 use Rattle.kv_store.proofs.Keeping.{retained_of_key}
 use Rattle.kv_store.proofs.Lasts.{last_n_one, last_or-since_purge, last_or-last_n, last_or-map}
-use Rattle.kv_store.proofs.Members.{Contains-cases, Contains-none, Contains-from_filter, filter-filter}
+use Rattle.kv_store.proofs.Members.{Contains-cases, Contains-none, Contains-filter, Contains-from_filter, filter-filter}
 use Rattle.kv_store.proofs.Numbered.{CountsFrom, increasing_counted}
 
 -- ---- the latest writes
@@ -109,3 +110,24 @@ one_write n (u ∷ ws) v w c a b e = ⊎_elim (λ p. first p (Contains-cases u w
         let r : u.revision ≡ w.revision = ap (λ (x : Write). x.revision) q in
         absurd (omega (arith, c.0, r, e, revision_after (suc n) ws v c.1 k))
     later deeper k (inr m) = deeper k m
+
+-- ---- retained and kept
+
+module _ (h : ℕ) (acts : List Act) (counts : CountsFrom 1 (writes_of acts)) where
+  -- a retained write is kept of its key
+  pub retained_is_kept : (w : Write) → Contains (retained h acts) w → Contains (kept h w.key acts) w
+  retained_is_kept w m =
+      subst (λ ws. Contains ws w) (retained_of_key h w.key acts counts) (Contains-filter (λ v. bytes_eq v.key w.key) (retained h acts) w m ((bytes_eq-Decides w.key w.key).1 refl))
+
+  -- a write that is kept of a key is retained, and is of that key
+  pub kept_is_retained : (key : List ℕ) (w : Write) → Contains (kept h key acts) w → Contains (retained h acts) w × (w.key ≡ key)
+  kept_is_retained key w m =
+      let passes = Contains-from_filter (λ v. bytes_eq v.key key) (retained h acts) w (subst (λ ws. Contains ws w) (sym (retained_of_key h key acts counts)) m) in
+      (passes.0, (bytes_eq-Decides w.key key).0 passes.1)
+
+  -- the test of a write says whether it is kept of its key
+  pub is_kept_stands : (w : Write) → Contains (writes_of acts) w → (is_kept h acts w ≡ true) ↔ Contains (kept h w.key acts) w
+  is_kept_stands w m = (
+    (λ t. retained_is_kept w (Contains-filter (is_kept h acts) (writes_of acts) w m t)),
+    (λ k. (Contains-from_filter (is_kept h acts) (writes_of acts) w (kept_is_retained w.key w k).0).1),
+  )

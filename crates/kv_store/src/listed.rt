@@ -54,3 +54,6 @@ impl Version {
         self.keys_at(alloc, &revisions)
     }
 }
+
+#[cfg(test)]
+mod tests;
