@@ -1,10 +1,11 @@
 //! The configuration of a bucket.
 
-ghost use Rattle.std.specs.Prelude.{◌≡◌, OnOk, IfErr};
+ghost use Rattle.std.specs.Prelude.{◌≡◌, OnOk, IfErr, IfOk};
 ghost use Rattle.kv_keys.specs.Outcome.{Refuses};
 ghost use Rattle.kv_store.specs.Configuration.{IsLegal, configure, has_legal_numbers};
 
 use kv_keys::{KvError, is_name};
+use std::alloc::Global;
 use std::marker::Model;
 
 const MOST_HISTORY: u64 = 64;
@@ -46,6 +47,29 @@ impl Model for Config {
 }
 
 impl Config {
+    ghost use Rattle.kv_keys.specs.declared.error.KvError.TheVariants.{OutOfMemory};
+
+    /// The configuration of a bucket with this name: one entry of each key is kept, and the limits are the largest. The
+    /// name isn't checked.
+    pub fn named(alloc: Global, bucket: &str) -> Result<Config, KvError>
+        ensures ok { IfOk result (λ config. config ≡ record {
+          bucket = bucket.now;
+          history = 1;
+          value_limit = 1048576;
+          write_limit = 1000000;
+          revision_limit = 4294967295;
+        }) }
+        ensures err { IfErr result (λ e. e ≡ OutOfMemory) }
+    {
+        Ok(Config {
+            bucket: String::from_str(alloc, bucket)?,
+            history: 1,
+            value_limit: MOST_VALUE,
+            write_limit: MOST_WRITES,
+            revision_limit: MOST_REVISIONS,
+        })
+    }
+
     /// Whether each number is within its limits.
     fn has_legal_numbers(&self) -> bool
         ensures { result ≡ has_legal_numbers self.now }
