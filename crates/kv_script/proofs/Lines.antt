@@ -1,15 +1,13 @@
 -- The compact text of the JSON of each answer is the answer's text.
 use Rattle.std.proofs.Common.{◌≡◌, ℕ, List, [], ◌∷◌, Bool, true, false, map, codes, decimal, Option, Some, None, refl, ap}
 use Rattle.json.specs.Print.{quoted}
-use Rattle.serde_json.specs.Data.{boolean, string, object, array, Items, item, Members, no_members, member}
+use Rattle.serde_json.specs.Data.{boolean, string, object, item, Members, no_members}
 use Rattle.serde_json.specs.Written.{compact_text, has_float, members_have_float, items_have_float}
 use Rattle.serde_json.specs.View.{items_of}
 use Rattle.serde_json.proofs.OnLiterals.{serde_json_on_literals}
 use Rattle.kv_keys.specs.declared.error.KvError.{KvError}
 use Rattle.kv_keys.specs.declared.error.KvError.TheVariants.{OutOfMemory, BadBucket, BadConfig, BadKey, BadFilter, OptionsClash, ValueTooLarge, Sealed, JournalFull, KeyExists, WrongLastRevision, KeyNotFound, NoSuchWatch, TooManyWatches, NoReader, BadCommand, ReadFault, WriteFault, BadFloor, WatchBehind, Lagged}
 use Rattle.kv_store.specs.declared.status.Status.{Status}
-use Rattle.kv_store.specs.declared.write.Op.{Op}
-use Rattle.kv_store.specs.declared.write.Op.TheVariants.{Put, Delete, Purge}
 use Rattle.kv_watch.specs.Given.{Entry}
 use Rattle.kv_script.specs.Fields.{number_field, value_fields, entry_fields, entry_object, entry_items, key_items, watch_field, worker_field, sealed_fields, marker_fields, empty_fields, stopped_fields, status_fields, place_fields, detail_fields, refusal_fields, list_fields}
 use Rattle.kv_script.specs.Line.{Member, object_text, array_text, line}

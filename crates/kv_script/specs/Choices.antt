@@ -1,5 +1,5 @@
 -- What the words behind the filters of a watch ask for.
-use Rattle.std.specs.Prelude.{ℕ, ◌&&◌, ◌||◌, not, Bool, true, false, nat_lt, nat_le, nat_eq, if◌then◌else◌, List, [], ◌∷◌, drop, find, count_by, codes, bytes_eq, Option, Some, None, is_some, option_map, option_and_then}
+use Rattle.std.specs.Prelude.{ℕ, ◌&&◌, ◌||◌, not, Bool, true, false, nat_lt, nat_eq, if◌then◌else◌, List, drop, find, count_by, codes, bytes_eq, Option, Some, None, is_some, option_map, option_and_then}
 use Rattle.std.specs.List.{list_all, starts_with}
 use Rattle.kv_watch.specs.declared.options.Start.{Start}
 use Rattle.kv_watch.specs.declared.options.Start.TheVariants.{Latest, History, Updates, From}

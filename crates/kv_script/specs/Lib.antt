@@ -3,5 +3,6 @@ pub mod Choices
 pub mod Commands
 pub mod Fields
 pub mod Line
+pub mod Plain
 pub mod Text
 pub mod Words

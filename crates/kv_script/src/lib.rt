@@ -7,6 +7,7 @@ mod command;
 mod entries;
 mod grammar;
 mod json_line;
+pub mod laws;
 mod numbers;
 mod reads;
 mod refusals;
