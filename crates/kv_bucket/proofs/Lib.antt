@@ -1,5 +1,10 @@
 pub mod Numbers
-pub mod Growing
 pub mod Told
 pub mod Others
 pub mod Theorem
+pub mod Finds
+pub mod Representing
+pub mod Later
+pub mod Moving
+pub mod Lending
+pub mod Answering

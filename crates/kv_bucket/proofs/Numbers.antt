@@ -107,3 +107,14 @@ open_is (Some v) w h = by_flag v.is_open refl
         let here : Some v ≡ Some w = ap (λ b. cond b (Some v) None) (sym e) ∙ h in
         let same : v ≡ w = cc in (here, ap (λ (u : Watch). u.is_open) (sym same) ∙ e)
     by_flag false e = let none : None ≡ Some w = ap (λ b. cond b (Some v) None) (sym e) ∙ h in cc
+
+-- and stands one place before it
+pub at_get : (ws : List Watch) (i : ℕ) (w : Watch) → watch_at i ws ≡ Some w → slice_get ws (i - 1) ≡ Some w
+at_get ws zero w h = cc
+at_get ws (suc n) w h = ap (slice_get ws) (less_one n) ∙ sym (at_suc n ws) ∙ h
+
+-- a place set to what stands there
+pub set_get : {X : Type 0} (xs : List X) (i : ℕ) (x : X) → slice_get xs i ≡ Some x → slice_set xs i x ≡ xs
+set_get [] i x h = cc
+set_get (y ∷ xs) zero x h = let same : y ≡ x = cc in ap (λ z. z ∷ xs) (sym same)
+set_get (y ∷ xs) (suc i) x h = ap (λ zs. y ∷ zs) (set_get xs i x h)

@@ -1,12 +1,16 @@
 -- The watch theorem: what a watch that calls opened was handed.
-use Rattle.std.proofs.Common.{◌≡◌, ℕ, suc, zero, ◌+◌, ◌≤◌, List, [], ◌∷◌, ◌++◌, Option, Some, None, length, take, drop, refl, sym, ap, ◌∙◌, subst, arith, append_assoc}
+use Rattle.std.proofs.Common.{◌≡◌, ℕ, suc, zero, ◌+◌, ◌≤◌, List, [], ◌∷◌, ◌++◌, Option, Some, None, length, take, drop, refl, sym, ap, ◌∙◌, subst, arith, append_assoc, length-append}
 use Rattle.std.specs.List.{slice_get}
 use Rattle.std.specs.Option.{option_to_list}
-use Rattle.std.proofs.lemmas.List.{take-append-drop, take_all, length-take-le}
+use Rattle.std.proofs.lemmas.List.{take-append-drop, take_all, length-take-le, get_or_append_left}
+use Rattle.std.specs.List.Sorted.{IsStrictlyIncreasing}
+use Rattle.std.proofs.lemmas.List.Elements.{filter_map-append}
+use Rattle.kv_store.specs.Acceptance.{IsLawful}
 use Rattle.kv_store.specs.Acts.{Act, IsPrefix}
 use Rattle.kv_store.specs.Configuration.{Configuration}
 use Rattle.kv_watch.specs.declared.options.Options.{Options}
-use Rattle.kv_watch.specs.Given.{Item, AnEntry, EndMarker, given}
+use Rattle.kv_watch.specs.Given.{Item, AnEntry, EndMarker, given, revision_of, item_revisions}
+use Rattle.kv_watch.proofs.GivenLaws.{given_rises}
 use Rattle.kv_bucket.specs.declared.call.Call.{Call}
 use Rattle.kv_bucket.specs.declared.call.Call.TheVariants as ask
 use Rattle.kv_bucket.specs.Answers.{Watching, Empty, Ended, answer_item}
@@ -16,6 +20,12 @@ use Rattle.kv_bucket.specs.Told.{Told, TellsWatch, TellsOpened, TellsEachWatch}
 use Rattle.kv_bucket.proofs.Numbers.{at_past, open_is}
 use Rattle.kv_bucket.proofs.Others.{config_run, run-append, opened_is, leaves_run, none_after_stop, stopped_now}
 use Rattle.kv_bucket.proofs.Told.{told_run}
+
+-- the first numbers of a rising list rise
+increasing_left : (xs ys : List ℕ) → IsStrictlyIncreasing (xs ++ ys) → IsStrictlyIncreasing xs
+increasing_left xs ys h k l =
+    let both : length xs ≤ length (xs ++ ys) = omega (arith, length-append xs ys) in
+    rw (sym (get_or_append_left xs ys 0 k (omega arith)), sym (get_or_append_left xs ys 0 (k + 1) l)) (h k (omega arith))
 
 -- calls before, the opening of a watch, and calls after
 module _ (s : State) (before later : List Call) (filters : List (List ℕ)) (options : Options) (i : ℕ) (opens : answer_to (run s before) (ask.Watch filters options) ≡ Watching i) where
@@ -30,7 +40,7 @@ module _ (s : State) (before later : List Call) (filters : List (List ℕ)) (opt
 
   -- the watch as it is now
   abbrev Now : Type 0
-  Now = (v : Watch) × (watch_at i t.watches ≡ Some v) × (given_to t.config.history t.acts v ≡ given_it)
+  Now = (v : Watch) × (watch_at i t.watches ≡ Some v) × (given_to t.config.history t.acts v ≡ given_it) × (v.began ≡ (run s before).acts)
 
   now : Now
   now =
@@ -44,7 +54,11 @@ module _ (s : State) (before later : List Call) (filters : List (List ℕ)) (opt
             ∙ ap (λ (acts : List Act). given s.config.history acts t.acts v.filters v.options) left.2.began
             ∙ ap (λ (fs : List (List ℕ)). given s.config.history s₁.acts t.acts fs v.options) left.2.filters
             ∙ ap (λ (o : Options). given s.config.history s₁.acts t.acts filters o) left.2.options,
+        left.2.began,
       )
+
+  began_is : now.0.began ≡ (run s before).acts
+  began_is = now.3
 
   -- nothing was handed to the number before
   unknown : watch_at i s.watches ≡ None
@@ -71,6 +85,16 @@ module _ (s : State) (before later : List Call) (filters : List (List ℕ)) (opt
 
   pub told_counted : (v : Watch) × (watch_at i t.watches ≡ Some v) × (v.handed ≡ length (items_in i s all))
   told_counted = (now.0, now.1, sym (ap length told.first ∙ length-take-le now.0.handed (given_to t.config.history t.acts now.0) told.within))
+
+  -- no entry twice
+  pub told_once : IsLawful s.config t.acts → IsStrictlyIncreasing (item_revisions (items_in i s all))
+  told_once lawful =
+      let rest = told_prefix.0 in
+      let rises : IsStrictlyIncreasing (item_revisions (given s.config.history now.0.began t.acts filters options)) = given_rises s.config s.config.history now.0.began t.acts filters options lawful told.prefix in
+      let whole : IsStrictlyIncreasing (item_revisions given_it) = subst (λ (acts : List Act). IsStrictlyIncreasing (item_revisions (given s.config.history acts t.acts filters options))) began_is rises in
+      let parts : item_revisions given_it ≡ item_revisions (items_in i s all) ++ item_revisions rest =
+      ap item_revisions (sym told_prefix.1) ∙ filter_map-append revision_of (items_in i s all) rest in
+      increasing_left (item_revisions (items_in i s all)) (item_revisions rest) (subst IsStrictlyIncreasing parts whole)
 
   -- all of it where a take finds none
   pub told_all : answer_to t (ask.Take i) ≡ Empty → items_in i s all ≡ given_it
@@ -141,6 +165,7 @@ tells_opened s before later filters options i opens =
     record {
       prefix = told_prefix s before later filters options i opens;
       counted = counted;
+      once = told_once s before later filters options i opens;
       stopped = λ earlier rest n parts answer. (
           let ended = ended_all s (before ++ ask.Watch filters options ∷ later) i counted.0 counted.1 earlier rest n parts answer in
           (ended.0 ∙ counted.2, ended.1));

@@ -17,7 +17,7 @@ use Rattle.kv_bucket.specs.Answers.{answer_item}
 use Rattle.kv_bucket.specs.Runs.{run, item_in, item_for, items_in}
 use Rattle.kv_bucket.specs.State.{State, Watch, watch_at, empty, given_to, next_of, open_at, has_room, set_watch, add_watch, opened, handed_one, stopped, after_write, after_item, after_take, after_stop, answer_take, after, answer_to}
 use Rattle.kv_bucket.specs.Told.{Told, IsTold, TellsWatch}
-use Rattle.kv_bucket.proofs.Growing.{given-append, no_fewer_writes}
+use Rattle.kv_watch.proofs.GivenLaws.{given-append, no_fewer_writes}
 use Rattle.kv_bucket.proofs.Numbers.{at_set_same, at_set_other, at_push, at_push_some, open_is, take_push}
 
 -- one act more

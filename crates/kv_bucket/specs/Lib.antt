@@ -1,4 +1,6 @@
 pub mod Answers
+pub mod Held
 pub mod Runs
 pub mod State
+pub mod Stepping
 pub mod Told

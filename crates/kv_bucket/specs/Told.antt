@@ -1,8 +1,10 @@
 -- What a run of calls tells each watch.
 use Rattle.std.specs.Prelude.{◌≡◌, ℕ, ◌+◌, ◌≤◌, false, List, [], ◌∷◌, ◌++◌, Option, Some, None, ⊤, length, take, drop, slice_get}
+use Rattle.std.specs.List.Sorted.{IsStrictlyIncreasing}
+use Rattle.kv_store.specs.Acceptance.{IsLawful}
 use Rattle.kv_store.specs.Acts.{Act, IsPrefix}
 use Rattle.kv_watch.specs.declared.options.Options.{Options}
-use Rattle.kv_watch.specs.Given.{Item, given}
+use Rattle.kv_watch.specs.Given.{Item, given, item_revisions}
 use Rattle.kv_bucket.specs.declared.call.Call.{Call}
 use Rattle.kv_bucket.specs.declared.call.Call.TheVariants as ask
 use Rattle.kv_bucket.specs.Answers.{Answer, Watching, Ended}
@@ -39,12 +41,13 @@ pub record GoesOn (before watch : Watch) : Type 0 where
   pub stays_stopped : before.is_open ≡ false → watch.is_open ≡ false
   pub counts_no_more : before.is_open ≡ false → watch.handed ≡ before.handed
 
--- the watch theorem for one watch, which calls opened between the acts `began` and the acts `acts`: among the answers, the items from its takes are, in order, the first of what it is given by the acts so far; it counts them; and a stop of it answers how many they are, and none comes after
+-- the watch theorem for one watch, which calls opened between the acts `began` and the acts `acts`: among the answers, the items from its takes are, in order, the first of what it is given by the acts so far; it counts them; and a stop of it answers how many they are, and none comes after; and no entry comes twice, since the revisions of the entries rise where the acts are lawful
 pub record TellsOpened (s : State) (calls : List Call) (answers : List Answer) (began : List Act) (filters : List (List ℕ)) (options : Options) (number : ℕ) : Type 0 where
   pub prefix : IsPrefix (items_for number calls answers) (given s.config.history began (run s calls).acts filters options)
   pub counted : (watch : Watch) × (watch_at number (run s calls).watches ≡ Some watch) × (watch.handed ≡ length (items_for number calls answers))
   pub stopped : (earlier later : List Call) (handed : ℕ) → calls ≡ earlier ++ ask.Stop number ∷ later → slice_get answers (length earlier) ≡ Some (Ended handed) →
       (handed ≡ length (items_for number calls answers)) × (items_for number later (drop (length earlier + 1) answers) ≡ [])
+  pub once : IsLawful s.config (run s calls).acts → IsStrictlyIncreasing (item_revisions (items_for number calls answers))
 
 -- the watch theorem, for each watch that the calls opened
 abbrev pub TellsEachWatch : State → List Call → List Answer → Type 0

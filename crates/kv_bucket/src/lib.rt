@@ -1,13 +1,21 @@
 //! A bucket: what was accepted, and the watches that are open.
 #![tactic(auto)]
 
+mod bucket;
 mod call;
+mod held;
 pub mod laws;
 mod reply;
 mod seen;
 mod stopped;
+mod watching;
+mod writing;
 
+pub use bucket::Bucket;
 pub use call::Call;
+pub use kv_keys::{Filter, Filters, Key, KvError};
+pub use kv_store::{Config, Op, Request, Status, Version, Write};
+pub use kv_watch::{Options, Shown, Start, Taken};
 pub use reply::Reply;
 pub use seen::Seen;
 pub use stopped::Stopped;

@@ -1,5 +1,8 @@
 //! What a bucket answers.
 
+ghost use Rattle.std.specs.Prelude.{◌≡◌, IfErr, IfOk};
+ghost use Rattle.kv_keys.specs.declared.error.KvError.TheVariants.{OutOfMemory};
+
 use crate::seen::Seen;
 use crate::stopped::Stopped;
 use kv_keys::{Key, KvError};
@@ -24,4 +27,15 @@ pub enum Reply {
     Stopped(Stopped),
     /// Never with want of memory: then there is no reply.
     Refused(KvError),
+}
+
+/// The reply to a call that was refused. Want of memory is no reply.
+pub(crate) fn refusal(error: KvError) -> Result<Reply, KvError>
+    ensures ok { IfOk result (λ reply. (reply ≡ Reply.Refused error) × (error ≡ OutOfMemory → ⊥)) }
+    ensures err { IfErr result (λ e. (e ≡ OutOfMemory) × (error ≡ OutOfMemory)) }
+{
+    if error == KvError::OutOfMemory {
+        return Err(error);
+    }
+    Ok(Reply::Refused(error))
 }

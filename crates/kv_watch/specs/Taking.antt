@@ -1,13 +1,18 @@
 -- What a take hands out, as an item of what the watch is given.
 use Rattle.std.specs.Prelude.{Bool, Option, Some, None}
 use Rattle.kv_store.specs.Acts.{Write}
+use Rattle.kv_watch.specs.declared.shown.Shown.{Shown}
 use Rattle.kv_watch.specs.declared.taken.Taken.{Taken}
 use Rattle.kv_watch.specs.declared.taken.Taken.TheVariants as taken
-use Rattle.kv_watch.specs.Given.{Item, AnEntry, EndMarker, entry_of}
+use Rattle.kv_watch.specs.Given.{Entry, Item, AnEntry, EndMarker, entry_of}
+
+-- the entry that is lent of a write
+abbrev pub entry_shown : Shown → Entry
+entry_shown shown = entry_of shown.headers_only shown.write.now
 
 -- the item that a take hands out; none where it is Empty
 abbrev pub item_taken : Taken → Option Item
-item_taken (taken.Entry entry) = Some (AnEntry entry)
+item_taken (taken.Entry shown) = Some (AnEntry (entry_shown shown))
 item_taken taken.Marker = Some EndMarker
 item_taken taken.Empty = None
 

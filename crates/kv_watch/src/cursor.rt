@@ -152,6 +152,13 @@ impl Cursor {
         }
     }
 
+    /// What its watch begins with, and how it shows writes.
+    pub fn options(&self) -> Options
+        ensures { result ≡ self.now.options }
+    {
+        self.options
+    }
+
     /// How many items were handed out, the end marker counted.
     pub fn handed(&self) -> u64
         ensures value { result ≡ self.now.handed }

@@ -5,30 +5,26 @@ ghost use Rattle.std.specs.Option.{option_copied};
 ghost use Rattle.kv_store.specs.Acts.{is_put};
 ghost use Rattle.kv_watch.specs.Given.{entry_of};
 ghost use Rattle.kv_watch.specs.Showing.{is_shown};
+ghost use Rattle.kv_watch.specs.Taking.{entry_shown};
 
 use crate::options::Options;
 use kv_keys::{Filters, Key};
 use kv_store::{Op, Write};
-use std::marker::Model;
 
 /// A write as a watch shows it, lent from the version: nothing is copied.
+///
+/// Contracts see the entry that it shows as `entry_shown`. It has no model of its own, since a call that lends it from what
+/// it changes can then say what is left behind.
 #[derive(Drop)]
 pub struct Shown<'a> {
     write: &'a Write,
     headers_only: bool,
 }
 
-impl<'a> Model for Shown<'a> {
-    ghost use Rattle.kv_watch.specs.Given.{Entry, entry_of};
-
-    ghost Value = { Entry };
-
-    ghost view = { λ s. entry_of s.headers_only s.write.now };
-}
-
 impl<'a> Shown<'a> {
-    pub(crate) fn new(write: &'a Write, headers_only: bool) -> Shown<'a>
-        ensures { result ≡ entry_of headers_only write.now }
+    /// A write with its value or, where only headers are shown, without. A marker has none.
+    pub fn new(write: &'a Write, headers_only: bool) -> Shown<'a>
+        ensures { entry_shown result ≡ entry_of headers_only write.now }
     {
         Shown {
             write,
@@ -38,35 +34,35 @@ impl<'a> Shown<'a> {
 
     /// The key that was written.
     pub fn key(&self) -> &'a Key
-        ensures { result.now ≡ self.now.key }
+        ensures { result.now ≡ (entry_shown self.now).key }
     {
         self.write.key()
     }
 
     /// What the write did.
     pub fn op(&self) -> Op
-        ensures { result ≡ self.now.op }
+        ensures { result ≡ (entry_shown self.now).op }
     {
         self.write.op()
     }
 
     /// The revision of the write.
     pub fn revision(&self) -> u64
-        ensures { result ≡ self.now.revision }
+        ensures { result ≡ (entry_shown self.now).revision }
     {
         self.write.revision()
     }
 
     /// How many bytes the value has, also where it isn't shown; 0 for a marker.
     pub fn size(&self) -> u64
-        ensures { result ≡ self.now.size }
+        ensures { result ≡ (entry_shown self.now).size }
     {
         self.write.value().len() as u64
     }
 
     /// The value. There is none for a marker, and where the watch asked for no values.
     pub fn value(&self) -> Option<&'a [u8]>
-        ensures { option_copied result ≡ self.now.value }
+        ensures { option_copied result ≡ (entry_shown self.now).value }
     {
         if is_put(self.write.op()) && !self.headers_only {
             return Some(self.write.value());

@@ -1,0 +1,228 @@
+-- What each step keeps of a bucket that represents a state.
+use Rattle.std.proofs.Common.{◌≡◌, ℕ, ◌+◌, ◌-◌, ⊎_elim, Bool, true, false, not, cond, eqb, List, [], ◌∷◌, ◌++◌, Option, Some, None, length, filter, refl, sym, ap, ◌∙◌, subst, arith, length-append, length-set}
+use Rattle.std.specs.Prelude.{slice_set}
+use Rattle.std.specs.List.{slice_get, position_or_len}
+use Rattle.std.specs.Option.{option_len, option_and_then}
+use Rattle.std.proofs.lemmas.Bool.Decides.{eqb_tells}
+use Rattle.std.proofs.lemmas.Bool.{ne_eqb, eq-eqb, eqb-true}
+use Rattle.kv_store.specs.Acts.{Act, IsPrefix}
+use Rattle.kv_store.specs.Standing.{StandsFor}
+use Rattle.kv_store.specs.Stored.{Stored}
+use Rattle.kv_watch.specs.Following.{Following, InPlace}
+use Rattle.kv_bucket.specs.Held.{Holding, Bucketed, Follows, IsHeld, Represents, has_number, held_at}
+use Rattle.kv_bucket.specs.State.{State, Watch, watch_at, add_act, add_watch, set_watch, stopped, if_open, open_at}
+use Rattle.kv_bucket.proofs.Finds.{find_set, find_set_other, count_set, count_fewer, find_push, find_push_other, count_push, find_filter, find_none_left, filter_filter_same, filter_filter_none, length_parts}
+use Rattle.kv_bucket.proofs.Numbers.{at_set_same, at_set_other, at_push_here, at_push_other, at_past, at_get, open_is}
+
+-- what is held goes on for a later version
+abbrev pub GoesOnLater : Type 0
+GoesOnLater = (began acts later : List Act) (n : ℕ) (base version newer : Stored) (cursor : Following) → InPlace began acts n base version cursor → StandsFor later newer → IsPrefix acts later → newer.config ≡ version.config → InPlace began later n base newer cursor
+
+held_later : GoesOnLater → (acts later : List Act) (version newer : Stored) (held : Option Holding) (watch : Option Watch) → StandsFor later newer → IsPrefix acts later → newer.config ≡ version.config → IsHeld acts version held watch → IsHeld later newer held watch
+held_later on acts later version newer None None stands p same is = tt
+held_later on acts later version newer (Some held) None stands p same is = is
+held_later on acts later version newer None (Some watch) stands p same is = is
+held_later on acts later version newer (Some held) (Some watch) stands p same is = record {
+  filters = is.filters;
+  options = is.options;
+  place = on watch.began acts later watch.handed held.base version newer held.cursor is.place stands p same;
+}
+
+-- one act more
+pub represents_act : GoesOnLater → (state : State) (bucket : Bucketed) (act : Act) (version : Stored) → Represents state bucket → version.config ≡ bucket.version.config → StandsFor (state.acts ++ act ∷ []) version → Represents (add_act act state) (record bucket { version = version })
+represents_act on state bucket act version r same stands = record {
+  config = same ∙ r.config;
+  version = stands;
+  opened = r.opened;
+  held = λ n. held_later on state.acts (state.acts ++ act ∷ []) bucket.version version (held_at n bucket.watches) (open_at n state) stands (act ∷ [], refl) same (r.held n);
+  once = r.once;
+  open_count = r.open_count;
+}
+
+-- what is held where a watch is open, and where none is
+pub held_some : (acts : List Act) (version : Stored) (held : Option Holding) (watch : Option Watch) (x : Holding) → IsHeld acts version held watch → held ≡ Some x → (w : Watch) × (watch ≡ Some w) × Follows acts version x w
+held_some acts version None watch x is e = cc
+held_some acts version (Some y) None x is e = absurd is
+held_some acts version (Some y) (Some w) x is e = let same : y ≡ x = cc in (w, refl, subst (λ z. Follows acts version z w) same is)
+
+pub held_none : (acts : List Act) (version : Stored) (held : Option Holding) (watch : Option Watch) → IsHeld acts version held watch → held ≡ None → watch ≡ None
+held_none acts version None None is e = refl
+held_none acts version None (Some w) is e = absurd is
+held_none acts version (Some y) watch is e = cc
+
+none_held : (acts : List Act) (version : Stored) (held : Option Holding) (watch : Option Watch) → IsHeld acts version held watch → watch ≡ None → held ≡ None
+none_held acts version None watch is e = refl
+none_held acts version (Some y) None is e = absurd is
+none_held acts version (Some y) (Some w) is e = cc
+
+-- whether a number is that of what is held
+other_number : (held : Holding) (n m : ℕ) → held.number ≡ m → (n ≡ m → ⊥) → has_number n held ≡ false
+other_number held n m e ne = ne_eqb held.number n (λ f. ne (sym f ∙ e))
+
+own_number : (held : Holding) (n : ℕ) → held.number ≡ n → has_number n held ≡ true
+own_number held n e = eq-eqb held.number n e
+
+-- one watch more
+module _ (state : State) (bucket : Bucketed) (new : Watch) (held : Holding) (r : Represents state bucket) (number : held.number ≡ length state.watches + 1) (opens : new.is_open ≡ true) (follows : Follows state.acts bucket.version held new) where
+  abbrev grown : State
+  grown = add_watch new state
+
+  abbrev more : List Holding
+  more = bucket.watches ++ held ∷ []
+
+  none_yet : open_at (length state.watches + 1) state ≡ None
+  none_yet = ap (option_and_then if_open) (at_past state.watches)
+
+  new_open : open_at (length state.watches + 1) grown ≡ Some new
+  new_open = ap (option_and_then if_open) (at_push_here state.watches new) ∙ ap (λ b. cond b (Some new) None) opens
+
+  other_open : (n : ℕ) → (n ≡ length state.watches + 1 → ⊥) → open_at n grown ≡ open_at n state
+  other_open n ne = ap (option_and_then if_open) (at_push_other state.watches n new ne)
+
+  abbrev Both : ℕ → Type 0
+  Both n = IsHeld state.acts bucket.version (held_at n more) (open_at n grown) × (length (filter (has_number n) more) ≡ option_len (open_at n grown))
+
+  here : Both (length state.watches + 1)
+  here =
+      let n = length state.watches + 1 in
+      let was : held_at n bucket.watches ≡ None = none_held state.acts bucket.version (held_at n bucket.watches) (open_at n state) (r.held n) none_yet in
+      let own = own_number held n number in
+      let count : length (filter (has_number n) bucket.watches) ≡ 0 = r.once n ∙ ap option_len none_yet in
+      let last : length (filter (has_number n) (held ∷ [])) ≡ 1 = rw own refl in (
+        rw (find_push (has_number n) bucket.watches held was own, new_open) follows,
+        rw new_open (count_push (has_number n) bucket.watches held ∙ omega (arith, count, last)),
+      )
+
+  elsewhere : (n : ℕ) → (n ≡ length state.watches + 1 → ⊥) → Both n
+  elsewhere n ne =
+      let other = other_number held n (length state.watches + 1) number ne in
+      let last : length (filter (has_number n) (held ∷ [])) ≡ 0 = rw other refl in (
+        rw (find_push_other (has_number n) bucket.watches held other, other_open n ne) (r.held n),
+        rw (other_open n ne) (omega (arith, count_push (has_number n) bucket.watches held, last, r.once n)),
+      )
+
+  both : (n : ℕ) → Both n
+  both n = ⊎_elim (λ (e : (eqb n (length state.watches + 1) ≡ true) × (n ≡ length state.watches + 1)). subst Both (sym e.1) here) (λ (e : (eqb n (length state.watches + 1) ≡ false) × (n ≡ length state.watches + 1 → ⊥)). elsewhere n e.1) (eqb_tells n (length state.watches + 1))
+
+  new_count : length (filter (λ (w : Watch). w.is_open) (new ∷ [])) ≡ 1
+  new_count = ap (λ b. length (cond b (new ∷ []) [])) opens
+
+  pub represents_watch : Represents grown (record bucket { watches = more; opened = bucket.opened + 1 })
+  represents_watch = record {
+    config = r.config;
+    version = r.version;
+    opened = omega (arith, r.opened, length-append state.watches (new ∷ []));
+    held = λ n. (both n).0;
+    once = λ n. (both n).1;
+    open_count = omega (arith, r.open_count, length-append bucket.watches (held ∷ []), count_push (λ (w : Watch). w.is_open) state.watches new, new_count);
+  }
+
+-- one watch that is open moved on
+module _ (state : State) (bucket : Bucketed) (i : ℕ) (was now : Holding) (w v : Watch) (r : Represents state bucket)
+    (stands : slice_get bucket.watches (position_or_len (has_number i) bucket.watches) ≡ Some was) (was_number : was.number ≡ i) (number : now.number ≡ i) (is : open_at i state ≡ Some w) (opens : v.is_open ≡ true)
+    (follows : Follows state.acts bucket.version now v) where
+  abbrev moved : State
+  moved = set_watch i v state
+
+  abbrev place : ℕ
+  place = position_or_len (has_number i) bucket.watches
+
+  abbrev changed : List Holding
+  changed = slice_set bucket.watches place now
+
+  at_i : (watch_at i state.watches ≡ Some w) × (w.is_open ≡ true)
+  at_i = open_is (watch_at i state.watches) w is
+
+  same_open : open_at i moved ≡ Some v
+  same_open = ap (option_and_then if_open) (at_set_same state.watches i w v at_i.0) ∙ ap (λ b. cond b (Some v) None) opens
+
+  other_still : (n : ℕ) → (n ≡ i → ⊥) → open_at n moved ≡ open_at n state
+  other_still n ne = ap (option_and_then if_open) (at_set_other state.watches n i w v at_i.0 ne)
+
+  same_test : (n : ℕ) → has_number n now ≡ has_number n was
+  same_test n = ap (λ m. eqb m n) (number ∙ sym was_number)
+
+  abbrev Moved : ℕ → Type 0
+  Moved n = IsHeld state.acts bucket.version (held_at n changed) (open_at n moved) × (length (filter (has_number n) changed) ≡ option_len (open_at n moved))
+
+  moved_here : Moved i
+  moved_here = (
+    rw (find_set (has_number i) bucket.watches was now stands (own_number now i number), same_open) follows,
+    rw same_open (count_set (has_number i) bucket.watches place was now stands (same_test i) ∙ r.once i ∙ ap option_len is),
+  )
+
+  moved_elsewhere : (n : ℕ) → (n ≡ i → ⊥) → Moved n
+  moved_elsewhere n ne = (
+    rw (find_set_other (has_number n) bucket.watches place was now stands (other_number was n i was_number ne) (other_number now n i number ne), other_still n ne) (r.held n),
+    rw (other_still n ne) (count_set (has_number n) bucket.watches place was now stands (same_test n) ∙ r.once n),
+  )
+
+  moved_all : (n : ℕ) → Moved n
+  moved_all n = ⊎_elim (λ (e : (eqb n i ≡ true) × (n ≡ i)). subst Moved (sym e.1) moved_here) (λ (e : (eqb n i ≡ false) × (n ≡ i → ⊥)). moved_elsewhere n e.1) (eqb_tells n i)
+
+  pub represents_moved : Represents moved (record bucket { watches = changed })
+  represents_moved = record {
+    config = r.config;
+    version = r.version;
+    opened = r.opened ∙ sym (length-set state.watches (i - 1) v);
+    held = λ n. (moved_all n).0;
+    once = λ n. (moved_all n).1;
+    open_count = length-set bucket.watches place now ∙ r.open_count ∙ sym (count_set (λ (u : Watch). u.is_open) state.watches (i - 1) w v (at_get state.watches i w at_i.0) (opens ∙ sym at_i.1));
+  }
+
+-- one watch that is open stopped
+module _ (state : State) (bucket : Bucketed) (i : ℕ) (w : Watch) (r : Represents state bucket) (is : open_at i state ≡ Some w) where
+  abbrev ended : State
+  ended = set_watch i (stopped w) state
+
+  abbrev kept_watches : List Holding
+  kept_watches = filter (λ held. not (has_number i held)) bucket.watches
+
+  at_it : (watch_at i state.watches ≡ Some w) × (w.is_open ≡ true)
+  at_it = open_is (watch_at i state.watches) w is
+
+  none_now : open_at i ended ≡ None
+  none_now = ap (option_and_then if_open) (at_set_same state.watches i w (stopped w) at_it.0)
+
+  other_now : (n : ℕ) → (n ≡ i → ⊥) → open_at n ended ≡ open_at n state
+  other_now n ne = ap (option_and_then if_open) (at_set_other state.watches n i w (stopped w) at_it.0 ne)
+
+  own_goes : (held : Holding) → not (has_number i held) ≡ true → has_number i held ≡ false
+  own_goes held e = by_test (has_number i held) e
+    where
+      by_test : (b : Bool) → not b ≡ true → b ≡ false
+      by_test true e = cc
+      by_test false e = refl
+
+  other_stays : (n : ℕ) → (n ≡ i → ⊥) → (held : Holding) → has_number n held ≡ true → not (has_number i held) ≡ true
+  other_stays n ne held e = rw (other_number held i n (eqb-true held.number n e) (λ f. ne (sym f))) refl
+
+  abbrev Ended : ℕ → Type 0
+  Ended n = IsHeld state.acts bucket.version (held_at n kept_watches) (open_at n ended) × (length (filter (has_number n) kept_watches) ≡ option_len (open_at n ended))
+
+  ended_here : Ended i
+  ended_here = (
+    rw (find_none_left (has_number i) (λ held. not (has_number i held)) bucket.watches own_goes, none_now) tt,
+    rw (filter_filter_none (has_number i) (λ held. not (has_number i held)) bucket.watches own_goes, none_now) refl,
+  )
+
+  ended_elsewhere : (n : ℕ) → (n ≡ i → ⊥) → Ended n
+  ended_elsewhere n ne = (
+    rw (find_filter (has_number n) (λ held. not (has_number i held)) bucket.watches (other_stays n ne), other_now n ne) (r.held n),
+    rw (filter_filter_same (has_number n) (λ held. not (has_number i held)) bucket.watches (other_stays n ne), other_now n ne) (r.once n),
+  )
+
+  ended_all : (n : ℕ) → Ended n
+  ended_all n = ⊎_elim (λ (e : (eqb n i ≡ true) × (n ≡ i)). subst Ended (sym e.1) ended_here) (λ (e : (eqb n i ≡ false) × (n ≡ i → ⊥)). ended_elsewhere n e.1) (eqb_tells n i)
+
+  pub represents_stopped : Represents ended (record bucket { watches = kept_watches })
+  represents_stopped =
+      let one : length (filter (has_number i) bucket.watches) ≡ 1 = r.once i ∙ ap option_len is in
+      record {
+        config = r.config;
+        version = r.version;
+        opened = r.opened ∙ sym (length-set state.watches (i - 1) (stopped w));
+        held = λ n. (ended_all n).0;
+        once = λ n. (ended_all n).1;
+        open_count = omega (arith, one, length_parts (has_number i) bucket.watches, r.open_count, count_fewer (λ (u : Watch). u.is_open) state.watches (i - 1) w (stopped w) (at_get state.watches i w at_it.0) at_it.1 refl);
+      }

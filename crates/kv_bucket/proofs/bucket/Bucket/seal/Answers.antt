@@ -1,0 +1,10 @@
+use Rattle.std.proofs.Common.{refl, ap}
+use Rattle.kv_store.specs.Acts.{Seal}
+use Rattle.kv_store.specs.Stored.{Stored}
+use Rattle.kv_bucket.proofs.Later.{later}
+use Rattle.kv_bucket.proofs.Representing.{represents_act}
+use Rattle.kv_bucket.proofs.bucket.Bucket.seal.Goals as goal
+
+pub returns-clause-ok : goal.returns-clause-ok
+returns-clause-ok c = rw (← c.self.view_is) (λ state r.
+    (refl, represents_act later state _ Seal c.in_ok-next.next r (ap (λ (v : Stored). v.config) c.in_ok-next.ensures.ok) (c.in_ok-next.ensures.stands state.acts r.version)))

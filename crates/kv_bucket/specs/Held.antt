@@ -1,0 +1,70 @@
+-- Which states of the model a bucket represents.
+use Rattle.std.specs.Prelude.{◌≡◌, ℕ, Bool, List, Option, Some, None, ⊤, length, ◌==◌, filter}
+use Rattle.std.specs.List.{find}
+use Rattle.std.specs.Option.{option_len, option_map}
+use Rattle.kv_store.specs.Acts.{Act}
+use Rattle.kv_store.specs.Standing.{StandsFor}
+use Rattle.kv_store.specs.Stored.{Stored, write_at}
+use Rattle.kv_watch.specs.declared.event.Event.{Event}
+use Rattle.kv_watch.specs.declared.event.Event.TheVariants as events
+use Rattle.kv_watch.specs.Following.{Following, InPlace}
+use Rattle.kv_watch.specs.Given.{Item, AnEntry, EndMarker, entry_of, event_of}
+use Rattle.kv_bucket.specs.State.{State, Watch, open_at, open_count, next_of, handed_one}
+
+-- a watch that is held: its number, the version when it was opened, and its cursor
+pub record Holding : Type 0 where
+  pub number : ℕ
+  pub base : Stored
+  pub cursor : Following
+
+-- what a bucket holds: its version, the open watches, and how many were ever opened
+pub record Bucketed : Type 0 where
+  pub version : Stored
+  pub watches : List Holding
+  pub opened : ℕ
+
+-- what is held stands for an open watch: its cursor shows what the watch does, and is in place for the version of its beginning and the present one, behind as many items as the watch was handed
+pub record Follows (acts : List Act) (version : Stored) (holding : Holding) (watch : Watch) : Type 0 where
+  pub filters : holding.cursor.filters ≡ watch.filters
+  pub options : holding.cursor.options ≡ watch.options
+  pub place : InPlace watch.began acts watch.handed holding.base version holding.cursor
+
+abbrev pub has_number : ℕ → Holding → Bool
+has_number number holding = holding.number == number
+
+-- what is held of a number
+abbrev pub held_at : ℕ → List Holding → Option Holding
+held_at number watches = find (has_number number) watches
+
+-- something is held of a watch exactly where it is open
+abbrev pub IsHeld : List Act → Stored → Option Holding → Option Watch → Type 0
+IsHeld acts version None None = ⊤
+IsHeld acts version (Some holding) None = ⊥
+IsHeld acts version None (Some watch) = ⊥
+IsHeld acts version (Some holding) (Some watch) = Follows acts version holding watch
+
+-- a bucket represents a state: its version stands for the acts under the state's configuration, it has opened as many watches, and what it holds stands for those that are open, each once
+pub record Represents (state : State) (bucket : Bucketed) : Type 0 where
+  pub config : bucket.version.config ≡ state.config
+  pub version : StandsFor state.acts bucket.version
+  pub opened : bucket.opened ≡ length state.watches
+  pub held : (number : ℕ) → IsHeld state.acts bucket.version (held_at number bucket.watches) (open_at number state)
+  pub once : (number : ℕ) → length (filter (has_number number) bucket.watches) ≡ option_len (open_at number state)
+  pub open_count : length bucket.watches ≡ open_count state.watches
+
+-- a watch after a take that handed out an item, or none
+abbrev pub after_handed : Watch → Option Item → Watch
+after_handed watch None = watch
+after_handed watch (Some item) = handed_one watch
+
+-- what a take does to a held watch of which it tells an event: it keeps the number, and wherever that watch stood for one, the event is that of the item that is handed next, if any, and it stands behind that item
+abbrev pub IsMoved : Stored → Holding → Option Event → Holding → Type 0
+IsMoved version held event new = (new.number ≡ held.number)
+    × ((acts : List Act) (watch : Watch) → Follows acts version held watch →
+    (event ≡ option_map event_of (next_of version.config.history acts watch)) × Follows acts version new (after_handed watch (next_of version.config.history acts watch)))
+
+-- the item of an event, with the write that the version stores of its revision
+abbrev pub lent : Bool → Option Event → Stored → Option Item
+lent headers_only None version = None
+lent headers_only (Some events.Marker) version = Some EndMarker
+lent headers_only (Some (events.Entry revision)) version = option_map (λ w. AnEntry (entry_of headers_only w)) (write_at revision version)

@@ -1,0 +1,66 @@
+//! A bucket: its version, and the watches that are open.
+
+ghost use Rattle.std.specs.Prelude.{◌≡◌, length, IfErr, IfOk};
+ghost use Rattle.kv_keys.specs.Outcome.{Refuses};
+ghost use Rattle.kv_store.specs.Configuration.{configure};
+ghost use Rattle.kv_store.specs.Standing.{StandsFor};
+ghost use Rattle.kv_bucket.specs.Held.{Represents};
+ghost use Rattle.kv_bucket.specs.State.{State, empty, open_count};
+
+use crate::held::Held;
+use kv_keys::KvError;
+use kv_store::{Config, Version};
+use std::alloc::Global;
+use std::marker::Model;
+
+/// A bucket: its version, and at most 64 watches that are open. It keeps the allocator that it was opened with.
+///
+/// Contracts say which states of the model it represents, and that each call is one step of the model.
+#[derive(Drop)]
+pub struct Bucket {
+    pub(crate) version: Version,
+    pub(crate) watches: Vec<Held>,
+    pub(crate) opened: u64,
+    pub(crate) alloc: Global,
+}
+
+impl Model for Bucket {
+    ghost use Rattle.kv_bucket.specs.Held.{Bucketed};
+
+    ghost Value = { Bucketed };
+
+    ghost view = { λ b. record { version = b.version; watches = b.watches.items; opened = b.opened } };
+}
+
+impl Bucket {
+    /// A bucket with no writes and no watches. The name is checked before the numbers, and both before any request
+    /// for memory.
+    pub fn open(alloc: Global, config: &Config) -> Result<Bucket, KvError>
+        ensures ok { IfOk result (λ bucket. Represents (empty config.now) bucket) }
+        ensures refused { IfErr result (λ e. Refuses e (configure config.now)) }
+    {
+        let version = Version::empty(alloc, config)?;
+        Ok(Bucket {
+            version,
+            watches: Vec::new(alloc),
+            opened: 0,
+            alloc,
+        })
+    }
+
+    /// The version with all that was accepted.
+    pub fn version(&self) -> &Version
+        ensures value { result.now ≡ self.now.version }
+        ensures acts { (state : State) → Represents state self.now → (result.now.config ≡ state.config) × StandsFor state.acts result.now }
+    {
+        &self.version
+    }
+
+    /// How many watches are open.
+    pub fn watches(&self) -> u64
+        ensures value { result ≡ length self.now.watches }
+        ensures open { (state : State) → Represents state self.now → result ≡ open_count state.watches }
+    {
+        self.watches.len() as u64
+    }
+}
