@@ -5,6 +5,7 @@ mod copies;
 mod deed;
 mod front;
 mod history;
+pub mod laws;
 mod publisher;
 mod reader;
 mod receipt;
