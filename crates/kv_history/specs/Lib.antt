@@ -1,4 +1,5 @@
 pub mod Deeds
+pub mod Fed
 pub mod Feeding
 pub mod History
 pub mod Known

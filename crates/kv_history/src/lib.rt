@@ -3,6 +3,7 @@
 
 mod copies;
 mod deed;
+mod feed;
 mod front;
 mod history;
 pub mod laws;
@@ -11,9 +12,11 @@ mod reader;
 mod receipt;
 mod rule;
 mod shelf;
+mod stopped;
 
 pub use copies::Copies;
 pub use deed::Deed;
+pub use feed::Feed;
 pub use front::{Front, Glimpse};
 pub use history::{Blank, Head, LiveName, Note, Sight};
 pub use publisher::Publisher;
@@ -21,3 +24,4 @@ pub use reader::Reader;
 pub use receipt::Receipt;
 pub use rule::{Published, View};
 pub use shelf::Shelf;
+pub use stopped::Stopped;

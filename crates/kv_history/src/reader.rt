@@ -23,7 +23,7 @@ use std::marker::Model;
 /// A reader of the opening N. It takes no lock. Contracts see it as the acts that it has seen, and those that it was told of.
 #[derive(Drop)]
 pub struct Reader<N: LiveName> {
-    pub(crate) alloc: Global,
+    alloc: Global,
     seat: Option<Seat<Shelf, View, Published<N>>>,
     told: Front<N>,
     empty: Shelf,
@@ -93,6 +93,10 @@ impl<N: LiveName> Reader<N> {
                 Err(KvError::NoReader)
             }
         }
+    }
+
+    pub(crate) fn alloc(&self) -> Global {
+        self.alloc
     }
 
     /// The empty version, as a shelf.
