@@ -1,4 +1,5 @@
 pub mod Adding
+pub mod Feeds
 pub mod Follow
 pub mod Notes
 pub mod Prefixes

@@ -1,10 +1,12 @@
 //! Feeds: watches outside the lock.
 
-ghost use Rattle.std.specs.Prelude.{◌≡◌, ◌≤◌, ◌↔◌, [], ⊤, None, IfOk, IfErr, length};
+ghost use Rattle.std.specs.Prelude.{◌≡◌, ◌+◌, ◌≤◌, ◌↔◌, List, [], ⊤, None, IfOk, IfErr, length, slice_get};
 ghost use Rattle.std.specs.Borrow.{sem, follows_so};
+ghost use Rattle.std.specs.Option.{option_len};
 ghost use mathlib.Core.Option.{none};
 ghost use Rattle.kv_keys.specs.declared.error.KvError.TheVariants.{OutOfMemory};
-ghost use Rattle.kv_store.specs.Acts.{IsPrefix};
+ghost use Rattle.kv_store.specs.Acts.{Act, IsPrefix};
+ghost use Rattle.kv_watch.specs.Given.{given};
 ghost use Rattle.kv_watch.specs.Following.{InPlace};
 ghost use Rattle.kv_watch.specs.Taking.{item_taken};
 ghost use Rattle.kv_history.specs.Fed.{acts_on, opened};
@@ -18,7 +20,6 @@ use crate::receipt::Receipt;
 use crate::shelf::Shelf;
 use crate::stopped::Stopped;
 use kv_keys::{Filters, KvError};
-use kv_store::Version;
 use kv_watch::{Cursor, Options, Taken};
 use std::alloc::Global;
 use std::marker::Model;
@@ -28,9 +29,15 @@ use std::marker::Model;
 #[derive(Drop)]
 pub struct Feed<N: LiveName> {
     reader: Reader<N>,
+    held: Held,
+    cursor: Cursor,
+}
+
+// What a feed was opened on, and what it went on to: one field, which `take` lends from.
+#[derive(Drop)]
+struct Held {
     base: Shelf,
     current: Shelf,
-    cursor: Cursor,
 }
 
 impl<N: LiveName> Model for Feed<N> {
@@ -39,9 +46,9 @@ impl<N: LiveName> Model for Feed<N> {
 
     ghost Value = { Feeding };
 
-    ghost view = { λ f. feeding_of f.reader f.base f.current f.cursor };
+    ghost view = { λ f. feeding_of f.reader f.held.base f.held.current f.cursor };
 
-    ghost invariant = { λ f. IsFed N.config f.reader f.base f.current f.cursor };
+    ghost invariant = { λ f. IsFed N.config f.reader f.held.base f.held.current f.cursor };
 }
 
 // What a feed needs that begins on a shelf: a snapshot of it, and a cursor before the first item.
@@ -76,8 +83,10 @@ fn begin<N: LiveName>(
     match beginning(reader.alloc(), &shelf, filters, options) {
         Ok((base, cursor)) => Ok(Feed {
             reader,
-            base,
-            current: shelf,
+            held: Held {
+                base,
+                current: shelf,
+            },
             cursor,
         }),
         Err(refusal) => Err((reader, refusal)),
@@ -85,10 +94,19 @@ fn begin<N: LiveName>(
 }
 
 // The next item of a cursor. Where there is none, it notes how far it looked.
-fn take_from<'a>(cursor: &mut Cursor, base: &'a Version, now: &'a Version) -> Taken<'a> {
-    let taken = cursor.take(base, now);
+fn take_from<'a>(cursor: &mut Cursor, held: &'a Held) -> Taken<'a>
+    ensures shows { (cursor.new.filters ≡ cursor.old.filters) × (cursor.new.options ≡ cursor.old.options) }
+    ensures next { (began acts : List Act) → InPlace began acts cursor.old.handed held.now.base.version held.now.current.version cursor.old →
+        item_taken result ≡ slice_get (given held.now.base.version.config.history began acts cursor.old.filters cursor.old.options) cursor.old.handed }
+    ensures end { (began acts : List Act) → InPlace began acts cursor.old.handed held.now.base.version held.now.current.version cursor.old →
+        (item_taken result ≡ None) ↔ (cursor.old.handed ≡ length (given held.now.base.version.config.history began acts cursor.old.filters cursor.old.options)) }
+    ensures place { (began acts : List Act) → InPlace began acts cursor.old.handed held.now.base.version held.now.current.version cursor.old →
+        (cursor.new.handed ≡ cursor.old.handed + option_len (item_taken result))
+        × InPlace began acts cursor.new.handed held.now.base.version held.now.current.version cursor.new }
+{
+    let taken = cursor.take(held.base.version(), held.current.version());
     if let Taken::Empty = taken {
-        cursor.settle(now);
+        cursor.settle(held.current.version());
     }
     taken
 }
@@ -138,7 +156,7 @@ impl<N: LiveName> Feed<N> {
         ensures refused { IfErr result (λ e. IsUnread e × IsNotRefreshed self.old self.new) }
     {
         let shelf = self.reader.shelf()?;
-        self.current = shelf;
+        self.held.current = shelf;
         Ok(())
     }
 
@@ -147,7 +165,7 @@ impl<N: LiveName> Feed<N> {
         ensures { item_taken result ≡ next_of N.config.history self.now }
     {
         self.cursor
-            .peek(self.base.version(), self.current.version())
+            .peek(self.held.base.version(), self.held.current.version())
     }
 
     /// Hands out the next item, lent from the feed's version. Where all was handed out it is `Empty`, and nothing changes.
@@ -157,11 +175,7 @@ impl<N: LiveName> Feed<N> {
         ensures value { item_taken result ≡ next_of N.config.history self.old }
         ensures end { (item_taken result ≡ None) ↔ (self.old.handed ≡ length (given_by N.config.history self.old)) }
     {
-        take_from(
-            &mut self.cursor,
-            self.base.version(),
-            self.current.version(),
-        )
+        take_from(&mut self.cursor, &self.held)
     }
 
     /// How many items were handed out, the end marker counted.
@@ -181,8 +195,7 @@ impl<N: LiveName> Feed<N> {
     {
         let Feed {
             reader,
-            base: _,
-            current: _,
+            held: _,
             cursor,
         } = self;
         let handed = cursor.handed();

@@ -77,6 +77,7 @@ impl<N: LiveName> Reader<N> {
         ensures later { IsPrefix self.old.seen self.new.seen }
         ensures told { self.new.told ≡ self.old.told }
         ensures ok { IfOk result (λ s. (offered_of s.glimpse.sight.log ≡ self.new.seen) × IsOf N.book N.config s × IsPrefix self.old.told self.new.seen) }
+        ensures stands { IfOk result (λ s. StandsFor self.new.seen s.version) }
         ensures err { IfErr result IsUnread }
     {
         let Some(seat) = self.seat.take() else {
@@ -120,6 +121,7 @@ impl<N: LiveName> Reader<N> {
 fn shelf_past<N: LiveName>(told: &Front<N>, shelf: &Shelf) -> Result<Shelf, KvError>
     requires { IsOf N.book N.config shelf.now }
     ensures ok { IfOk result (λ s. (s.glimpse.sight ≡ shelf.now.glimpse.sight) × (s.version.config ≡ shelf.now.version.config) × IsPrefix (shown_of told.now) (offered_of shelf.now.glimpse.sight.log)) }
+    ensures stands { IfOk result (λ s. StandsFor (offered_of shelf.now.glimpse.sight.log) s.version) }
     ensures err { IfErr result IsUnread }
 {
     if !told.begins(shelf.glimpse()) {

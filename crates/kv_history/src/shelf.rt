@@ -1,6 +1,6 @@
 //! What is published.
 
-ghost use Rattle.std.specs.Prelude.{◌≡◌, IfOk, MatchResult};
+ghost use Rattle.std.specs.Prelude.{◌≡◌, IfOk, IfErr};
 ghost use Rattle.kv_keys.specs.declared.error.KvError.TheVariants.{OutOfMemory};
 ghost use Rattle.kv_store.specs.Standing.{StandsFor};
 ghost use Rattle.kv_history.specs.History.{offered_of};
@@ -67,7 +67,9 @@ impl Shelf {
 
     /// An equal shelf: one snapshot of the version.
     pub fn again(&self) -> Result<Shelf, KvError>
-        ensures { MatchResult result (λ s. (s.version ≡ self.now.version) × (s.glimpse.sight ≡ self.now.glimpse.sight)) (λ e. e ≡ OutOfMemory) }
+        ensures ok { IfOk result (λ s. (s.version ≡ self.now.version) × (s.glimpse.sight ≡ self.now.glimpse.sight)) }
+        ensures stands { IfOk result (λ s. StandsFor (offered_of self.now.glimpse.sight.log) s.version) }
+        ensures err { IfErr result (λ e. e ≡ OutOfMemory) }
     {
         let version = self.version.snapshot()?;
         Ok(Shelf {

@@ -2,6 +2,7 @@ use Rattle.std.proofs.Common.{rules, ◌≡◌, List, subst, ap, ◌∙◌}
 use Rattle.std.proofs.lemmas.Result.{IfOk-weaker}
 use Rattle.left_right.specs.Sides.{view}
 use Rattle.kv_store.specs.Acts.{Act, IsPrefix}
+use Rattle.kv_store.specs.Standing.{StandsFor}
 use Rattle.kv_history.specs.History.{shown_of, offered_of}
 use Rattle.kv_history.specs.Shelves.{IsOf}
 use Rattle.kv_history.proofs.Publishing.{sees}
@@ -23,3 +24,10 @@ returns-in-Ok-clause-ok g c =
       subst (λ (acts : List Act). IsPrefix acts (view c.leave.result.place).seen) told (subst (IsPrefix (shown_of c.self.inside.told)) seen h.2),
     ))
     c.shelf_past-shelf.ensures.ok
+
+pub returns-in-Ok-clause-stands : goal.returns-in-Ok-clause-stands
+returns-in-Ok-clause-stands g c =
+    let shelf = c.get.result.now in
+    let seen : offered_of shelf.glimpse.sight.log ≡ (view c.leave.result.place).seen = search rules in
+    IfOk-weaker c.shelf_past-shelf.result _ (λ s. StandsFor (view c.leave.result.place).seen s.version) (λ s h. subst (λ (acts : List Act). StandsFor acts s.version) seen h)
+    c.shelf_past-shelf.ensures.stands
