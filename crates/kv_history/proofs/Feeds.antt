@@ -1,15 +1,23 @@
 -- What a feed keeps when it goes on.
-use Rattle.std.proofs.Common.{◌≡◌, List, refl, ap, sym, subst, ◌∙◌}
+use Rattle.std.proofs.Common.{◌≡◌, ℕ, ◌+◌, ◌≤◌, ◌<◌, ◌⊎◌, ⊎_elim, Bool, List, Option, Some, None, length, get_or, refl, ap, sym, subst, ◌∙◌, arith}
+use Rattle.std.specs.List.{slice_get}
+use Rattle.std.specs.Option.{option_len, option_map}
+use Rattle.std.proofs.lemmas.Option.{slice_get_past, slice_get_within, slice_get_cases}
 use Rattle.kv_store.specs.Acts.{Act, IsPrefix}
 use Rattle.kv_store.specs.Configuration.{Configuration}
 use Rattle.kv_store.specs.Standing.{StandsFor}
+use Rattle.kv_watch.specs.declared.event.Event.{Event}
+use Rattle.kv_watch.specs.declared.options.Options.{Options}
+use Rattle.kv_watch.specs.Given.{Item, event_of, given}
 use Rattle.kv_watch.specs.Following.{Following, InPlace}
 use Rattle.kv_watch.proofs.Opening.{in_place_later}
 use Rattle.kv_history.specs.Fed.{IsFed, acts_on, feeding_of}
-use Rattle.kv_history.specs.Feeding.{Feeding, HasSeenMore, IsRefreshed}
+use Rattle.kv_history.specs.Feeding.{Feeding, HasSeenMore, IsRefreshed, given_by, next_of, after_item}
 use Rattle.kv_history.specs.Known.{Known}
+use Rattle.kv_history.specs.Lent.{lent}
 use Rattle.kv_history.specs.Shelves.{Shelved}
 use Rattle.kv_history.proofs.Prefixes.{prefix_self, prefix_trans}
+use Rattle.kv_history.proofs.StoredItems.{lent_next}
 
 -- a feed that goes on to what its reader has seen by now
 pub fed_later : (config : Configuration) (before after : Known) (base now next : Shelved) (cursor : Following) → IsFed config before base now cursor → IsPrefix before.seen after.seen
@@ -31,3 +39,50 @@ refreshed before after base now next cursor more low seen told = record {
   told = subst (IsPrefix before.told) (sym seen) told;
   same = ap (λ (acts : List Act). let f : Feeding = record { reader = after; began = acts_on base; acts = acts; filters = cursor.filters; options = cursor.options; handed = cursor.handed } in f) seen;
 }
+
+-- there is no next item exactly where as many were handed out as there are
+differ : (x : Item) → Some x ≡ None → ⊥
+differ x e = cc
+
+ends_at : (xs : List Item) (n : ℕ) → n ≤ length xs → slice_get xs n ≡ None → ((x : Item) × (n < length xs) × (slice_get xs n ≡ Some x) × (get_or xs n x ≡ x)) ⊎ ((length xs ≤ n) × (slice_get xs n ≡ None)) → n ≡ length xs
+ends_at xs n within none cases =
+    let there : ((x : Item) × (n < length xs) × (slice_get xs n ≡ Some x) × (get_or xs n x ≡ x)) → n ≡ length xs = λ t. absurd (differ t.0 (sym t.2 ∙ none)) in
+    let past : ((length xs ≤ n) × (slice_get xs n ≡ None)) → n ≡ length xs = λ p. omega (arith, p.0) in ⊎_elim there past cases
+
+ends : (xs : List Item) (n : ℕ) → n ≤ length xs → (slice_get xs n ≡ None → n ≡ length xs) × (n ≡ length xs → slice_get xs n ≡ None)
+ends xs n within = (λ none. ends_at xs n within none (slice_get_cases xs n).1, λ all. slice_get_past xs n (omega arith))
+
+length_of_event : (item : Option Item) → option_len (option_map event_of item) ≡ option_len item
+length_of_event None = refl
+length_of_event (Some item) = refl
+
+counted : (feed : Feeding) (n : ℕ) (item : Option Item) → n ≡ feed.handed + option_len item → record feed { handed = n } ≡ after_item feed item
+counted feed n None e =
+    let same : n ≡ feed.handed = omega arith in ap (λ (k : ℕ). let f : Feeding = record feed { handed = k } in f) same
+counted feed n (Some item) e = ap (λ (k : ℕ). let f : Feeding = record feed { handed = k } in f) e
+
+-- a take: what was lent is the next item, there is none exactly where all was handed out, and the feed counts it
+pub took : (config : Configuration) (reader : Known) (base now : Shelved) (old new : Following) (event : Option Event) (item : Option Item) → IsFed config reader base now old
+    → new.filters ≡ old.filters → new.options ≡ old.options
+    → event ≡ option_map event_of (slice_get (given base.version.config.history (acts_on base) (acts_on now) old.filters old.options) old.handed)
+    → new.handed ≡ old.handed + option_len event → item ≡ lent old.options.headers_only event now.version
+    → (item ≡ next_of config.history (feeding_of reader base now old))
+      × ((item ≡ None → old.handed ≡ length (given_by config.history (feeding_of reader base now old))) × (old.handed ≡ length (given_by config.history (feeding_of reader base now old)) → item ≡ None))
+      × (feeding_of reader base now new ≡ after_item (feeding_of reader base now old) item)
+took config reader base now old new event item fed filters options told counts lends =
+    let feed = feeding_of reader base now old in
+    let all = given base.version.config.history (acts_on base) (acts_on now) old.filters old.options in
+    let next : Option Item = slice_get all old.handed in
+    let is_next : item ≡ next = lends ∙ (ap (λ e. lent old.options.headers_only e now.version) told ∙ lent_next (acts_on base) (acts_on now) old.handed base.version now.version old fed.place) in
+    let same_all : all ≡ given_by config.history feed = ap (λ (c : Configuration). given c.history (acts_on base) (acts_on now) old.filters old.options) fed.same_config in
+    let value : item ≡ next_of config.history feed = is_next ∙ ap (λ (xs : List Item). slice_get xs old.handed) same_all in
+    let within : old.handed ≤ length (given_by config.history feed) = subst (λ (xs : List Item). old.handed ≤ length xs) same_all fed.place.taken in
+    let stop = ends (given_by config.history feed) old.handed within in
+    let more : new.handed ≡ old.handed + option_len item = counts ∙ ap (λ k. old.handed + k) (ap option_len told ∙ (length_of_event next ∙ ap option_len (sym is_next))) in
+    let moved : feeding_of reader base now new ≡ record feed { handed = new.handed } =
+    ap (λ (fs : List (List ℕ)). let f : Feeding = record { reader = reader; began = acts_on base; acts = acts_on now; filters = fs; options = new.options; handed = new.handed } in f) filters
+    ∙ ap (λ (o : Options). let f : Feeding = record { reader = reader; began = acts_on base; acts = acts_on now; filters = old.filters; options = o; handed = new.handed } in f) options in (
+      value,
+      (λ none. stop.0 (sym value ∙ none), λ end. value ∙ stop.1 end),
+      moved ∙ counted feed new.handed item more,
+    )

@@ -4,3 +4,4 @@ pub mod Follow
 pub mod Notes
 pub mod Prefixes
 pub mod Publishing
+pub mod StoredItems

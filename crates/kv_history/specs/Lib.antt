@@ -3,6 +3,7 @@ pub mod Fed
 pub mod Feeding
 pub mod History
 pub mod Known
+pub mod Lent
 pub mod Rules
 pub mod Shelves
 pub mod Views

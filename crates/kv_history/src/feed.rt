@@ -1,13 +1,13 @@
 //! Feeds: watches outside the lock.
 
-ghost use Rattle.std.specs.Prelude.{◌≡◌, ◌+◌, ◌≤◌, ◌↔◌, List, [], ⊤, None, IfOk, IfErr, length, slice_get};
+ghost use Rattle.std.specs.Prelude.{◌≡◌, ℕ, ◌+◌, ◌≤◌, ◌↔◌, List, [], ⊤, None, IfOk, IfErr, length, slice_get};
 ghost use Rattle.std.specs.Borrow.{sem, follows_so};
-ghost use Rattle.std.specs.Option.{option_len};
+ghost use Rattle.std.specs.Option.{option_len, option_map};
 ghost use mathlib.Core.Option.{none};
 ghost use Rattle.kv_keys.specs.declared.error.KvError.TheVariants.{OutOfMemory};
 ghost use Rattle.kv_store.specs.Acts.{Act, IsPrefix};
-ghost use Rattle.kv_watch.specs.Given.{given};
-ghost use Rattle.kv_watch.specs.Following.{InPlace};
+ghost use Rattle.kv_watch.specs.Given.{event_of};
+ghost use Rattle.kv_watch.specs.Following.{InPlace, given_to};
 ghost use Rattle.kv_watch.specs.Taking.{item_taken};
 ghost use Rattle.kv_history.specs.Fed.{acts_on, opened};
 ghost use Rattle.kv_history.specs.Feeding.{HasSeenMore, HasLearned, IsRefreshed, IsNotRefreshed, given_by, next_of, after_item};
@@ -15,12 +15,13 @@ ghost use Rattle.kv_history.specs.Known.{IsUnread};
 ghost use Rattle.kv_history.specs.Shelves.{IsOf};
 
 use crate::history::LiveName;
+use crate::lending::{event_taken, lend, settle_if_none};
 use crate::reader::Reader;
 use crate::receipt::Receipt;
 use crate::shelf::Shelf;
 use crate::stopped::Stopped;
 use kv_keys::{Filters, KvError};
-use kv_watch::{Cursor, Options, Taken};
+use kv_watch::{Cursor, Event, Options, Taken};
 use std::alloc::Global;
 use std::marker::Model;
 
@@ -93,22 +94,18 @@ fn begin<N: LiveName>(
     }
 }
 
-// The next item of a cursor. Where there is none, it notes how far it looked.
-fn take_from<'a>(cursor: &mut Cursor, held: &'a Held) -> Taken<'a>
+// Takes the next item, and answers it by its revision alone. Where there is none, what was looked at in vain is not looked at
+// again.
+fn advance(cursor: &mut Cursor, held: &Held) -> Option<Event>
     ensures shows { (cursor.new.filters ≡ cursor.old.filters) × (cursor.new.options ≡ cursor.old.options) }
-    ensures next { (began acts : List Act) → InPlace began acts cursor.old.handed held.now.base.version held.now.current.version cursor.old →
-        item_taken result ≡ slice_get (given held.now.base.version.config.history began acts cursor.old.filters cursor.old.options) cursor.old.handed }
-    ensures end { (began acts : List Act) → InPlace began acts cursor.old.handed held.now.base.version held.now.current.version cursor.old →
-        (item_taken result ≡ None) ↔ (cursor.old.handed ≡ length (given held.now.base.version.config.history began acts cursor.old.filters cursor.old.options)) }
-    ensures place { (began acts : List Act) → InPlace began acts cursor.old.handed held.now.base.version held.now.current.version cursor.old →
-        (cursor.new.handed ≡ cursor.old.handed + option_len (item_taken result))
-        × InPlace began acts cursor.new.handed held.now.base.version held.now.current.version cursor.new }
+    ensures next { (n : ℕ) (began acts : List Act) → InPlace began acts n held.now.base.version held.now.current.version cursor.old →
+        result ≡ option_map event_of (slice_get (given_to held.now.base.version.config.history began acts cursor.old) n) }
+    ensures place { (n : ℕ) (began acts : List Act) → InPlace began acts n held.now.base.version held.now.current.version cursor.old →
+        InPlace began acts (n + option_len result) held.now.base.version held.now.current.version cursor.new }
 {
-    let taken = cursor.take(held.base.version(), held.current.version());
-    if let Taken::Empty = taken {
-        cursor.settle(held.current.version());
-    }
-    taken
+    let event = event_taken(&cursor.take(held.base.version(), held.current.version()));
+    settle_if_none(cursor, event, held.current.version());
+    event
 }
 
 impl<N: LiveName> Reader<N> {
@@ -175,7 +172,9 @@ impl<N: LiveName> Feed<N> {
         ensures value { item_taken result ≡ next_of N.config.history self.old }
         ensures end { (item_taken result ≡ None) ↔ (self.old.handed ≡ length (given_by N.config.history self.old)) }
     {
-        take_from(&mut self.cursor, &self.held)
+        let headers_only = self.cursor.options().headers_only;
+        let event = advance(&mut self.cursor, &self.held);
+        lend(&self.held.current, headers_only, event)
     }
 
     /// How many items were handed out, the end marker counted.

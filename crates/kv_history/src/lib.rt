@@ -7,6 +7,7 @@ mod feed;
 mod front;
 mod history;
 pub mod laws;
+mod lending;
 mod publisher;
 mod reader;
 mod receipt;
