@@ -67,8 +67,8 @@ pub took : (config : Configuration) (reader : Known) (base now : Shelved) (old n
     → event ≡ option_map event_of (slice_get (given base.version.config.history (acts_on base) (acts_on now) old.filters old.options) old.handed)
     → new.handed ≡ old.handed + option_len event → item ≡ lent old.options.headers_only event now.version
     → (item ≡ next_of config.history (feeding_of reader base now old))
-      × ((item ≡ None → old.handed ≡ length (given_by config.history (feeding_of reader base now old))) × (old.handed ≡ length (given_by config.history (feeding_of reader base now old)) → item ≡ None))
-      × (feeding_of reader base now new ≡ after_item (feeding_of reader base now old) item)
+    × ((item ≡ None → old.handed ≡ length (given_by config.history (feeding_of reader base now old))) × (old.handed ≡ length (given_by config.history (feeding_of reader base now old)) → item ≡ None))
+    × (feeding_of reader base now new ≡ after_item (feeding_of reader base now old) item)
 took config reader base now old new event item fed filters options told counts lends =
     let feed = feeding_of reader base now old in
     let all = given base.version.config.history (acts_on base) (acts_on now) old.filters old.options in

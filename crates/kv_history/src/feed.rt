@@ -111,11 +111,7 @@ fn advance(cursor: &mut Cursor, held: &Held) -> Option<Event>
 impl<N: LiveName> Reader<N> {
     /// A feed that begins with the version that is published. It costs an entry, the keys, and what it will hand out. Where it
     /// is refused the reader comes back.
-    pub fn watch(
-        self,
-        filters: &Filters,
-        options: Options,
-    ) -> Result<Feed<N>, (Reader<N>, KvError)>
+    pub fn watch(self, filters: &Filters, options: Options) -> Result<Feed<N>, (Reader<N>, KvError)>
         ensures reader { IfOk result (λ feed. HasSeenMore self feed.reader × IsPrefix self.told feed.reader.seen) }
         ensures ok { IfOk result (λ feed. feed ≡ opened feed.reader feed.reader.seen filters.now options) }
         ensures err { IfErr result (λ e. HasSeenMore self e.0 × IsUnread e.1) }
