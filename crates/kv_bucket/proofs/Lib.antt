@@ -8,3 +8,4 @@ pub mod Later
 pub mod Moving
 pub mod Lending
 pub mod Answering
+pub mod Running
