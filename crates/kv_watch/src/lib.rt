@@ -17,3 +17,6 @@ pub use event::Event;
 pub use options::{Options, Start};
 pub use shown::Shown;
 pub use taken::Taken;
+
+#[cfg(test)]
+mod tests;
