@@ -1,5 +1,5 @@
 -- What is given rises, and goes on.
-use Rattle.std.proofs.Common.{◌≡◌, ℕ, suc, ◌+◌, ◌≤◌, Bool, true, false, cond, ◌&&◌, nat_le, List, [], ◌∷◌, ◌++◌, length, drop, filter, refl, sym, ap, ◌∙◌, subst, arith, append_assoc, length-append}
+use Rattle.std.proofs.Common.{◌≡◌, ℕ, ◌+◌, ◌≤◌, false, ◌&&◌, nat_le, List, [], ◌∷◌, ◌++◌, length, drop, filter, refl, sym, ap, ◌∙◌, subst, arith, append_assoc, length-append}
 use Rattle.std.specs.List.Sorted.{IsStrictlyIncreasing}
 use Rattle.std.proofs.lemmas.List.{drop-append-le}
 use Rattle.std.proofs.lemmas.List.Elements.{filter-append, filter_map-append}
@@ -7,11 +7,11 @@ use Rattle.kv_keys.specs.Matching.{any_matches}
 use Rattle.kv_store.specs.Acts.{Act, Write, IsPrefix, writes_of}
 use Rattle.kv_store.specs.Acceptance.{IsLawful}
 use Rattle.kv_store.specs.Configuration.{Configuration}
-use Rattle.kv_store.specs.Retained.{is_kept, is_latest}
+use Rattle.kv_store.specs.Retained.{is_kept}
 use Rattle.kv_watch.specs.declared.options.Options.{Options}
 use Rattle.kv_watch.specs.declared.options.Start.{Start}
 use Rattle.kv_watch.specs.declared.options.Start.TheVariants.{Latest, History, Updates, From}
-use Rattle.kv_watch.specs.Showing.{is_initial, is_shown}
+use Rattle.kv_watch.specs.Showing.{is_initial}
 use Rattle.kv_watch.specs.Given.{Item, matching, shown, all_shown, item_revisions, revision_of, initial, ending, given}
 use Rattle.kv_store.proofs.Members.{filter-filter}
 use Rattle.kv_store.proofs.Numbered.{CountsFrom, CountsFrom-left, CountsFrom-right, writes_of-append, counts_from_lawful}

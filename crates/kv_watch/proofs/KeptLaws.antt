@@ -1,5 +1,5 @@
 -- With a history of one the retained writes are the latest, and a start from the first revision is one from history.
-use Rattle.std.proofs.Common.{◌≡◌, ℕ, suc, zero, ◌-◌, ◌≤◌, Bool, true, false, cond, ◌||◌, ◌&&◌, ◌==◌, nat_le, List, [], ◌∷◌, ◌++◌, Option, Some, None, length, drop, filter, refl, sym, ap, ◌∙◌, arith}
+use Rattle.std.proofs.Common.{◌≡◌, ℕ, suc, ◌-◌, ◌≤◌, Bool, true, false, cond, ◌||◌, ◌==◌, nat_le, List, [], ◌∷◌, ◌++◌, Option, Some, None, length, drop, filter, refl, ap, ◌∙◌, arith}
 use Rattle.std.specs.List.{list_any, last_or}
 use Rattle.std.specs.Option.{option_to_list, option_map_or}
 use Rattle.std.proofs.lemmas.Bool.Decides.{nat_tests}
@@ -10,7 +10,7 @@ use Rattle.kv_store.specs.Configuration.{Configuration}
 use Rattle.kv_store.specs.Retained.{retained, latest, is_kept, is_latest, writes_of_key, since_purge, last_n, revisions}
 use Rattle.kv_watch.specs.declared.options.Options.{Options}
 use Rattle.kv_watch.specs.declared.options.Start.TheVariants.{History, From}
-use Rattle.kv_watch.specs.Given.{Item, EndMarker, all_shown, matching, given}
+use Rattle.kv_watch.specs.Given.{EndMarker, all_shown, matching, given}
 use Rattle.kv_store.proofs.Numbered.{CountsFrom, counts_from_lawful}
 
 -- ---- a history of one

@@ -1,9 +1,8 @@
 -- What is owed at the opening, and that a cursor is in place there.
-use Rattle.std.proofs.Common.{◌≡◌, ℕ, suc, zero, ◌+◌, ◌-◌, ◌≤◌, Bool, true, false, cond, ◌&&◌, not, List, [], ◌∷◌, ◌++◌, Option, Some, None, unwrap_or, length, take, drop, filter, reverse, refl, sym, ap, ◌∙◌, subst, arith, add-one, append-nil, append_assoc, length-append, length-drop}
+use Rattle.std.proofs.Common.{◌≡◌, ℕ, suc, ◌+◌, ◌-◌, ◌≤◌, Bool, true, false, cond, not, List, [], ◌∷◌, ◌++◌, Some, None, unwrap_or, length, take, drop, filter, refl, sym, ap, ◌∙◌, subst, arith, add-one, append-nil, append_assoc, length-append}
 use Rattle.std.specs.List.{Contains, last_or, cons_option}
 use Rattle.std.specs.Option.{option_map_or}
-use Rattle.std.proofs.lemmas.List.{drop-append-le, take-append-le, reverse-append}
-use Rattle.kv_keys.specs.Matching.{any_matches}
+use Rattle.std.proofs.lemmas.List.{drop-append-le, take-append-le}
 use Rattle.kv_store.specs.Acts.{Act, Write, IsPrefix, writes_of, is_put}
 use Rattle.kv_store.specs.Retained.{revisions}
 use Rattle.kv_store.specs.Standing.{StandsFor}
@@ -13,7 +12,7 @@ use Rattle.kv_store.proofs.Numbered.{writes_of-append}
 use Rattle.kv_watch.specs.declared.options.Options.{Options}
 use Rattle.kv_watch.specs.declared.options.Start.{Start}
 use Rattle.kv_watch.specs.Following.{Following, InPlace, marker_if, shown_behind, one_more, given_to, live_to}
-use Rattle.kv_watch.specs.Given.{Item, AnEntry, entry_of, matching, all_shown, initial, ending, given, item_revisions}
+use Rattle.kv_watch.specs.Given.{AnEntry, entry_of, matching, all_shown, initial, ending, given, item_revisions}
 use Rattle.kv_watch.specs.Showing.{is_put_at}
 use Rattle.kv_watch.proofs.GivenLaws.{matching_initial, given-append, live-append, all_shown-matching-append, no_fewer_writes}
 use Rattle.kv_watch.proofs.Placing.{found_in, few_writes}

@@ -1,7 +1,7 @@
 -- The next item of a cursor in place, and the cursor behind it.
-use Rattle.std.proofs.Common.{◌≡◌, ℕ, suc, zero, ◌+◌, ◌-◌, ◌^◌, ◌<◌, ◌≤◌, min, Bool, true, false, cond, ◌&&◌, not, nat_lt, List, [], ◌∷◌, ◌++◌, Option, Some, None, unwrap_or, Result, Ok, Err, ◌||◌, length, take, drop, filter, reverse, refl, sym, ap, ◌∙◌, subst, arith, length-append, length-drop, append_assoc, append-nil, add-one}
+use Rattle.std.proofs.Common.{◌≡◌, ℕ, suc, zero, ◌+◌, ◌-◌, ◌<◌, ◌≤◌, Bool, true, false, cond, ◌&&◌, not, nat_lt, List, [], ◌∷◌, ◌++◌, Option, Some, None, unwrap_or, Result, Ok, Err, ◌||◌, length, take, drop, filter, reverse, refl, sym, ap, ◌∙◌, subst, arith, length-append, length-drop, append_assoc, append-nil, add-one}
 use Rattle.std.specs.Prelude.{nat_le}
-use Rattle.std.specs.List.{Contains, slice_get, cons_option, last_or, find}
+use Rattle.std.specs.List.{Contains, slice_get, cons_option, last_or}
 use Rattle.std.specs.Option.{option_len}
 use Rattle.std.proofs.lemmas.Bool.{and_parts, leb-true, leb-false}
 use Rattle.std.proofs.lemmas.List.{drop_all, reverse-append}
@@ -10,22 +10,22 @@ use Rattle.std.proofs.lemmas.Option.{slice_get-get_or, slice_get_within}
 use Rattle.kv_keys.specs.Matching.{any_matches}
 use Rattle.kv_keys.specs.declared.error.KvError.TheVariants.{ValueTooLarge, Sealed, JournalFull}
 use Rattle.kv_store.specs.Requests.{Asked, value_of}
-use Rattle.kv_store.specs.Acceptance.{IsLawful, LawfulFrom, accept, is_full, objection, next_write, unless}
+use Rattle.kv_store.specs.Acceptance.{LawfulFrom, accept, is_full, objection, next_write, unless}
 use Rattle.kv_store.specs.Acts.{Act, Wrote, Seal, Write, IsPrefix, writes_of, is_put, is_sealed, stored_writes}
-use Rattle.kv_store.specs.Configuration.{Configuration, has_legal_numbers}
+use Rattle.kv_store.specs.Configuration.{Configuration}
 use Rattle.kv_store.specs.Reads.{write_at_of}
 use Rattle.kv_store.specs.Standing.{StandsFor}
 use Rattle.kv_store.specs.Stored.{Stored, write_at}
 use Rattle.kv_store.proofs.Members.{Contains-here, Contains-there, Contains-from_filter}
-use Rattle.kv_store.proofs.Numbered.{CountsFrom, find_counted, counts_from_lawful, writes_of-wrote, writes_of-seal}
+use Rattle.kv_store.proofs.Numbered.{CountsFrom, find_counted, writes_of-wrote, writes_of-seal}
 use Rattle.kv_watch.specs.declared.options.Options.{Options}
 use Rattle.kv_watch.specs.declared.options.Start.{Start}
 use Rattle.kv_watch.specs.declared.options.Start.TheVariants.{Latest, History, Updates, From}
-use Rattle.kv_watch.specs.Following.{Following, InPlace, given_to, initial_to, live_to, live_count, marker_if, shown_behind, one_more, behind}
-use Rattle.kv_watch.specs.Given.{Item, AnEntry, EndMarker, Entry, entry_of, matching, all_shown, initial, ending, given, item_revisions, revision_of}
+use Rattle.kv_watch.specs.Following.{InPlace, marker_if, shown_behind, one_more, behind}
+use Rattle.kv_watch.specs.Given.{Item, AnEntry, EndMarker, Entry, entry_of, matching, all_shown, initial, ending, item_revisions, revision_of}
 use Rattle.kv_watch.specs.Showing.{is_shown}
 use Rattle.kv_watch.specs.Taking.{entry_item}
-use Rattle.kv_watch.proofs.GivenLaws.{matching_initial, no_fewer_writes}
+use Rattle.kv_watch.proofs.GivenLaws.{matching_initial}
 use Rattle.kv_watch.proofs.Lists.{drop-append, head_of_drop, get_from_drop, rest_from_drop, take_push, last_or-push, last_front, no_last}
 use Rattle.kv_watch.proofs.Walks.{counts, revision_at, shown_front, hidden_front, behind_counted}
 

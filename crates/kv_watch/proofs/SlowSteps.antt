@@ -1,18 +1,17 @@
 -- The steps of the slow walk over all writes, and that it lists what is given.
-use Rattle.std.proofs.Common.{◌≡◌, ℕ, suc, ◌+◌, ◌-◌, ◌<◌, ◌≤◌, Bool, true, false, cond, ◌&&◌, not, min, List, [], ◌∷◌, ◌++◌, Option, Some, None, length, get_or, take, drop, map, filter, refl, sym, ap, ◌∙◌, arith, append-nil, append_assoc, length-take}
+use Rattle.std.proofs.Common.{◌≡◌, ℕ, ◌+◌, ◌<◌, ◌≤◌, Bool, true, false, cond, ◌&&◌, not, List, [], ◌∷◌, ◌++◌, Some, None, length, get_or, take, drop, map, filter, refl, sym, ap, ◌∙◌, arith, append-nil, append_assoc, length-take}
 use Rattle.std.specs.Borrow.{Bor}
-use Rattle.std.specs.List.{last_or, list_any, cons_option}
+use Rattle.std.specs.List.{last_or, cons_option}
 use Rattle.std.specs.Str.{bytes_eq}
-use Rattle.std.proofs.lemmas.List.{drop_more, take_more, map-append, take-map, drop-map, length-map, drop-take}
+use Rattle.std.proofs.lemmas.List.{drop_more, take_more, map-append, take-map, drop-map, length-map}
 use Rattle.std.proofs.lemmas.List.Elements.{filter-append}
 use Rattle.kv_keys.specs.Matching.{any_matches}
-use Rattle.kv_store.specs.Acts.{Act, Write, Wrote, writes_of, write_of, is_put, is_purge}
-use Rattle.kv_store.specs.Retained.{writes_of_key, last_write, since_purge, last_n, kept, revisions}
+use Rattle.kv_store.specs.Acts.{Act, Write, Wrote, writes_of, is_put, is_purge}
+use Rattle.kv_store.specs.Retained.{writes_of_key, last_write, since_purge, revisions}
 use Rattle.kv_watch.specs.declared.event.Event.{Event}
 use Rattle.kv_watch.specs.declared.event.Event.TheVariants as events
 use Rattle.kv_watch.specs.declared.options.Options.{Options}
-use Rattle.kv_watch.specs.declared.options.Start.{Start}
-use Rattle.kv_watch.specs.Given.{Item, AnEntry, matching, all_shown, entry_of, initial, ending, given, event_of}
+use Rattle.kv_watch.specs.Given.{AnEntry, matching, all_shown, entry_of, initial, ending, given, event_of}
 use Rattle.kv_watch.specs.Listing.{revisions_after}
 use Rattle.kv_watch.specs.Showing.{events_where, is_initial, is_shown, wrote_all}
 use Rattle.kv_store.proofs.Keeping.{since_purge-push}

@@ -1,7 +1,7 @@
 -- Where a cursor stands in what its watch is given.
 use Rattle.std.specs.Prelude.{◌≡◌, ℕ, suc, ◌+◌, ◌-◌, ◌^◌, ◌≤◌, Bool, true, false, nat_lt, min, List, [], ◌∷◌, length, drop, filter, take, Option, Some, None, unwrap_or}
 use Rattle.std.specs.List.{last_or}
-use Rattle.kv_store.specs.Acts.{Act, Write, IsPrefix, writes_of}
+use Rattle.kv_store.specs.Acts.{Act, IsPrefix, writes_of}
 use Rattle.kv_store.specs.Standing.{StandsFor}
 use Rattle.kv_store.specs.Stored.{Stored}
 use Rattle.kv_watch.specs.declared.options.Options.{Options}

@@ -1,5 +1,5 @@
 -- What a watch is given, as a function of the acts.
-use Rattle.std.specs.Prelude.{ℕ, Bool, false, ◌&&◌, not, nat_le, List, [], ◌∷◌, ◌++◌, Option, Some, None, length, drop, map, filter, slice_get, if◌then◌else◌}
+use Rattle.std.specs.Prelude.{ℕ, Bool, ◌&&◌, not, nat_le, List, [], ◌∷◌, ◌++◌, Option, Some, None, length, drop, filter, slice_get, if◌then◌else◌}
 use Rattle.std.specs.List.{filter_map}
 use Rattle.kv_keys.specs.Matching.{any_matches}
 use Rattle.kv_store.specs.declared.write.Op.{Op}

@@ -1,4 +1,3 @@
-use Rattle.std.proofs.Common.{◌∙◌}
 use Rattle.kv_watch.proofs.Opening.{opened}
 use Rattle.kv_watch.proofs.cursor.Cursor.open.Goals as goal
 
