@@ -4,6 +4,7 @@ pub mod Others
 pub mod Theorem
 pub mod Finds
 pub mod Representing
+pub mod Keeping
 pub mod Later
 pub mod Moving
 pub mod Lending

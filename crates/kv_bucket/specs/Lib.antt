@@ -1,5 +1,6 @@
 pub mod Answers
 pub mod Held
+pub mod Keeping
 pub mod Runs
 pub mod State
 pub mod Stepping

@@ -4,6 +4,7 @@
 mod bucket;
 mod call;
 mod held;
+mod keeper;
 pub mod laws;
 mod reading;
 mod reply;
@@ -14,6 +15,7 @@ mod watching;
 mod writing;
 
 pub use bucket::Bucket;
+pub use keeper::Keeper;
 pub use call::Call;
 pub use kv_keys::{Filter, Filters, Key, KvError};
 pub use kv_store::{Config, Op, Request, Status, Version, Write};

@@ -1,0 +1,51 @@
+-- What lies under the lock, and what a call makes of it.
+use Rattle.std.specs.Prelude.{◌≡◌, ℕ, List, Result, Ok, Err, ◌&&◌, nat_le, if◌then◌else◌}
+use Rattle.logbook.specs.Pages.{Book}
+use Rattle.kv_keys.specs.declared.error.KvError.{KvError}
+use Rattle.kv_keys.specs.declared.error.KvError.TheVariants.{NoReader}
+use Rattle.kv_store.specs.Acts.{Act}
+use Rattle.kv_store.specs.Configuration.{Configuration, configure}
+use Rattle.kv_bucket.specs.declared.call.Call.{Call}
+use Rattle.kv_bucket.specs.Answers.{Answer}
+use Rattle.kv_bucket.specs.Held.{Bucketed, Represents}
+use Rattle.kv_bucket.specs.State.{State, Watch, after, answer_to}
+
+-- a bucket, and the acts that are published of its opening
+pub record Kept : Type 0 where
+  pub bucket : Bucketed
+  pub published : List Act
+
+-- the value under the lock is at a state of the model: its bucket represents it, and the acts of the state are those that are published
+pub record IsAt (state : State) (kept : Kept) : Type 0 where
+  pub represents : Represents state kept.bucket
+  pub published : kept.published ≡ state.acts
+
+-- the state of these acts and watches
+abbrev pub state_of : Configuration → List Act → List Watch → State
+state_of config acts watches = record { config = config; acts = acts; watches = watches }
+
+-- it is at some state of this configuration
+abbrev pub IsSomewhere : Configuration → Kept → Type 0
+IsSomewhere config kept = (watches : List Watch) × IsAt (state_of config kept.published watches) kept
+
+-- a call is one step of the model, from every state that the value was at, in full
+abbrev pub IsKeptStep : Kept → Call → Answer → Kept → Type 0
+IsKeptStep old call answer new = (state : State) → IsAt state old → (answer ≡ answer_to state call) × IsAt (after state call) new
+
+-- what an opening is of, and how many readers it is for
+pub record Opening : Type 0 where
+  pub book : Book
+  pub config : Configuration
+  pub readers : ℕ
+
+-- an opening is for 1 to 32 readers
+abbrev pub for_readers : ℕ → Configuration → Result Configuration KvError
+for_readers readers config = if nat_le 1 readers && nat_le readers 32 then Ok config else Err NoReader
+
+abbrev pub then_readers : ℕ → Result Configuration KvError → Result Configuration KvError
+then_readers readers (Ok config) = for_readers readers config
+then_readers readers (Err error) = Err error
+
+-- the refusal of an opening: that of its configuration first, then that of its number of readers
+abbrev pub may_open : Configuration → ℕ → Result Configuration KvError
+may_open config readers = then_readers readers (configure config)

@@ -1,0 +1,106 @@
+//! What lies under the lock: the bucket, and what publishes its acts.
+
+ghost use Rattle.std.specs.Prelude.{◌≡◌, ◌++◌, ◌∷◌, [], List, Some, IfErr, IfOk, OnErr, OnOk, length};
+ghost use Rattle.kv_keys.specs.Outcome.{Refuses};
+ghost use Rattle.kv_keys.specs.declared.error.KvError.TheVariants.{OutOfMemory};
+ghost use Rattle.kv_store.specs.Acceptance.{accept};
+ghost use Rattle.kv_store.specs.Acts.{Act, Wrote, Write as AWrite, writes_of};
+ghost use Rattle.kv_store.specs.Requests.{asked};
+ghost use Rattle.kv_store.specs.Standing.{StandsFor};
+ghost use Rattle.kv_bucket.specs.declared.call.Call.TheVariants.{Write, Seal};
+ghost use Rattle.kv_bucket.specs.Answers.{Revision, Sealed};
+ghost use Rattle.kv_bucket.specs.Keeping.{IsAt, IsSomewhere, IsKeptStep};
+ghost use Rattle.kv_bucket.specs.State.{State};
+
+use crate::bucket::Bucket;
+use kv_history::{Deed, LiveName, Publisher, Receipt};
+use kv_keys::KvError;
+use kv_store::{Request, Version};
+use std::marker::Model;
+use std::sync::Wait;
+
+/// The bucket of the opening N, and what publishes its acts. Contracts see the bucket and the acts that are published, which
+/// are always at one state of the model. It is not `Drop`: `Live::close` ends it.
+pub struct Keeper<N: LiveName> {
+    pub(crate) bucket: Bucket,
+    pub(crate) publisher: Publisher<N>,
+}
+
+impl<N: LiveName> Model for Keeper<N> {
+    ghost use Rattle.kv_bucket.specs.Keeping.{Kept, IsSomewhere};
+
+    ghost Value = { Kept };
+
+    ghost view = { λ k. record { bucket = k.bucket; published = k.publisher } };
+
+    ghost invariant = { λ k. IsSomewhere N.config (record { bucket = k.bucket; published = k.publisher }) };
+}
+
+// The act that a version ends with, where that is a write.
+fn last_deed(next: &Version) -> Option<Deed>
+    ensures { (acts : List Act) (w : AWrite) → StandsFor (acts ++ Wrote w ∷ []) next.now → result ≡ Some (Wrote w) }
+{
+    match next.write_at(next.revision()) {
+        Some(write) => Some(Deed::wrote(write)),
+        None => None,
+    }
+}
+
+// Publishes an act, and only then puts the version after it in place.
+fn keep<N: LiveName, R: Wait>(
+    rt: &R,
+    bucket: &mut Bucket,
+    publisher: &mut Publisher<N>,
+    deed: Deed,
+    next: Version,
+) -> Result<(), KvError>
+    requires stands { StandsFor (publisher.old ++ deed ∷ []) next }
+    requires config { next.config ≡ N.config }
+    ensures ok { OnOk result ((publisher.new ≡ publisher.old ++ deed ∷ []) × (bucket.new ≡ record bucket.old { version = next })) }
+    ensures err { IfErr result (λ e. e ≡ OutOfMemory) }
+    ensures unchanged { OnErr result ((publisher.new ≡ publisher.old) × (bucket.new ≡ bucket.old)) }
+{
+    publisher.publish(rt, deed, &next)?;
+    bucket.version = next;
+    Ok(())
+}
+
+impl<N: LiveName> Keeper<N> {
+    /// The bucket.
+    pub fn bucket(&self) -> &Bucket
+        ensures value { result.now ≡ self.now.bucket }
+        ensures state { IsSomewhere N.config self.now }
+    {
+        &self.bucket
+    }
+
+    /// Does what is asked, publishes it, and answers the revision of the write. A refused request changes nothing, publishes
+    /// nothing and uses no revision. It waits for readers that are inside the copy that is to change.
+    pub fn write<R: Wait>(&mut self, rt: &R, request: &Request) -> Result<u64, KvError>
+        ensures ok { IfOk result (λ revision. IsKeptStep self.old (Write request.now) (Revision revision) self.new) }
+        ensures refused { IfErr result (λ e. (state : State) → IsAt state self.old →
+            Refuses e (accept state.config (asked request.now) state.acts)) }
+        ensures unchanged { OnErr result (self.new ≡ self.old) }
+    {
+        let Keeper { bucket, publisher } = self;
+        let next = bucket.version.apply(bucket.alloc, request)?;
+        let revision = next.revision();
+        let Some(deed) = last_deed(&next) else {
+            unreachable!()
+        };
+        keep(rt, bucket, publisher, deed, next)?;
+        Ok(revision)
+    }
+
+    /// Ends writes, and publishes it. Reads, takes, stops and new watches go on.
+    pub fn seal<R: Wait>(&mut self, rt: &R) -> Result<(), KvError>
+        ensures ok { OnOk result (IsKeptStep self.old Seal Sealed self.new) }
+        ensures err { IfErr result (λ e. e ≡ OutOfMemory) }
+        ensures unchanged { OnErr result (self.new ≡ self.old) }
+    {
+        let Keeper { bucket, publisher } = self;
+        let next = bucket.version.seal(bucket.alloc)?;
+        keep(rt, bucket, publisher, Deed::seal(), next)?;
+        Ok(())
+    }
+}
