@@ -1,6 +1,6 @@
 -- What an act and a quiet call make of what lies under the lock.
 use Rattle.std.proofs.Common.{◌≡◌, ℕ, ◌+◌, ◌-◌, ◌<◌, Bool, true, false, cond, List, [], ◌∷◌, ◌++◌, Option, Some, None, Result, Ok, Err, length, refl, sym, ap, ◌∙◌, subst, arith, length-append}
-use Rattle.std.specs.Prelude.{OnOk, OnErr}
+use Rattle.std.specs.Prelude.{IfOk, OnOk, OnErr}
 use Rattle.std.specs.List.{slice_get}
 use Rattle.kv_keys.specs.declared.error.KvError.{KvError}
 use Rattle.kv_store.specs.Acceptance.{accept}
@@ -10,11 +10,16 @@ use Rattle.kv_store.specs.Reads.{write_at_of}
 use Rattle.kv_store.specs.Requests.{Asked}
 use Rattle.kv_store.specs.Standing.{StandsFor}
 use Rattle.kv_store.specs.Stored.{Stored, write_at}
-use Rattle.kv_store.proofs.Numbered.{writes_of-wrote, write_at_counted, counts_from_lawful}
-use Rattle.kv_bucket.specs.Answers.{Revision}
+use Rattle.kv_store.proofs.Numbered.{accepted_is_next, writes_of-wrote, write_at_counted, counts_from_lawful}
+use Rattle.kv_watch.specs.declared.options.Options.{Options}
+use Rattle.kv_watch.specs.Given.{Item}
+use Rattle.kv_bucket.specs.declared.call.Call.{Call}
+use Rattle.kv_bucket.specs.declared.call.Call.TheVariants as calls
+use Rattle.kv_bucket.specs.Answers.{Answer, Revision}
 use Rattle.kv_bucket.specs.Held.{Bucketed, Represents}
-use Rattle.kv_bucket.specs.Keeping.{Kept, IsAt, state_of, IsSomewhere}
-use Rattle.kv_bucket.specs.State.{State, Watch, add_act, after_write, answer_write}
+use Rattle.kv_bucket.specs.Keeping.{Kept, IsAt, state_of, IsSomewhere, IsKeptStep, PublishesWrite}
+use Rattle.kv_bucket.specs.State.{State, Watch, add_act, add_watch, opened, open_at, has_room, next_of, after, after_write, after_stop, after_item, after_take, answer_write}
+use Rattle.kv_bucket.specs.Stepping.{IsStep}
 use Rattle.kv_bucket.proofs.Answering.{write_done}
 use Rattle.kv_bucket.proofs.Later.{later}
 use Rattle.kv_bucket.proofs.Representing.{represents_act}
@@ -85,3 +90,62 @@ somewhere_kept config old was bucket act version published (Err error) some is s
     ap (λ (b : Bucketed). let k : Kept = record { bucket = b; published = old.published } in k) (is ∙ sym err.1)
     ∙ ap (λ (acts : List Act). let k : Kept = record { bucket = bucket; published = acts } in k) (sym err.0) in
     subst (IsSomewhere config) there some
+
+-- ---- calls that accept nothing
+
+-- a call keeps the configuration and the acts
+abbrev pub IsQuiet : Call → Type 0
+IsQuiet call = (state : State) → ((after state call).config ≡ state.config) × ((after state call).acts ≡ state.acts)
+
+pub quiet_watch : (filters : List (List ℕ)) (options : Options) → IsQuiet (calls.Watch filters options)
+quiet_watch filters options state =
+    let wider : State = add_watch (opened filters options state) state in
+    elim (has_room state) as (λ b. ((cond b wider state).config ≡ state.config) × ((cond b wider state).acts ≡ state.acts)) [ true ↦ (refl, refl) | false ↦ (refl, refl) ]
+
+stop_quiet : (number : ℕ) (state : State) (watch : Option Watch) → ((after_stop number state watch).config ≡ state.config) × ((after_stop number state watch).acts ≡ state.acts)
+stop_quiet number state None = (refl, refl)
+stop_quiet number state (Some watch) = (refl, refl)
+
+pub quiet_stop : (number : ℕ) → IsQuiet (calls.Stop number)
+quiet_stop number state = stop_quiet number state (open_at number state)
+
+item_quiet : (number : ℕ) (state : State) (watch : Watch) (item : Option Item) → ((after_item number state watch item).config ≡ state.config) × ((after_item number state watch item).acts ≡ state.acts)
+item_quiet number state watch None = (refl, refl)
+item_quiet number state watch (Some item) = (refl, refl)
+
+take_quiet : (number : ℕ) (state : State) (watch : Option Watch) → ((after_take number state watch).config ≡ state.config) × ((after_take number state watch).acts ≡ state.acts)
+take_quiet number state None = (refl, refl)
+take_quiet number state (Some watch) = item_quiet number state watch (next_of state.config.history state.acts watch)
+
+pub quiet_take : (number : ℕ) → IsQuiet (calls.Take number)
+quiet_take number state = take_quiet number state (open_at number state)
+
+-- such a call of the bucket is one step of what lies under the lock
+pub step_quiet : (call : Call) (answer : Answer) (old : Kept) (bucket : Bucketed) → IsQuiet call → IsStep old.bucket call answer bucket → IsKeptStep old call answer (record { bucket = bucket; published = old.published })
+step_quiet call answer old bucket quiet step state at =
+    let done = step state at.represents in
+    (done.0, record { represents = done.1; published = at.published ∙ sym (quiet state).1 })
+
+pub somewhere_quiet : {X : Type 0} (call : Call) (answer : X → Answer) (config : Configuration) (old : Kept) (bucket : Bucketed) (result : Result X KvError) → IsQuiet call → IsSomewhere config old
+    → IfOk result (λ x. IsStep old.bucket call (answer x) bucket) → OnErr result (bucket ≡ old.bucket) → IsSomewhere config (record { bucket = bucket; published = old.published })
+somewhere_quiet call answer config old bucket (Ok x) quiet some ok err =
+    let state : State = state_of config old.published some.0 in
+    let to : State = after state call in
+    let done = step_quiet call (answer x) old bucket quiet ok state some.1 in
+    let same : to ≡ state_of config old.published to.watches =
+    ap (λ (c : Configuration). let s : State = record { config = c; acts = to.acts; watches = to.watches } in s) (quiet state).0
+    ∙ ap (λ (acts : List Act). let s : State = record { config = config; acts = acts; watches = to.watches } in s) (quiet state).1 in
+    (to.watches, subst (λ (s : State). IsAt s (record { bucket = bucket; published = old.published })) same done.1)
+somewhere_quiet call answer config old bucket (Err error) quiet some ok err =
+    subst (IsSomewhere config) (ap (λ (b : Bucketed). let k : Kept = record { bucket = b; published = old.published } in k) (sym err)) some
+
+-- ---- what a write publishes
+
+pub publishes : (config : Configuration) (old : Kept) (request : Asked) (w : Write) (version : Stored) (revision : ℕ) (published : List Act) → IsSomewhere config old
+    → accept old.bucket.version.config request old.published ≡ Ok w → StandsFor (old.published ++ Wrote w ∷ []) version → revision ≡ version.last → published ≡ old.published ++ Wrote w ∷ []
+    → PublishesWrite config request revision old.published published
+publishes config old request w version revision published some accepted stands last is =
+    let all : length (writes_of (old.published ++ Wrote w ∷ [])) ≡ length (writes_of old.published) + 1 =
+    ap length (writes_of-wrote old.published w) ∙ length-append (writes_of old.published) (w ∷ []) in
+    let number : w.revision ≡ length (writes_of old.published) + 1 = ap (λ (v : Write). v.revision) (sym (accepted_is_next old.bucket.version.config request old.published w accepted)) in
+    (w, ((ap (λ (c : Configuration). accept c request old.published) (sym (same_config config old some)) ∙ accepted), number ∙ (sym all ∙ (sym stands.last ∙ sym last)), is))

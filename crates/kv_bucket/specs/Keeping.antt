@@ -1,10 +1,12 @@
 -- What lies under the lock, and what a call makes of it.
-use Rattle.std.specs.Prelude.{◌≡◌, ℕ, List, Result, Ok, Err, ◌&&◌, nat_le, if◌then◌else◌}
+use Rattle.std.specs.Prelude.{◌≡◌, ℕ, List, [], ◌∷◌, ◌++◌, Result, Ok, Err, ◌&&◌, nat_le, if◌then◌else◌}
 use Rattle.logbook.specs.Pages.{Book}
 use Rattle.kv_keys.specs.declared.error.KvError.{KvError}
 use Rattle.kv_keys.specs.declared.error.KvError.TheVariants.{NoReader}
-use Rattle.kv_store.specs.Acts.{Act}
+use Rattle.kv_store.specs.Acceptance.{accept}
+use Rattle.kv_store.specs.Acts.{Act, Wrote, Write}
 use Rattle.kv_store.specs.Configuration.{Configuration, configure}
+use Rattle.kv_store.specs.Requests.{Asked}
 use Rattle.kv_bucket.specs.declared.call.Call.{Call}
 use Rattle.kv_bucket.specs.Answers.{Answer}
 use Rattle.kv_bucket.specs.Held.{Bucketed, Represents}
@@ -31,6 +33,10 @@ IsSomewhere config kept = (watches : List Watch) × IsAt (state_of config kept.p
 -- a call is one step of the model, from every state that the value was at, in full
 abbrev pub IsKeptStep : Kept → Call → Answer → Kept → Type 0
 IsKeptStep old call answer new = (state : State) → IsAt state old → (answer ≡ answer_to state call) × IsAt (after state call) new
+
+-- a request was accepted after the acts before, at this revision, and the acts after are those with its write
+abbrev pub PublishesWrite : Configuration → Asked → ℕ → List Act → List Act → Type 0
+PublishesWrite config request revision before later = (w : Write) × ((accept config request before ≡ Ok w) × (w.revision ≡ revision) × (later ≡ before ++ Wrote w ∷ []))
 
 -- what an opening is of, and how many readers it is for
 pub record Opening : Type 0 where

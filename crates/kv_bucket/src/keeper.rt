@@ -2,20 +2,23 @@
 
 ghost use Rattle.std.specs.Prelude.{◌≡◌, ◌++◌, ◌∷◌, [], List, Some, IfErr, IfOk, OnErr, OnOk, length};
 ghost use Rattle.kv_keys.specs.Outcome.{Refuses};
-ghost use Rattle.kv_keys.specs.declared.error.KvError.TheVariants.{OutOfMemory};
+ghost use Rattle.kv_keys.specs.declared.error.KvError.TheVariants.{OutOfMemory, NoSuchWatch};
 ghost use Rattle.kv_store.specs.Acceptance.{accept};
 ghost use Rattle.kv_store.specs.Acts.{Act, Wrote, Write as AWrite, writes_of};
 ghost use Rattle.kv_store.specs.Requests.{asked};
 ghost use Rattle.kv_store.specs.Standing.{StandsFor};
-ghost use Rattle.kv_bucket.specs.declared.call.Call.TheVariants.{Write, Seal};
-ghost use Rattle.kv_bucket.specs.Answers.{Revision, Sealed};
-ghost use Rattle.kv_bucket.specs.Keeping.{IsAt, IsSomewhere, IsKeptStep};
-ghost use Rattle.kv_bucket.specs.State.{State};
+ghost use Rattle.kv_watch.specs.Taking.{item_taken};
+ghost use Rattle.kv_bucket.specs.declared.call.Call.TheVariants.{Write, Seal, Watch, Take, Stop};
+ghost use Rattle.kv_bucket.specs.Answers.{Revision, Sealed, Watching, Ended, Refused, answer_item};
+ghost use Rattle.kv_bucket.specs.Keeping.{IsAt, IsSomewhere, IsKeptStep, PublishesWrite};
+ghost use Rattle.kv_bucket.specs.State.{State, answer_to};
+ghost use Rattle.kv_bucket.specs.Stepping.{next_number};
 
 use crate::bucket::Bucket;
-use kv_history::{Deed, LiveName, Publisher, Receipt};
-use kv_keys::KvError;
+use kv_history::{Deed, LiveName, Publisher, Receipt, Stopped};
+use kv_keys::{Filters, KvError};
 use kv_store::{Request, Version};
+use kv_watch::{Options, Taken};
 use std::marker::Model;
 use std::sync::Wait;
 
@@ -78,6 +81,7 @@ impl<N: LiveName> Keeper<N> {
     /// nothing and uses no revision. It waits for readers that are inside the copy that is to change.
     pub fn write<R: Wait>(&mut self, rt: &R, request: &Request) -> Result<u64, KvError>
         ensures ok { IfOk result (λ revision. IsKeptStep self.old (Write request.now) (Revision revision) self.new) }
+        ensures published { IfOk result (λ revision. PublishesWrite N.config (asked request.now) revision self.old.published self.new.published) }
         ensures refused { IfErr result (λ e. (state : State) → IsAt state self.old →
             Refuses e (accept state.config (asked request.now) state.acts)) }
         ensures unchanged { OnErr result (self.new ≡ self.old) }
@@ -102,5 +106,49 @@ impl<N: LiveName> Keeper<N> {
         let next = bucket.version.seal(bucket.alloc)?;
         keep(rt, bucket, publisher, Deed::seal(), next)?;
         Ok(())
+    }
+
+    /// Opens a watch on the bucket, as `Bucket::watch` does.
+    pub fn watch(&mut self, filters: &Filters, options: Options) -> Result<u64, KvError>
+        ensures ok { IfOk result (λ number. IsKeptStep self.old (Watch filters.now options) (Watching number) self.new) }
+        ensures refused { IfErr result (λ e. (state : State) → IsAt state self.old → Refuses e (next_number state)) }
+        ensures unchanged { OnErr result (self.new ≡ self.old) }
+    {
+        self.bucket.watch(filters, options)
+    }
+
+    /// What `take` would hand out.
+    pub fn peek(&self, number: u64) -> Result<Taken<'_>, KvError>
+        ensures ok { IfOk result (λ taken. (state : State) → IsAt state self.now →
+            answer_item (item_taken taken) ≡ answer_to state (Take number)) }
+        ensures refused { IfErr result (λ e. (e ≡ NoSuchWatch) × ((state : State) → IsAt state self.now →
+            Refused e ≡ answer_to state (Take number))) }
+    {
+        self.bucket.peek(number)
+    }
+
+    /// Stops a watch of the bucket, as `Bucket::stop` does.
+    pub fn stop(&mut self, number: u64) -> Result<Stopped, KvError>
+        ensures ok { IfOk result (λ stopped. IsKeptStep self.old (Stop number) (Ended stopped.handed) self.new) }
+        ensures refused { IfErr result (λ e. (e ≡ NoSuchWatch) × IsKeptStep self.old (Stop number) (Refused e) self.new) }
+        ensures unchanged { OnErr result (self.new ≡ self.old) }
+    {
+        self.bucket.stop(number)
+    }
+
+    // A receipt for all that is published.
+    pub(crate) fn receipt(&self) -> Receipt<N>
+        ensures { result ≡ self.now.published }
+    {
+        self.publisher.receipt(self.bucket.version.revision())
+    }
+
+    /// Ends the publisher. It waits for the readers that are reading.
+    pub(crate) fn close<R: Wait>(self, rt: &R) {
+        let Keeper {
+            bucket: _,
+            publisher,
+        } = self;
+        publisher.close(rt);
     }
 }

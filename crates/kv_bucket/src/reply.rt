@@ -4,7 +4,7 @@ ghost use Rattle.std.specs.Prelude.{◌≡◌, IfErr, IfOk};
 ghost use Rattle.kv_keys.specs.declared.error.KvError.TheVariants.{OutOfMemory};
 
 use crate::seen::Seen;
-use crate::stopped::Stopped;
+use kv_history::Stopped;
 use kv_keys::{Key, KvError};
 use kv_store::Status;
 

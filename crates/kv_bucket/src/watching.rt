@@ -14,7 +14,7 @@ ghost use Rattle.kv_bucket.specs.Stepping.{IsStep, next_number};
 
 use crate::bucket::Bucket;
 use crate::held::{Held, advance_at, lend, place_of};
-use crate::stopped::Stopped;
+use kv_history::Stopped;
 use kv_keys::{Filters, KvError};
 use kv_watch::{Cursor, Options, Taken};
 

@@ -1,0 +1,12 @@
+use Rattle.kv_history.specs.declared.stopped.Stopped.{Stopped}
+use Rattle.kv_bucket.specs.declared.call.Call.TheVariants as calls
+use Rattle.kv_bucket.specs.Answers.{Ended}
+use Rattle.kv_bucket.specs.Keeping.{Kept}
+use Rattle.kv_bucket.proofs.Keeping.{quiet_stop, somewhere_quiet}
+use Rattle.kv_bucket.proofs.keeper.Keeper.stop.Goals as goal
+
+pub invariant_of-self : goal.invariant_of-self
+invariant_of-self g c =
+    let was = c.self.inside in
+    let old : Kept = record { bucket = was.bucket; published = was.publisher } in
+    somewhere_quiet (calls.Stop c.args.number) (λ (stopped : Stopped). Ended stopped.handed) g.N.LiveName.config old c.stop.new.self c.stop.result (quiet_stop c.args.number) c.self.invariant c.stop.ensures.ok c.stop.ensures.unchanged

@@ -1,0 +1,159 @@
+//! A bucket that threads share: writers take one lock, readers none.
+
+ghost use Rattle.std.specs.Prelude.{◌≡◌, List, [], IfErr, IfOk, MatchResult, All, length};
+ghost use Rattle.kv_keys.specs.declared.error.KvError.TheVariants.{OutOfMemory, NoReader};
+ghost use Rattle.kv_keys.specs.Outcome.{Refuses};
+ghost use Rattle.kv_store.specs.Acts.{Act};
+ghost use Rattle.kv_store.specs.Requests.{asked};
+ghost use Rattle.kv_history.specs.Known.{IsUnread};
+ghost use Rattle.kv_bucket.specs.Keeping.{PublishesWrite, may_open};
+
+use crate::bucket::Bucket;
+use crate::keeper::Keeper;
+use kv_history::{Blank, LiveName, Publisher, Reader, Receipt};
+use kv_keys::KvError;
+use kv_store::{Config, Request};
+use std::alloc::Global;
+use std::marker::{Brand, Model};
+use std::sync::{Mutex, MutexGuard, Wait};
+
+/// The most readers of one opening.
+const MOST_READERS: usize = 32;
+
+/// An opening that has no name yet. Contracts see which history and which configuration it is of, and for how many readers.
+#[derive(Drop)]
+pub struct Opened {
+    alloc: Global,
+    bucket: Bucket,
+    blank: Blank,
+    readers: usize,
+}
+
+impl Model for Opened {
+    ghost use Rattle.std.specs.Prelude.{◌<◌, ◌≤◌};
+    ghost use Rattle.kv_bucket.specs.Held.{Represents};
+    ghost use Rattle.kv_bucket.specs.Keeping.{Opening};
+    ghost use Rattle.kv_bucket.specs.State.{empty};
+
+    ghost Value = { Opening };
+
+    ghost view = { λ o. record { book = o.blank.sight.book; config = o.bucket.version.config; readers = o.readers } };
+
+    ghost invariant = { λ o. Represents (empty o.bucket.version.config) o.bucket × (0 < o.readers) × (o.readers ≤ 32) };
+}
+
+/// The bucket of the opening N. Threads share it by reference. It is not `Drop`: end it by `close`.
+pub struct Live<N: LiveName> {
+    keeper: Mutex<Keeper<N>>,
+}
+
+// Why there is no opening for this number of readers: the configuration is refused first.
+fn refusal_of(bucket: Result<Bucket, KvError>) -> KvError
+    ensures { MatchResult bucket (λ _. result ≡ NoReader) (λ e. (e ≡ OutOfMemory → result ≡ NoReader) × ((e ≡ OutOfMemory → ⊥) → result ≡ e)) }
+{
+    match bucket {
+        Ok(_) => KvError::NoReader,
+        Err(KvError::OutOfMemory) => KvError::NoReader,
+        Err(refusal) => refusal,
+    }
+}
+
+impl Live<Brand> {
+    /// Opens an empty bucket for 1 to 32 readers. The name is checked before the numbers, and these before the number of
+    /// readers.
+    pub fn open(alloc: Global, config: &Config, readers: usize) -> Result<Opened, KvError>
+        ensures ok { IfOk result (λ opened. (opened.config ≡ config.now) × (opened.readers ≡ readers)) }
+        ensures refused { IfErr result (λ e. Refuses e (may_open config.now readers)) }
+    {
+        let bucket = Bucket::open(alloc, config);
+        if readers == 0 || readers > MOST_READERS {
+            return Err(refusal_of(bucket));
+        }
+        let bucket = bucket?;
+        Ok(Opened {
+            alloc,
+            bucket,
+            blank: Blank::new(),
+            readers,
+        })
+    }
+}
+
+impl Opened {
+    /// The bucket under a name, and its readers, which have seen nothing. Where it is refused the opening ends.
+    pub fn live<N: LiveName, R: Wait>(self, rt: &R) -> Result<(Live<N>, Vec<Reader<N>>), KvError>
+        requires { (self.book ≡ N.book) × (self.config ≡ N.config) }
+        ensures ok { IfOk result (λ r. (length r.1.items ≡ self.readers) × All (λ reader. (reader.seen ≡ []) × (reader.told ≡ [])) r.1.items) }
+        ensures err { IfErr result IsUnread }
+    {
+        let Opened {
+            alloc,
+            bucket,
+            blank,
+            readers,
+        } = self;
+        let publisher: Publisher<N> = Publisher::new(alloc, blank, &bucket.version, readers)?;
+        match publisher.readers(readers) {
+            Ok(readers) => {
+                let live = Live {
+                    keeper: Mutex::new(Keeper { bucket, publisher }),
+                };
+                Ok((live, readers))
+            }
+            Err(refusal) => {
+                publisher.close(rt);
+                Err(refusal)
+            }
+        }
+    }
+}
+
+// Writes, and tells of it.
+fn write_and_tell<N: LiveName, R: Wait>(
+    rt: &R,
+    keeper: &mut Keeper<N>,
+    request: &Request,
+) -> Result<(u64, Receipt<N>), KvError>
+    ensures { IfOk result (λ r. PublishesWrite N.config (asked request.now) r.0 keeper.old.published r.1) }
+{
+    let revision = keeper.write(rt, request)?;
+    Ok((revision, keeper.receipt()))
+}
+
+impl<N: LiveName> Live<N> {
+    /// The keeper, for several calls in a row. It waits until the lock is free.
+    pub fn lock<R: Wait>(&self, rt: &R) -> MutexGuard<'_, Keeper<N>> {
+        self.keeper.lock(rt)
+    }
+
+    /// Does what is asked, and answers the revision of the write, as `Keeper::write` does.
+    pub fn write<R: Wait>(&self, rt: &R, request: &Request) -> Result<u64, KvError>
+        ensures { IfOk result (λ revision. (before later : List Act) × PublishesWrite N.config (asked request.now) revision before later) }
+    {
+        self.keeper.lock(rt).write(rt, request)
+    }
+
+    /// The same, with a receipt: readers that learn it see the write from then on. The receipt tells all acts up to the
+    /// write, which is its last.
+    pub fn write_told<R: Wait>(
+        &self,
+        rt: &R,
+        request: &Request,
+    ) -> Result<(u64, Receipt<N>), KvError>
+        ensures { IfOk result (λ r. (before : List Act) × PublishesWrite N.config (asked request.now) r.0 before r.1) }
+    {
+        let mut keeper = self.keeper.lock(rt);
+        write_and_tell(rt, &mut *keeper, request)
+    }
+
+    /// Ends writes, as `Keeper::seal` does.
+    pub fn seal<R: Wait>(&self, rt: &R) -> Result<(), KvError> {
+        self.keeper.lock(rt).seal(rt)
+    }
+
+    /// Ends the bucket's writer. It waits for the readers that are reading.
+    pub fn close<R: Wait>(self, rt: &R) {
+        let Live { keeper } = self;
+        keeper.into_inner().close(rt);
+    }
+}
