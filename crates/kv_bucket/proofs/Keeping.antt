@@ -1,6 +1,6 @@
 -- What an act and a quiet call make of what lies under the lock.
 use Rattle.std.proofs.Common.{◌≡◌, ℕ, ◌+◌, ◌-◌, ◌<◌, Bool, true, false, cond, List, [], ◌∷◌, ◌++◌, Option, Some, None, Result, Ok, Err, length, refl, sym, ap, ◌∙◌, subst, arith, length-append}
-use Rattle.std.specs.Prelude.{IfOk, OnOk, OnErr}
+use Rattle.std.specs.Prelude.{IfOk, OnOk, OnErr, MatchResult}
 use Rattle.std.specs.List.{slice_get}
 use Rattle.kv_keys.specs.declared.error.KvError.{KvError}
 use Rattle.kv_store.specs.Acceptance.{accept}
@@ -138,6 +138,11 @@ somewhere_quiet call answer config old bucket (Ok x) quiet some ok err =
     (to.watches, subst (λ (s : State). IsAt s (record { bucket = bucket; published = old.published })) same done.1)
 somewhere_quiet call answer config old bucket (Err error) quiet some ok err =
     subst (IsSomewhere config) (ap (λ (b : Bucketed). let k : Kept = record { bucket = b; published = old.published } in k) (sym err)) some
+
+pub somewhere_taken : {X : Type 0} (call : Call) (answer : X → Answer) (config : Configuration) (old : Kept) (bucket : Bucketed) (result : Result X KvError) → IsQuiet call → IsSomewhere config old
+    → MatchResult result (λ x. IsStep old.bucket call (answer x) bucket) (λ e. bucket ≡ old.bucket) → IsSomewhere config (record { bucket = bucket; published = old.published })
+somewhere_taken call answer config old bucket (Ok x) quiet some h = somewhere_quiet call answer config old bucket (Ok x) quiet some h tt
+somewhere_taken call answer config old bucket (Err e) quiet some h = somewhere_quiet call answer config old bucket (Err e) quiet some tt h
 
 -- ---- what a write publishes
 

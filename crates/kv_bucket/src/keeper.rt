@@ -1,6 +1,8 @@
 //! What lies under the lock: the bucket, and what publishes its acts.
 
-ghost use Rattle.std.specs.Prelude.{◌≡◌, ◌++◌, ◌∷◌, [], List, Some, IfErr, IfOk, OnErr, OnOk, length};
+ghost use Rattle.std.specs.Prelude.{◌≡◌, ◌++◌, ◌∷◌, [], ⊤, List, Some, IfErr, IfOk, OnErr, OnOk, MatchResult};
+ghost use Rattle.std.specs.Borrow.{sem, follows_so};
+ghost use mathlib.Core.Option.{none};
 ghost use Rattle.kv_keys.specs.Outcome.{Refuses};
 ghost use Rattle.kv_keys.specs.declared.error.KvError.TheVariants.{OutOfMemory, NoSuchWatch};
 ghost use Rattle.kv_store.specs.Acceptance.{accept};
@@ -69,6 +71,8 @@ fn keep<N: LiveName, R: Wait>(
 }
 
 impl<N: LiveName> Keeper<N> {
+    ghost use Rattle.kv_bucket.specs.contracts.keeper.Keeper.{the_row};
+
     /// The bucket.
     pub fn bucket(&self) -> &Bucket
         ensures value { result.now ≡ self.now.bucket }
@@ -125,6 +129,20 @@ impl<N: LiveName> Keeper<N> {
             Refused e ≡ answer_to state (Take number))) }
     {
         self.bucket.peek(number)
+    }
+
+    /// Hands out the next item of a watch, lent from the bucket, and moves the watch on behind it, as `Bucket::take` does.
+    pub fn take(&mut self, number: u64) -> Result<Taken<'_>, KvError>
+        ensures* after { sem 𝓛 (follows_so (the_row N.row N.LiveName) (the_row N.row N.LiveName) self.entry.ghost_name none (λ _ _. ⊤)
+            (λ left. MatchResult result
+            (λ taken. IsKeptStep self.old (Take number) (answer_item (item_taken taken)) left)
+            (λ e. left ≡ self.old))) }
+        ensures ok { IfOk result (λ taken. (state : State) → IsAt state self.old →
+            answer_item (item_taken taken) ≡ answer_to state (Take number)) }
+        ensures refused { IfErr result (λ e. (e ≡ NoSuchWatch) × ((state : State) → IsAt state self.old →
+            Refused e ≡ answer_to state (Take number))) }
+    {
+        self.bucket.take(number)
     }
 
     /// Stops a watch of the bucket, as `Bucket::stop` does.

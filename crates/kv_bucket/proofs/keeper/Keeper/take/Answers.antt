@@ -1,0 +1,14 @@
+use Rattle.kv_watch.specs.declared.taken.Taken.{Taken}
+use Rattle.kv_watch.specs.Taking.{item_taken}
+use Rattle.kv_bucket.specs.declared.call.Call.TheVariants as calls
+use Rattle.kv_bucket.specs.Answers.{answer_item}
+use Rattle.kv_bucket.specs.Keeping.{Kept}
+use Rattle.kv_bucket.proofs.Keeping.{quiet_take, somewhere_taken}
+use Rattle.kv_bucket.proofs.keeper.Keeper.take.Goals as goal
+
+pub invariant_of-self : goal.invariant_of-self
+invariant_of-self g c =
+    let was = c.self.inside in
+    let old : Kept = record { bucket = was.bucket; published = was.publisher } in
+    somewhere_taken (calls.Take c.args.number) (λ (taken : Taken). answer_item (item_taken taken)) g.N.LiveName.config old c.take.follows.lender-at-none c.take.result (quiet_take c.args.number) c.self.invariant
+    c.take.follows.holds-at-none
