@@ -24,3 +24,6 @@ pub use kv_watch::{Options, Shown, Start, Taken};
 pub use live::{Live, Opened};
 pub use reply::Reply;
 pub use seen::Seen;
+
+#[cfg(test)]
+mod tests;

@@ -1,0 +1,162 @@
+//! Tests of buckets by worked rows. Each also passes where any one request for memory is refused: then the bucket is as it
+//! was, and the same call, made again, goes on.
+
+use crate::{
+    Bucket, Call, Config, Filter, Filters, Key, KvError, Options, Reply, Request, Start, Status,
+    Taken,
+};
+use std::alloc::Global;
+use std::process::Abort;
+use std::test::Fail;
+
+mod rows;
+mod runs;
+
+const LATEST: Options = Options {
+    start: Start::Latest,
+    ignore_deletes: false,
+    headers_only: false,
+};
+
+// What was answered, by its numbers.
+#[derive(Clone, Copy, Debug, PartialEq, Eq)]
+enum Answer {
+    Revision(u64),
+    Sealed,
+    Entry(u64),
+    Count(usize),
+    Status(Status, u64),
+    Watch(u64),
+    Marker,
+    Empty,
+    Stopped(u64),
+    Refused(KvError),
+}
+
+fn brief(reply: &Reply) -> Answer {
+    match reply {
+        Reply::Revision(revision) => Answer::Revision(*revision),
+        Reply::Sealed => Answer::Sealed,
+        Reply::Entry(seen) => Answer::Entry(seen.revision),
+        Reply::Entries(entries) => Answer::Count(entries.len()),
+        Reply::Keys(keys) => Answer::Count(keys.len()),
+        Reply::Status { status, watches } => Answer::Status(*status, *watches),
+        Reply::Watch(number) => Answer::Watch(*number),
+        Reply::Marker => Answer::Marker,
+        Reply::Empty => Answer::Empty,
+        Reply::Stopped(stopped) => Answer::Stopped(stopped.handed),
+        Reply::Refused(error) => Answer::Refused(*error),
+    }
+}
+
+fn brief_taken(taken: Result<Taken<'_>, KvError>) -> Answer {
+    match taken {
+        Ok(Taken::Entry(shown)) => Answer::Entry(shown.revision()),
+        Ok(Taken::Marker) => Answer::Marker,
+        Ok(Taken::Empty) => Answer::Empty,
+        Err(error) => Answer::Refused(error),
+    }
+}
+
+// What can be seen of a bucket with two watches at most.
+#[derive(Clone, Copy, Debug, PartialEq, Eq)]
+struct Sight {
+    status: Status,
+    watches: u64,
+    first: Answer,
+    second: Answer,
+}
+
+fn look(bucket: &Bucket) -> Sight {
+    Sight {
+        status: bucket.version().status(),
+        watches: bucket.watches(),
+        first: brief_taken(bucket.peek(1)),
+        second: brief_taken(bucket.peek(2)),
+    }
+}
+
+fn open_once(alloc: Global, name: &str, history: u64, write_limit: u64) -> Result<Bucket, KvError> {
+    let mut config = Config::named(alloc, name)?;
+    config.history = history;
+    config.write_limit = write_limit;
+    Bucket::open(alloc, &config)
+}
+
+fn open(alloc: Global, name: &str, history: u64, write_limit: u64) -> Result<Bucket, KvError> {
+    match open_once(alloc, name, history, write_limit) {
+        Err(KvError::OutOfMemory) => open_once(alloc, name, history, write_limit),
+        bucket => bucket,
+    }
+}
+
+fn put_once(alloc: Global, key: &str, value: &str) -> Result<Request, KvError> {
+    let key = Key::parse(alloc, key)?;
+    let value = Vec::from_slice(alloc, value.as_bytes())?;
+    Ok(Request::Put { key, value })
+}
+
+fn put(alloc: Global, key: &str, value: &str) -> Result<Request, KvError> {
+    match put_once(alloc, key, value) {
+        Err(KvError::OutOfMemory) => put_once(alloc, key, value),
+        request => request,
+    }
+}
+
+fn all_keys(alloc: Global) -> Result<Filters, KvError> {
+    match Filters::parse(alloc, ">") {
+        Err(KvError::OutOfMemory) => Filters::parse(alloc, ">"),
+        filters => filters,
+    }
+}
+
+fn write(rt: &impl Abort, bucket: &mut Bucket, request: &Request) -> Result<u64, KvError> {
+    let before = look(bucket);
+    match bucket.write(request) {
+        Err(KvError::OutOfMemory) => {
+            assert_eq!(rt; look(bucket), before);
+            bucket.write(request)
+        }
+        revision => revision,
+    }
+}
+
+fn seal(rt: &impl Abort, bucket: &mut Bucket) -> Result<(), KvError> {
+    let before = look(bucket);
+    match bucket.seal() {
+        Err(KvError::OutOfMemory) => {
+            assert_eq!(rt; look(bucket), before);
+            bucket.seal()
+        }
+        done => done,
+    }
+}
+
+fn watch(rt: &impl Abort, bucket: &mut Bucket, filters: &Filters) -> Result<u64, KvError> {
+    let before = look(bucket);
+    match bucket.watch(filters, LATEST) {
+        Err(KvError::OutOfMemory) => {
+            assert_eq!(rt; look(bucket), before);
+            bucket.watch(filters, LATEST)
+        }
+        number => number,
+    }
+}
+
+// Where a request for memory is refused, the calls before the refused one were done, and the others go on from there.
+fn run(
+    rt: &impl Abort,
+    bucket: &mut Bucket,
+    calls: &[Call],
+    replies: &mut Vec<Reply>,
+) -> Result<(), KvError> {
+    let before = replies.len();
+    match bucket.run(calls, replies) {
+        Err(KvError::OutOfMemory) => {
+            let done = replies.len().saturating_sub(before);
+            assert!(rt; done < calls.len());
+            bucket.run(&calls[done..], replies)
+        }
+        done => done,
+    }
+}
