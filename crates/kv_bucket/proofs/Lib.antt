@@ -10,3 +10,4 @@ pub mod Moving
 pub mod Lending
 pub mod Answering
 pub mod Running
+pub mod NoMemory

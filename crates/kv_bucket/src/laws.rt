@@ -1,13 +1,14 @@
 //! Laws of what a whole run of calls tells a watch. They are over the model alone, and know no version and no cursor.
 
 ghost use Rattle.std.specs.Prelude.{◌≡◌, ℕ, List, [], ◌∷◌, ◌++◌, Some};
+ghost use Rattle.kv_keys.specs.declared.error.KvError.TheVariants.{OutOfMemory};
 ghost use Rattle.kv_store.specs.Acts.{IsPrefix};
 ghost use Rattle.kv_store.specs.Configuration.{Configuration};
 ghost use Rattle.kv_watch.specs.declared.options.Options.{Options};
 ghost use Rattle.kv_watch.specs.Given.{given};
 ghost use Rattle.kv_bucket.specs.declared.call.Call.{Call};
 ghost use Rattle.kv_bucket.specs.declared.call.Call.TheVariants.{Watch, Take, Stop};
-ghost use Rattle.kv_bucket.specs.Answers.{Watching, Empty, Ended};
+ghost use Rattle.kv_bucket.specs.Answers.{Watching, Empty, Ended, Refused};
 ghost use Rattle.kv_bucket.specs.Runs.{run, answers_to, items_in};
 ghost use Rattle.kv_bucket.specs.State.{State, Watch as AWatch, watch_at, empty, after, answer_to};
 ghost use Rattle.kv_bucket.specs.Told.{IsOther, TellsWatch, TellsEachWatch};
@@ -50,4 +51,9 @@ pub fn others_leave_it()
 /// The watch theorem: what is said of each watch that calls opened.
 pub fn tells_each_watch()
     ensures { (state : State) (calls : List Call) → TellsEachWatch state calls (answers_to state calls) }
+{}
+
+/// No call is answered with want of memory: where it is met, there is no reply.
+pub fn answers_no_want_of_memory()
+    ensures { (state : State) (call : Call) → answer_to state call ≡ Refused OutOfMemory → ⊥ }
 {}
