@@ -1,0 +1,100 @@
+-- The refusals that end a replay.
+use Rattle.std.specs.Prelude.{⊤}
+use Rattle.kv_keys.specs.declared.error.KvError.{KvError}
+use Rattle.kv_keys.specs.declared.error.KvError.TheVariants.{OutOfMemory, BadBucket, BadConfig, BadKey, BadFilter, OptionsClash, ValueTooLarge, Sealed, JournalFull, KeyExists, WrongLastRevision, KeyNotFound, NoSuchWatch, TooManyWatches, NoReader, BadCommand, ReadFault, WriteFault, BadFloor, WatchBehind, Lagged}
+
+-- the writer failed, or memory ran out
+abbrev pub IsWriteOrMemory : KvError → Type 0
+IsWriteOrMemory OutOfMemory = ⊤
+IsWriteOrMemory BadBucket = ⊥
+IsWriteOrMemory BadConfig = ⊥
+IsWriteOrMemory BadKey = ⊥
+IsWriteOrMemory BadFilter = ⊥
+IsWriteOrMemory OptionsClash = ⊥
+IsWriteOrMemory ValueTooLarge = ⊥
+IsWriteOrMemory Sealed = ⊥
+IsWriteOrMemory JournalFull = ⊥
+IsWriteOrMemory KeyExists = ⊥
+IsWriteOrMemory (WrongLastRevision last) = ⊥
+IsWriteOrMemory KeyNotFound = ⊥
+IsWriteOrMemory NoSuchWatch = ⊥
+IsWriteOrMemory TooManyWatches = ⊥
+IsWriteOrMemory NoReader = ⊥
+IsWriteOrMemory BadCommand = ⊥
+IsWriteOrMemory ReadFault = ⊥
+IsWriteOrMemory WriteFault = ⊤
+IsWriteOrMemory BadFloor = ⊥
+IsWriteOrMemory (WatchBehind watch) = ⊥
+IsWriteOrMemory (Lagged floor) = ⊥
+
+-- memory ran out, a device failed, or the configuration is not legal
+abbrev pub IsReplayFault : KvError → Type 0
+IsReplayFault OutOfMemory = ⊤
+IsReplayFault BadBucket = ⊤
+IsReplayFault BadConfig = ⊤
+IsReplayFault BadKey = ⊥
+IsReplayFault BadFilter = ⊥
+IsReplayFault OptionsClash = ⊥
+IsReplayFault ValueTooLarge = ⊥
+IsReplayFault Sealed = ⊥
+IsReplayFault JournalFull = ⊥
+IsReplayFault KeyExists = ⊥
+IsReplayFault (WrongLastRevision last) = ⊥
+IsReplayFault KeyNotFound = ⊥
+IsReplayFault NoSuchWatch = ⊥
+IsReplayFault TooManyWatches = ⊥
+IsReplayFault NoReader = ⊥
+IsReplayFault BadCommand = ⊥
+IsReplayFault ReadFault = ⊤
+IsReplayFault WriteFault = ⊤
+IsReplayFault BadFloor = ⊥
+IsReplayFault (WatchBehind watch) = ⊥
+IsReplayFault (Lagged floor) = ⊥
+
+-- memory ran out, or a device failed
+abbrev pub IsRunFault : KvError → Type 0
+IsRunFault OutOfMemory = ⊤
+IsRunFault BadBucket = ⊥
+IsRunFault BadConfig = ⊥
+IsRunFault BadKey = ⊥
+IsRunFault BadFilter = ⊥
+IsRunFault OptionsClash = ⊥
+IsRunFault ValueTooLarge = ⊥
+IsRunFault Sealed = ⊥
+IsRunFault JournalFull = ⊥
+IsRunFault KeyExists = ⊥
+IsRunFault (WrongLastRevision last) = ⊥
+IsRunFault KeyNotFound = ⊥
+IsRunFault NoSuchWatch = ⊥
+IsRunFault TooManyWatches = ⊥
+IsRunFault NoReader = ⊥
+IsRunFault BadCommand = ⊥
+IsRunFault ReadFault = ⊤
+IsRunFault WriteFault = ⊤
+IsRunFault BadFloor = ⊥
+IsRunFault (WatchBehind watch) = ⊥
+IsRunFault (Lagged floor) = ⊥
+
+-- the configuration is not legal
+abbrev pub IsBadConfiguration : KvError → Type 0
+IsBadConfiguration OutOfMemory = ⊥
+IsBadConfiguration BadBucket = ⊤
+IsBadConfiguration BadConfig = ⊤
+IsBadConfiguration BadKey = ⊥
+IsBadConfiguration BadFilter = ⊥
+IsBadConfiguration OptionsClash = ⊥
+IsBadConfiguration ValueTooLarge = ⊥
+IsBadConfiguration Sealed = ⊥
+IsBadConfiguration JournalFull = ⊥
+IsBadConfiguration KeyExists = ⊥
+IsBadConfiguration (WrongLastRevision last) = ⊥
+IsBadConfiguration KeyNotFound = ⊥
+IsBadConfiguration NoSuchWatch = ⊥
+IsBadConfiguration TooManyWatches = ⊥
+IsBadConfiguration NoReader = ⊥
+IsBadConfiguration BadCommand = ⊥
+IsBadConfiguration ReadFault = ⊥
+IsBadConfiguration WriteFault = ⊥
+IsBadConfiguration BadFloor = ⊥
+IsBadConfiguration (WatchBehind watch) = ⊥
+IsBadConfiguration (Lagged floor) = ⊥

@@ -1,0 +1,8 @@
+pub mod Faults
+pub mod Lines
+pub mod Outcome
+pub mod Reading
+pub mod Scripted
+pub mod Stub
+pub mod Text
+pub mod Written
