@@ -1,7 +1,10 @@
 pub mod ByteByByte
+pub mod Parsing
 pub mod Progress
 pub mod Putting
 pub mod Reached
+pub mod Reading
+pub mod Taking
 pub mod TakingBytes
 pub mod Texts
 pub mod WholeLines

@@ -98,3 +98,27 @@ IsBadConfiguration WriteFault = ⊥
 IsBadConfiguration BadFloor = ⊥
 IsBadConfiguration (WatchBehind watch) = ⊥
 IsBadConfiguration (Lagged floor) = ⊥
+
+-- a refusal for its own cause, and not for want of memory
+abbrev pub IsRefusal : KvError → Type 0
+IsRefusal OutOfMemory = ⊥
+IsRefusal BadBucket = ⊤
+IsRefusal BadConfig = ⊤
+IsRefusal BadKey = ⊤
+IsRefusal BadFilter = ⊤
+IsRefusal OptionsClash = ⊤
+IsRefusal ValueTooLarge = ⊤
+IsRefusal Sealed = ⊤
+IsRefusal JournalFull = ⊤
+IsRefusal KeyExists = ⊤
+IsRefusal (WrongLastRevision last) = ⊤
+IsRefusal KeyNotFound = ⊤
+IsRefusal NoSuchWatch = ⊤
+IsRefusal TooManyWatches = ⊤
+IsRefusal NoReader = ⊤
+IsRefusal BadCommand = ⊤
+IsRefusal ReadFault = ⊤
+IsRefusal WriteFault = ⊤
+IsRefusal BadFloor = ⊤
+IsRefusal (WatchBehind watch) = ⊤
+IsRefusal (Lagged floor) = ⊤

@@ -3,6 +3,6 @@ pub mod Lines
 pub mod Outcome
 pub mod Reading
 pub mod Scripted
-pub mod Stub
+pub mod Steps
 pub mod Text
 pub mod Written

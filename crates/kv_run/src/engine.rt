@@ -16,7 +16,7 @@ ghost use Rattle.kv_store.specs.Configuration.{Configuration, configure};
 use crate::script::Script;
 use crate::sink::Sink;
 use crate::source::Source;
-use crate::stub::Bucket;
+use kv_bucket::Bucket;
 use kv_keys::KvError;
 use kv_store::Config;
 use std::alloc::Global;

@@ -3,12 +3,17 @@
 
 mod answer;
 mod engine;
+mod reads;
+mod refusals;
 mod script;
 mod sink;
 mod source;
 mod streams;
-mod stub;
+mod takes;
+mod watches;
+mod writes;
 
+pub use answer::answer_line;
 pub use engine::run_script;
 pub use sink::{Sink, Whole};
 pub use source::{Bounded, Source};

@@ -9,7 +9,7 @@ ghost use Rattle.kv_run.specs.Text.{line_text, line_next};
 ghost use Rattle.kv_run.specs.Written.{AppendsFront};
 
 use crate::answer::answer_whole_line;
-use crate::stub::Bucket;
+use kv_bucket::Bucket;
 use kv_keys::KvError;
 use std::alloc::Global;
 use std::marker::Model;
