@@ -1,6 +1,7 @@
 pub mod Faults
 pub mod Lines
 pub mod Outcome
+pub mod Programs
 pub mod Reading
 pub mod Scripted
 pub mod Steps

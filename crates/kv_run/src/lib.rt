@@ -2,9 +2,11 @@
 #![tactic(auto)]
 
 mod answer;
+mod arguments;
 mod engine;
 mod reads;
 mod refusals;
+mod running;
 mod script;
 mod sink;
 mod source;
@@ -15,6 +17,7 @@ mod writes;
 
 pub use answer::answer_line;
 pub use engine::run_script;
+pub use running::program;
 pub use sink::{Sink, Whole};
 pub use source::{Bounded, Source};
 pub use streams::{replay, replay_bounded};
