@@ -1,0 +1,52 @@
+//! Numbers, names and texts of the refusals.
+
+use super::*;
+
+fn text_of(alloc: Global, error: &KvError) -> Result<String, AllocError> {
+    match error.to_string(alloc) {
+        Err(AllocError) => error.to_string(alloc),
+        text => text,
+    }
+}
+
+#[test]
+fn codes_and_names(rt: HostRuntime) -> Result<(), Fail> {
+    let table = [
+        (KvError::OutOfMemory, 1, "OutOfMemory"),
+        (KvError::BadBucket, 2, "BadBucket"),
+        (KvError::BadConfig, 3, "BadConfig"),
+        (KvError::BadKey, 4, "BadKey"),
+        (KvError::BadFilter, 5, "BadFilter"),
+        (KvError::OptionsClash, 6, "OptionsClash"),
+        (KvError::ValueTooLarge, 7, "ValueTooLarge"),
+        (KvError::Sealed, 8, "Sealed"),
+        (KvError::JournalFull, 9, "JournalFull"),
+        (KvError::KeyExists, 10, "KeyExists"),
+        (
+            KvError::WrongLastRevision { last: 5 },
+            11,
+            "WrongLastRevision",
+        ),
+        (KvError::KeyNotFound, 12, "KeyNotFound"),
+        (KvError::NoSuchWatch, 13, "NoSuchWatch"),
+        (KvError::TooManyWatches, 14, "TooManyWatches"),
+        (KvError::NoReader, 15, "NoReader"),
+        (KvError::BadCommand, 16, "BadCommand"),
+        (KvError::ReadFault, 17, "ReadFault"),
+        (KvError::WriteFault, 18, "WriteFault"),
+        (KvError::BadFloor, 19, "BadFloor"),
+        (KvError::WatchBehind { watch: 5 }, 20, "WatchBehind"),
+        (KvError::Lagged { floor: 5 }, 21, "Lagged"),
+    ];
+    for (error, code, name) in table {
+        assert_eq!(rt; error.code(), code);
+        assert_eq!(rt; error.name(), name);
+        assert_eq!(rt; text_of(rt.alloc(), &error)?.as_str(), name);
+    }
+    Ok(())
+}
+
+#[test]
+fn want_of_memory(rt: HostRuntime) {
+    assert_eq!(rt; KvError::from(AllocError), KvError::OutOfMemory);
+}
