@@ -25,8 +25,18 @@ impl Named for Key {
 }
 
 impl Named for Short {
+    // The copy of a key.
     fn named(alloc: Global, text: &str) -> Result<Short, KvError> {
-        Ok(Short(Key::parse(alloc, text)?))
+        let key = Key::parse(alloc, text)?;
+        Ok(Short(key.copy(alloc)?))
+    }
+}
+
+// A key for reading.
+fn key_of<K: Named>(alloc: Global, text: &str) -> Result<K, KvError> {
+    match K::named(alloc, text) {
+        Err(KvError::OutOfMemory) => K::named(alloc, text),
+        named => named,
     }
 }
 
@@ -52,21 +62,43 @@ fn put_once<K: Named>(
     }
 }
 
-// The trie with one more key. A refusal leaves it as it was.
+// A trie of these keys, built apart from every other.
+fn built<K: Named>(alloc: Global, names: &[&str]) -> Result<Trie<K, u32>, KvError> {
+    let mut trie = Trie::new();
+    for name in names {
+        trie = put_once(alloc, &trie, name, 0)?;
+    }
+    Ok(trie)
+}
+
+// After a refusal the trie has these keys still, in the form of a trie that is built apart.
+fn expect_unchanged<K: Named>(
+    rt: &impl Abort,
+    alloc: Global,
+    trie: &Trie<K, u32>,
+    names: &[&str],
+    refusal: KvError,
+) -> Result<(), KvError> {
+    assert_eq!(rt; refusal, KvError::OutOfMemory);
+    let apart = built(alloc, names)?;
+    assert!(rt; trie.same_form(&apart));
+    assert_eq!(rt; trie.len(), names.len() as u64);
+    Ok(())
+}
+
+// The trie, of these keys, with one more. A refusal leaves it as it was.
 fn put<K: Named>(
     rt: &impl Abort,
     alloc: Global,
     trie: &Trie<K, u32>,
+    names: &[&str],
     text: &str,
     value: u32,
 ) -> Result<Trie<K, u32>, KvError> {
-    let held = hold(trie)?;
     match put_once(alloc, trie, text, value) {
         Ok(new) => Ok(new),
-        Err(error) => {
-            assert_eq!(rt; error, KvError::OutOfMemory);
-            assert_eq!(rt; trie.len(), held.len());
-            assert!(rt; trie.same_form(&held));
+        Err(refusal) => {
+            expect_unchanged(rt, alloc, trie, names, refusal)?;
             put_once(alloc, trie, text, value)
         }
     }
@@ -81,20 +113,18 @@ fn take_once<K: Named>(
     trie.remove(alloc, &key)
 }
 
-// The trie without a key. A refusal leaves it as it was.
+// The trie, of these keys, without one of them. A refusal leaves it as it was.
 fn take<K: Named>(
     rt: &impl Abort,
     alloc: Global,
     trie: &Trie<K, u32>,
+    names: &[&str],
     text: &str,
 ) -> Result<Trie<K, u32>, KvError> {
-    let held = hold(trie)?;
     match take_once(alloc, trie, text) {
         Ok(new) => Ok(new),
-        Err(error) => {
-            assert_eq!(rt; error, KvError::OutOfMemory);
-            assert_eq!(rt; trie.len(), held.len());
-            assert!(rt; trie.same_form(&held));
+        Err(refusal) => {
+            expect_unchanged(rt, alloc, trie, names, refusal)?;
             take_once(alloc, trie, text)
         }
     }

@@ -66,10 +66,11 @@ fn has_form(trie: &Trie<Key, u32>, parts: &[Part]) -> bool {
 fn three_places(rt: HostRuntime) -> Result<(), Fail> {
     let none = Trie::new();
     assert!(rt; has_form(&none, &[]));
-    let one = put(&rt, rt.alloc(), &none, "a", 1)?;
+    assert_eq!(rt; none.len(), 0);
+    let one = put(&rt, rt.alloc(), &none, &[], "a", 1)?;
     assert!(rt; has_form(&one, &[Part::Leaf("a")]));
-    let two = put(&rt, rt.alloc(), &one, "foobar", 2)?;
-    let three = put(&rt, rt.alloc(), &two, "altarage", 3)?;
+    let two = put(&rt, rt.alloc(), &one, &["a"], "foobar", 2)?;
+    let three = put(&rt, rt.alloc(), &two, &["a", "foobar"], "altarage", 3)?;
     let form = [
         Part::Branch(0x0040_1100),
         Part::Leaf("foobar"),
@@ -83,8 +84,8 @@ fn three_places(rt: HostRuntime) -> Result<(), Fail> {
 
 #[test]
 fn one_place(rt: HostRuntime) -> Result<(), Fail> {
-    let one = put(&rt, rt.alloc(), &Trie::new(), "zinke", 1)?;
-    let both = put(&rt, rt.alloc(), &one, "altarage", 2)?;
+    let one = put(&rt, rt.alloc(), &Trie::new(), &[], "zinke", 1)?;
+    let both = put(&rt, rt.alloc(), &one, &["zinke"], "altarage", 2)?;
     let form = [
         Part::Branch(1 << 22),
         Part::Branch(1 << 5),
@@ -96,7 +97,8 @@ fn one_place(rt: HostRuntime) -> Result<(), Fail> {
         Part::Pairs("altarage", "zinke"),
     ];
     assert!(rt; has_form(&both, &form));
-    let other = take(&rt, rt.alloc(), &both, "zinke")?;
+    assert_eq!(rt; both.len(), 2);
+    let other = take(&rt, rt.alloc(), &both, &["altarage", "zinke"], "zinke")?;
     assert!(rt; has_form(&other, &[Part::Leaf("altarage")]));
     assert_eq!(rt; other.len(), 1);
     Ok(())
