@@ -17,7 +17,8 @@ use Rattle.kv_watch.specs.Following.{Following, InPlace, given_to as all_of}
 use Rattle.kv_watch.specs.Given.{Item}
 use Rattle.kv_bucket.specs.declared.call.Call.TheVariants as ask
 use Rattle.kv_bucket.specs.Answers.{Revision, Watching, Ended, Refused, answer_item}
-use Rattle.kv_bucket.specs.Held.{Holding, Bucketed, Follows, Represents, IsMoved, has_number, held_at, lent, after_handed}
+use Rattle.kv_history.specs.Lent.{lent}
+use Rattle.kv_bucket.specs.Held.{Holding, Bucketed, Follows, Represents, IsMoved, has_number, held_at, after_handed}
 use Rattle.kv_bucket.specs.State.{State, Watch, watch_at, next_of, open_at, set_watch, opened, has_room, after_item, after_take, after_stop, after_write, answer_write, answer_take, answer_stop, after, answer_to}
 use Rattle.kv_bucket.proofs.Finds.{find_at, find_none, find_some}
 use Rattle.kv_bucket.proofs.Lending.{lent_next}

@@ -11,3 +11,4 @@ pub mod Lending
 pub mod Answering
 pub mod Running
 pub mod NoMemory
+pub mod Somewhere

@@ -4,11 +4,10 @@ use Rattle.std.specs.List.{find}
 use Rattle.std.specs.Option.{option_len, option_map}
 use Rattle.kv_store.specs.Acts.{Act}
 use Rattle.kv_store.specs.Standing.{StandsFor}
-use Rattle.kv_store.specs.Stored.{Stored, write_at}
+use Rattle.kv_store.specs.Stored.{Stored}
 use Rattle.kv_watch.specs.declared.event.Event.{Event}
-use Rattle.kv_watch.specs.declared.event.Event.TheVariants as events
 use Rattle.kv_watch.specs.Following.{Following, InPlace}
-use Rattle.kv_watch.specs.Given.{Item, AnEntry, EndMarker, entry_of, event_of}
+use Rattle.kv_watch.specs.Given.{Item, event_of}
 use Rattle.kv_bucket.specs.State.{State, Watch, open_at, open_count, next_of, handed_one}
 
 -- a watch that is held: its number, the version when it was opened, and its cursor
@@ -62,9 +61,3 @@ abbrev pub IsMoved : Stored → Holding → Option Event → Holding → Type 0
 IsMoved version held event new = (new.number ≡ held.number)
     × ((acts : List Act) (watch : Watch) → Follows acts version held watch →
     (event ≡ option_map event_of (next_of version.config.history acts watch)) × Follows acts version new (after_handed watch (next_of version.config.history acts watch)))
-
--- the item of an event, with the write that the version stores of its revision
-abbrev pub lent : Bool → Option Event → Stored → Option Item
-lent headers_only None version = None
-lent headers_only (Some events.Marker) version = Some EndMarker
-lent headers_only (Some (events.Entry revision)) version = option_map (λ w. AnEntry (entry_of headers_only w)) (write_at revision version)

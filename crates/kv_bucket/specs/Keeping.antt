@@ -1,12 +1,13 @@
 -- What lies under the lock, and what a call makes of it.
 use Rattle.std.specs.Prelude.{◌≡◌, ℕ, List, [], ◌∷◌, ◌++◌, Result, Ok, Err, ◌&&◌, nat_le, if◌then◌else◌}
-use Rattle.logbook.specs.Pages.{Book}
 use Rattle.kv_keys.specs.declared.error.KvError.{KvError}
 use Rattle.kv_keys.specs.declared.error.KvError.TheVariants.{NoReader}
-use Rattle.kv_store.specs.Acceptance.{accept}
+use Rattle.kv_keys.specs.Outcome.{Refuses}
+use Rattle.kv_store.specs.Acceptance.{accept, IsLawful}
 use Rattle.kv_store.specs.Acts.{Act, Wrote, Write}
 use Rattle.kv_store.specs.Configuration.{Configuration, configure}
 use Rattle.kv_store.specs.Requests.{Asked}
+use Rattle.kv_history.specs.Openings.{Opening}
 use Rattle.kv_bucket.specs.declared.call.Call.{Call}
 use Rattle.kv_bucket.specs.Answers.{Answer}
 use Rattle.kv_bucket.specs.Held.{Bucketed, Represents}
@@ -38,10 +39,17 @@ IsKeptStep old call answer new = (state : State) → IsAt state old → (answer 
 abbrev pub PublishesWrite : Configuration → Asked → ℕ → List Act → List Act → Type 0
 PublishesWrite config request revision before later = (w : Write) × ((accept config request before ≡ Ok w) × (w.revision ≡ revision) × (later ≡ before ++ Wrote w ∷ []))
 
--- what an opening is of, and how many readers it is for
-pub record Opening : Type 0 where
-  pub book : Book
-  pub config : Configuration
+-- the same after some lawful acts
+abbrev pub WritesSomewhere : Configuration → Asked → ℕ → List Act → Type 0
+WritesSomewhere config request revision later = (before : List Act) × (IsLawful config before × PublishesWrite config request revision before later)
+
+-- the refusal is the one that the rules give after some lawful acts
+abbrev pub RefusedSomewhere : Configuration → Asked → KvError → Type 0
+RefusedSomewhere config request error = (before : List Act) × (IsLawful config before × Refuses error (accept config request before))
+
+-- an opening that has no name yet, and how many readers it is for
+pub record Unnamed : Type 0 where
+  pub opening : Opening
   pub readers : ℕ
 
 -- an opening is for 1 to 32 readers

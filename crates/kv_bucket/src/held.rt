@@ -8,7 +8,8 @@ ghost use Rattle.kv_store.specs.Stored.{Stored};
 ghost use Rattle.kv_watch.specs.Following.{InPlace};
 ghost use Rattle.kv_watch.specs.Given.{event_of};
 ghost use Rattle.kv_watch.specs.Taking.{item_taken};
-ghost use Rattle.kv_bucket.specs.Held.{Holding, IsMoved, has_number, lent};
+ghost use Rattle.kv_history.specs.Lent.{lent};
+ghost use Rattle.kv_bucket.specs.Held.{Holding, IsMoved, has_number};
 
 use kv_store::Version;
 use kv_watch::{Cursor, Event, Shown, Taken};

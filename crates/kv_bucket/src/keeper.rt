@@ -5,7 +5,7 @@ ghost use Rattle.std.specs.Borrow.{sem, follows_so};
 ghost use mathlib.Core.Option.{none};
 ghost use Rattle.kv_keys.specs.Outcome.{Refuses};
 ghost use Rattle.kv_keys.specs.declared.error.KvError.TheVariants.{OutOfMemory, NoSuchWatch};
-ghost use Rattle.kv_store.specs.Acceptance.{accept};
+ghost use Rattle.kv_store.specs.Acceptance.{accept, IsLawful};
 ghost use Rattle.kv_store.specs.Acts.{Act, Wrote, Write as AWrite, writes_of};
 ghost use Rattle.kv_store.specs.Requests.{asked};
 ghost use Rattle.kv_store.specs.Standing.{StandsFor};
@@ -38,7 +38,7 @@ impl<N: LiveName> Model for Keeper<N> {
 
     ghost view = { λ k. record { bucket = k.bucket; published = k.publisher } };
 
-    ghost invariant = { λ k. IsSomewhere N.config (record { bucket = k.bucket; published = k.publisher }) };
+    ghost invariant = { λ k. IsSomewhere N.opening.config (record { bucket = k.bucket; published = k.publisher }) };
 }
 
 // The act that a version ends with, where that is a write.
@@ -60,7 +60,7 @@ fn keep<N: LiveName, R: Wait>(
     next: Version,
 ) -> Result<(), KvError>
     requires stands { StandsFor (publisher.old ++ deed ∷ []) next }
-    requires config { next.config ≡ N.config }
+    requires config { next.config ≡ N.opening.config }
     ensures ok { OnOk result ((publisher.new ≡ publisher.old ++ deed ∷ []) × (bucket.new ≡ record bucket.old { version = next })) }
     ensures err { IfErr result (λ e. e ≡ OutOfMemory) }
     ensures unchanged { OnErr result ((publisher.new ≡ publisher.old) × (bucket.new ≡ bucket.old)) }
@@ -73,10 +73,18 @@ fn keep<N: LiveName, R: Wait>(
 impl<N: LiveName> Keeper<N> {
     ghost use Rattle.kv_bucket.specs.contracts.keeper.Keeper.{the_row};
 
+    // It does nothing: who calls it knows that what lies under the lock is at a state of the model.
+    pub(crate) fn is_somewhere(&self)
+        ensures state { IsSomewhere N.opening.config self.now }
+        ensures lawful { IsLawful N.opening.config self.now.published }
+    {
+        self.bucket();
+    }
+
     /// The bucket.
     pub fn bucket(&self) -> &Bucket
         ensures value { result.now ≡ self.now.bucket }
-        ensures state { IsSomewhere N.config self.now }
+        ensures state { IsSomewhere N.opening.config self.now }
     {
         &self.bucket
     }
@@ -85,7 +93,7 @@ impl<N: LiveName> Keeper<N> {
     /// nothing and uses no revision. It waits for readers that are inside the copy that is to change.
     pub fn write<R: Wait>(&mut self, rt: &R, request: &Request) -> Result<u64, KvError>
         ensures ok { IfOk result (λ revision. IsKeptStep self.old (Write request.now) (Revision revision) self.new) }
-        ensures published { IfOk result (λ revision. PublishesWrite N.config (asked request.now) revision self.old.published self.new.published) }
+        ensures published { IfOk result (λ revision. PublishesWrite N.opening.config (asked request.now) revision self.old.published self.new.published) }
         ensures refused { IfErr result (λ e. (state : State) → IsAt state self.old →
             Refuses e (accept state.config (asked request.now) state.acts)) }
         ensures unchanged { OnErr result (self.new ≡ self.old) }

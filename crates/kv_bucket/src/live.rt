@@ -1,12 +1,14 @@
 //! A bucket that threads share: writers take one lock, readers none.
 
-ghost use Rattle.std.specs.Prelude.{◌≡◌, List, [], IfErr, IfOk, MatchResult, All, length};
+ghost use Rattle.std.specs.Prelude.{◌≡◌, List, [], Ok, IfErr, IfOk, MatchResult, All, length};
+ghost use Rattle.std.specs.Sync.Mutex.{mutex_guard_value};
 ghost use Rattle.kv_keys.specs.declared.error.KvError.TheVariants.{OutOfMemory, NoReader};
 ghost use Rattle.kv_keys.specs.Outcome.{Refuses};
+ghost use Rattle.kv_store.specs.Acceptance.{IsLawful};
 ghost use Rattle.kv_store.specs.Acts.{Act};
 ghost use Rattle.kv_store.specs.Requests.{asked};
 ghost use Rattle.kv_history.specs.Known.{IsUnread};
-ghost use Rattle.kv_bucket.specs.Keeping.{PublishesWrite, may_open};
+ghost use Rattle.kv_bucket.specs.Keeping.{IsSomewhere, PublishesWrite, WritesSomewhere, RefusedSomewhere, may_open};
 
 use crate::bucket::Bucket;
 use crate::keeper::Keeper;
@@ -32,12 +34,12 @@ pub struct Opened {
 impl Model for Opened {
     ghost use Rattle.std.specs.Prelude.{◌<◌, ◌≤◌};
     ghost use Rattle.kv_bucket.specs.Held.{Represents};
-    ghost use Rattle.kv_bucket.specs.Keeping.{Opening};
+    ghost use Rattle.kv_bucket.specs.Keeping.{Unnamed};
     ghost use Rattle.kv_bucket.specs.State.{empty};
 
-    ghost Value = { Opening };
+    ghost Value = { Unnamed };
 
-    ghost view = { λ o. record { book = o.blank.sight.book; config = o.bucket.version.config; readers = o.readers } };
+    ghost view = { λ o. record { opening = record { book = o.blank.sight.book; config = o.bucket.version.config }; readers = o.readers } };
 
     ghost invariant = { λ o. Represents (empty o.bucket.version.config) o.bucket × (0 < o.readers) × (o.readers ≤ 32) };
 }
@@ -62,7 +64,7 @@ impl Live<Brand> {
     /// Opens an empty bucket for 1 to 32 readers. The name is checked before the numbers, and these before the number of
     /// readers.
     pub fn open(alloc: Global, config: &Config, readers: usize) -> Result<Opened, KvError>
-        ensures ok { IfOk result (λ opened. (opened.config ≡ config.now) × (opened.readers ≡ readers)) }
+        ensures ok { IfOk result (λ opened. (may_open config.now readers ≡ Ok config.now) × (opened.opening.config ≡ config.now) × (opened.readers ≡ readers)) }
         ensures refused { IfErr result (λ e. Refuses e (may_open config.now readers)) }
     {
         let bucket = Bucket::open(alloc, config);
@@ -82,7 +84,7 @@ impl Live<Brand> {
 impl Opened {
     /// The bucket under a name, and its readers, which have seen nothing. Where it is refused the opening ends.
     pub fn live<N: LiveName, R: Wait>(self, rt: &R) -> Result<(Live<N>, Vec<Reader<N>>), KvError>
-        requires { (self.book ≡ N.book) × (self.config ≡ N.config) }
+        requires { self.opening ≡ N.opening }
         ensures ok { IfOk result (λ r. (length r.1.items ≡ self.readers) × All (λ reader. (reader.seen ≡ []) × (reader.told ≡ [])) r.1.items) }
         ensures err { IfErr result IsUnread }
     {
@@ -108,29 +110,52 @@ impl Opened {
     }
 }
 
+// Writes. What is answered is what the rules give after the acts that were published before, which are lawful.
+fn write_on<N: LiveName, R: Wait>(
+    rt: &R,
+    keeper: &mut Keeper<N>,
+    request: &Request,
+) -> Result<u64, KvError>
+    ensures ok { IfOk result (λ revision. (later : List Act) × WritesSomewhere N.opening.config (asked request.now) revision later) }
+    ensures published { IfOk result (λ revision. PublishesWrite N.opening.config (asked request.now) revision keeper.old.published keeper.new.published) }
+    ensures refused { IfErr result (λ e. RefusedSomewhere N.opening.config (asked request.now) e) }
+{
+    keeper.is_somewhere();
+    keeper.write(rt, request)
+}
+
 // Writes, and tells of it.
 fn write_and_tell<N: LiveName, R: Wait>(
     rt: &R,
     keeper: &mut Keeper<N>,
     request: &Request,
 ) -> Result<(u64, Receipt<N>), KvError>
-    ensures { IfOk result (λ r. PublishesWrite N.config (asked request.now) r.0 keeper.old.published r.1) }
+    ensures ok { IfOk result (λ r. PublishesWrite N.opening.config (asked request.now) r.0 keeper.old.published r.1) }
+    ensures lawful { IfOk result (λ r. IsLawful N.opening.config r.1) }
+    ensures refused { IfErr result (λ e. RefusedSomewhere N.opening.config (asked request.now) e) }
 {
-    let revision = keeper.write(rt, request)?;
+    let revision = write_on(rt, keeper, request)?;
+    keeper.is_somewhere();
     Ok((revision, keeper.receipt()))
 }
 
 impl<N: LiveName> Live<N> {
-    /// The keeper, for several calls in a row. It waits until the lock is free.
-    pub fn lock<R: Wait>(&self, rt: &R) -> MutexGuard<'_, Keeper<N>> {
-        self.keeper.lock(rt)
+    /// The keeper, for several calls in a row, at a state of the model. It waits until the lock is free.
+    pub fn lock<R: Wait>(&self, rt: &R) -> MutexGuard<'_, Keeper<N>>
+        ensures { IsSomewhere N.opening.config (mutex_guard_value result) }
+    {
+        let keeper = self.keeper.lock(rt);
+        keeper.is_somewhere();
+        keeper
     }
 
     /// Does what is asked, and answers the revision of the write, as `Keeper::write` does.
     pub fn write<R: Wait>(&self, rt: &R, request: &Request) -> Result<u64, KvError>
-        ensures { IfOk result (λ revision. (before later : List Act) × PublishesWrite N.config (asked request.now) revision before later) }
+        ensures ok { IfOk result (λ revision. (later : List Act) × WritesSomewhere N.opening.config (asked request.now) revision later) }
+        ensures refused { IfErr result (λ e. RefusedSomewhere N.opening.config (asked request.now) e) }
     {
-        self.keeper.lock(rt).write(rt, request)
+        let mut keeper = self.keeper.lock(rt);
+        write_on(rt, &mut *keeper, request)
     }
 
     /// The same, with a receipt: readers that learn it see the write from then on. The receipt tells all acts up to the
@@ -140,14 +165,18 @@ impl<N: LiveName> Live<N> {
         rt: &R,
         request: &Request,
     ) -> Result<(u64, Receipt<N>), KvError>
-        ensures { IfOk result (λ r. (before : List Act) × PublishesWrite N.config (asked request.now) r.0 before r.1) }
+        ensures ok { IfOk result (λ r. (before : List Act) × PublishesWrite N.opening.config (asked request.now) r.0 before r.1) }
+        ensures lawful { IfOk result (λ r. IsLawful N.opening.config r.1) }
+        ensures refused { IfErr result (λ e. RefusedSomewhere N.opening.config (asked request.now) e) }
     {
         let mut keeper = self.keeper.lock(rt);
         write_and_tell(rt, &mut *keeper, request)
     }
 
     /// Ends writes, as `Keeper::seal` does.
-    pub fn seal<R: Wait>(&self, rt: &R) -> Result<(), KvError> {
+    pub fn seal<R: Wait>(&self, rt: &R) -> Result<(), KvError>
+        ensures err { IfErr result (λ e. e ≡ OutOfMemory) }
+    {
         self.keeper.lock(rt).seal(rt)
     }
 

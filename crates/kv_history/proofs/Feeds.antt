@@ -3,6 +3,7 @@ use Rattle.std.proofs.Common.{◌≡◌, ℕ, ◌+◌, ◌≤◌, ◌<◌, ◌�
 use Rattle.std.specs.List.{slice_get}
 use Rattle.std.specs.Option.{option_len, option_map}
 use Rattle.std.proofs.lemmas.Option.{slice_get_past, slice_get_within, slice_get_cases}
+use Rattle.kv_store.specs.Acceptance.{IsLawful}
 use Rattle.kv_store.specs.Acts.{Act, IsPrefix}
 use Rattle.kv_store.specs.Configuration.{Configuration}
 use Rattle.kv_store.specs.Standing.{StandsFor}
@@ -40,6 +41,12 @@ refreshed before after base now next cursor more low seen told = record {
   same = ap (λ (acts : List Act). let f : Feeding = record { reader = after; began = acts_on base; acts = acts; filters = cursor.filters; options = cursor.options; handed = cursor.handed } in f) seen;
 }
 
+-- what a feed went on to is lawful
+pub lawful_fed : (config : Configuration) (reader : Known) (base now : Shelved) (cursor : Following) → IsFed config reader base now cursor → IsLawful config (acts_on now)
+lawful_fed config reader base now cursor fed =
+    let same : now.version.config ≡ config = fed.place.same_config ∙ fed.same_config in
+    subst (λ (c : Configuration). IsLawful c (acts_on now)) same fed.place.now_stands.lawful
+
 -- there is no next item exactly where as many were handed out as there are
 differ : (x : Item) → Some x ≡ None → ⊥
 differ x e = cc
@@ -49,7 +56,7 @@ ends_at xs n within none cases =
     let there : ((x : Item) × (n < length xs) × (slice_get xs n ≡ Some x) × (get_or xs n x ≡ x)) → n ≡ length xs = λ t. absurd (differ t.0 (sym t.2 ∙ none)) in
     let past : ((length xs ≤ n) × (slice_get xs n ≡ None)) → n ≡ length xs = λ p. omega (arith, p.0) in ⊎_elim there past cases
 
-ends : (xs : List Item) (n : ℕ) → n ≤ length xs → (slice_get xs n ≡ None → n ≡ length xs) × (n ≡ length xs → slice_get xs n ≡ None)
+pub ends : (xs : List Item) (n : ℕ) → n ≤ length xs → (slice_get xs n ≡ None → n ≡ length xs) × (n ≡ length xs → slice_get xs n ≡ None)
 ends xs n within = (λ none. ends_at xs n within none (slice_get_cases xs n).1, λ all. slice_get_past xs n (omega arith))
 
 length_of_event : (item : Option Item) → option_len (option_map event_of item) ≡ option_len item

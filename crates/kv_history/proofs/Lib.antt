@@ -2,6 +2,8 @@ pub mod Adding
 pub mod Feeds
 pub mod Follow
 pub mod Notes
+pub mod Once
+pub mod Owing
 pub mod Prefixes
 pub mod Publishing
 pub mod StoredItems

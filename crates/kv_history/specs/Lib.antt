@@ -4,6 +4,8 @@ pub mod Feeding
 pub mod History
 pub mod Known
 pub mod Lent
+pub mod Openings
+pub mod Owed
 pub mod Rules
 pub mod Shelves
 pub mod Views

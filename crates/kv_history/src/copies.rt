@@ -50,7 +50,7 @@ impl<N: LiveName> Copies<N> {
         second: Shelf,
         readers: usize,
     ) -> Result<Copies<N>, KvError>
-        requires of { IsOf N.book N.config first }
+        requires of { IsOf N.opening first }
         requires alike { (first.glimpse.sight ≡ second.glimpse.sight) × (first.version.config ≡ second.version.config) }
         requires readers { (0 < readers) × (readers < 2 ^ 32) }
         ensures { MatchResult result (λ p. p ≡ offered_of first.glimpse.sight.log) (λ e. e ≡ OutOfMemory) }
@@ -71,7 +71,7 @@ impl<N: LiveName> Copies<N> {
 
     /// Publishes a shelf. What is pending is replaced by it. It waits for those that read the other copy.
     pub fn publish<R: Wait>(self, rt: &R, shelf: Shelf) -> (Copies<N>, Result<(), KvError>)
-        requires of { IsOf N.book N.config shelf }
+        requires of { IsOf N.opening shelf }
         requires grows { IsPrefix self (offered_of shelf.glimpse.sight.log) }
         ensures { MatchResult result.1 (λ _. result.0 ≡ offered_of shelf.glimpse.sight.log) (λ e. (result.0 ≡ self) × (e ≡ OutOfMemory)) }
     {

@@ -1,17 +1,19 @@
 //! Feeds: watches outside the lock.
 
-ghost use Rattle.std.specs.Prelude.{◌≡◌, ℕ, ◌+◌, ◌≤◌, ◌↔◌, List, [], ⊤, None, IfOk, IfErr, length, slice_get};
+ghost use Rattle.std.specs.Prelude.{◌≡◌, ℕ, ◌+◌, ◌≤◌, ◌↔◌, List, [], ⊤, None, IfOk, IfErr, length, slice_get, take};
 ghost use Rattle.std.specs.Borrow.{sem, follows_so};
 ghost use Rattle.std.specs.Option.{option_len, option_map};
 ghost use mathlib.Core.Option.{none};
 ghost use Rattle.kv_keys.specs.declared.error.KvError.TheVariants.{OutOfMemory};
-ghost use Rattle.kv_store.specs.Acts.{Act, IsPrefix};
+ghost use Rattle.kv_store.specs.Acceptance.{IsLawful};
+ghost use Rattle.kv_store.specs.Acts.{Act, Write, IsPrefix};
 ghost use Rattle.kv_watch.specs.Given.{event_of};
 ghost use Rattle.kv_watch.specs.Following.{InPlace, given_to};
 ghost use Rattle.kv_watch.specs.Taking.{item_taken};
 ghost use Rattle.kv_history.specs.Fed.{acts_on, opened};
 ghost use Rattle.kv_history.specs.Feeding.{HasSeenMore, HasLearned, IsRefreshed, IsNotRefreshed, given_by, next_of, after_item};
 ghost use Rattle.kv_history.specs.Known.{IsUnread};
+ghost use Rattle.kv_history.specs.Owed.{Owes, HasOnce};
 ghost use Rattle.kv_history.specs.Shelves.{IsOf};
 
 use crate::history::LiveName;
@@ -49,7 +51,7 @@ impl<N: LiveName> Model for Feed<N> {
 
     ghost view = { λ f. feeding_of f.reader f.held.base f.held.current f.cursor };
 
-    ghost invariant = { λ f. IsFed N.config f.reader f.held.base f.held.current f.cursor };
+    ghost invariant = { λ f. IsFed N.opening.config f.reader f.held.base f.held.current f.cursor };
 }
 
 // What a feed needs that begins on a shelf: a snapshot of it, and a cursor before the first item.
@@ -76,7 +78,7 @@ fn begin<N: LiveName>(
     filters: &Filters,
     options: Options,
 ) -> Result<Feed<N>, (Reader<N>, KvError)>
-    requires of { IsOf N.book N.config shelf }
+    requires of { IsOf N.opening shelf }
     requires seen { IsPrefix (acts_on shelf) reader.seen }
     ensures ok { IfOk result (λ feed. feed ≡ opened reader (acts_on shelf) filters.now options) }
     ensures err { IfErr result (λ e. (e.0 ≡ reader) × (e.1 ≡ OutOfMemory)) }
@@ -155,7 +157,7 @@ impl<N: LiveName> Feed<N> {
 
     /// What `take` would hand out.
     pub fn peek(&self) -> Taken<'_>
-        ensures { item_taken result ≡ next_of N.config.history self.now }
+        ensures { item_taken result ≡ next_of N.opening.config.history self.now }
     {
         self.cursor
             .peek(self.held.base.version(), self.held.current.version())
@@ -165,8 +167,10 @@ impl<N: LiveName> Feed<N> {
     pub fn take(&mut self) -> Taken<'_>
         ensures* after { sem 𝓛 (follows_so (the_row N.row N.LiveName) (the_row N.row N.LiveName) self.entry.ghost_name none (λ _ _. ⊤)
             (λ left. left ≡ after_item self.old (item_taken result))) }
-        ensures value { item_taken result ≡ next_of N.config.history self.old }
-        ensures end { (item_taken result ≡ None) ↔ (self.old.handed ≡ length (given_by N.config.history self.old)) }
+        ensures once { item_taken result ≡ None → (told : List Act) (w : Write) → Owes self.old told w →
+            HasOnce self.old w (take self.old.handed (given_by N.opening.config.history self.old)) }
+        ensures value { item_taken result ≡ next_of N.opening.config.history self.old }
+        ensures end { (item_taken result ≡ None) ↔ (self.old.handed ≡ length (given_by N.opening.config.history self.old)) }
     {
         let headers_only = self.cursor.options().headers_only;
         let event = advance(&mut self.cursor, &self.held);
@@ -176,9 +180,10 @@ impl<N: LiveName> Feed<N> {
     /// How many items were handed out, the end marker counted.
     pub fn handed(&self) -> u64
         ensures value { result ≡ self.now.handed }
-        ensures within { result ≤ length (given_by N.config.history self.now) }
+        ensures within { result ≤ length (given_by N.opening.config.history self.now) }
         ensures prefix { IsPrefix self.now.began self.now.acts }
         ensures seen { IsPrefix self.now.acts self.now.reader.seen }
+        ensures lawful { IsLawful N.opening.config self.now.acts }
     {
         self.cursor.handed()
     }

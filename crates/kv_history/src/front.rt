@@ -1,5 +1,5 @@
 //! A beginning of a history that was seen.
-ghost use Rattle.std.specs.Prelude.{◌≡◌, ◌^◌, ◌<◌, ◌++◌, ◌∷◌, [], true, length};
+ghost use Rattle.std.specs.Prelude.{◌≡◌, ◌⊎◌, ◌^◌, ◌<◌, ◌++◌, ◌∷◌, [], true, length};
 ghost use Rattle.kv_store.specs.Acts.{IsPrefix};
 ghost use Rattle.kv_history.specs.History.{shown_of, offered_of};
 
@@ -42,13 +42,13 @@ impl<N: LiveName> Model for Front<N> {
 
     ghost view = { λ f. f.glimpse.sight.log };
 
-    ghost invariant = { λ f. f.glimpse.sight.book ≡ N.book };
+    ghost invariant = { λ f. f.glimpse.sight.book ≡ N.opening.book };
 }
 
 impl<N: LiveName> Front<N> {
     /// The front that has seen nothing.
     pub fn new(sight: Sight) -> Front<N>
-        requires { (sight.log ≡ []) × (sight.book ≡ N.book) }
+        requires { (sight.log ≡ []) × (sight.book ≡ N.opening.book) }
         ensures { result ≡ [] }
     {
         Front {
@@ -75,13 +75,14 @@ impl<N: LiveName> Front<N> {
 
     /// A copy that does not name the history.
     pub fn glimpse(&self) -> Glimpse
-        ensures { (result.sight.log ≡ self.now) × (result.sight.book ≡ N.book) }
+        ensures { (result.sight.log ≡ self.now) × (result.sight.book ≡ N.opening.book) }
     {
         self.glimpse.again()
     }
 
     /// The longer of two fronts, which the other begins.
     pub fn longer(&self, other: &Front<N>) -> Front<N>
+        ensures one { (result ≡ self.now) ⊎ (result ≡ other.now) }
         ensures this { IsPrefix self.now result }
         ensures that { IsPrefix other.now result }
     {
@@ -96,7 +97,7 @@ impl<N: LiveName> Front<N> {
 
     /// True if what this front knows to be shown begins what the last offer that was glimpsed stands for.
     pub fn begins(&self, offer: &Glimpse) -> bool
-        requires { offer.now.sight.book ≡ N.book }
+        requires { offer.now.sight.book ≡ N.opening.book }
         ensures { result ≡ true → IsPrefix (shown_of self.now) (offered_of offer.now.sight.log) }
     {
         let mut both = self.glimpse.sight.again();

@@ -62,24 +62,22 @@ impl Plain<Note, Note, u64> for Adds {
     ghost state = { λ note. None };
 }
 
-/// Stands for one opening of a bucket: for its history, and for its configuration. What has one name has one published list.
+/// Stands for one opening of a bucket, which is its history and its configuration. What has one name has one published list.
 ///
 /// A function generic over it is called with std's `Brand`.
 pub trait LiveName {
-    ghost use Rattle.logbook.specs.Pages.{Book};
-    ghost use Rattle.kv_store.specs.Configuration.{Configuration};
+    ghost use Rattle.kv_history.specs.Openings.{Opening};
 
-    ghost book: { Book };
-
-    ghost config: { Configuration };
+    ghost opening: { Opening };
 }
 
 impl LiveName for Brand {
     ghost use Rattle.std.specs.Prelude.{[]};
 
-    ghost book = { record { number = 0; log_name = 0; cells_name = 0 } };
-
-    ghost config = { record { bucket = []; history = 1; value_limit = 0; write_limit = 1; revision_limit = 1 } };
+    ghost opening = { record {
+      book = record { number = 0; log_name = 0; cells_name = 0 };
+      config = record { bucket = []; history = 1; value_limit = 0; write_limit = 1; revision_limit = 1 };
+    } };
 }
 
 /// What was seen of a history that has no name yet. It has no bytes.
@@ -112,12 +110,12 @@ impl Blank {
 pub struct Head<N: LiveName> {
     pub(crate) length: Length,
     of: PhantomData<N>,
-    ghost length_is: { length ≡ head_of N.book },
+    ghost length_is: { length ≡ head_of N.opening.book },
 }
 
 impl<N: LiveName> Head<N> {
     pub fn new(length: Length) -> Head<N>
-        requires { length ≡ head_of N.book }
+        requires { length ≡ head_of N.opening.book }
     {
         Head {
             length,

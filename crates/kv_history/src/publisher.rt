@@ -49,7 +49,7 @@ impl<N: LiveName> Model for Publisher<N> {
 
     ghost view = { λ p. shown_of p.last };
 
-    ghost invariant = { λ p. (shown_of p.last ≡ shown_of p.front) × IfSome p.copies (λ c. c ≡ shown_of p.front) × IsOf N.book N.config p.empty × (p.empty.glimpse.sight.log ≡ []) };
+    ghost invariant = { λ p. (shown_of p.last ≡ shown_of p.front) × IfSome p.copies (λ c. c ≡ shown_of p.front) × IsOf N.opening p.empty × (p.empty.glimpse.sight.log ≡ []) };
 }
 
 // Offers an act, publishes the version after it, and notes that it was shown. Where the history is longer than the front, the copies end.
@@ -63,7 +63,7 @@ fn show<N: LiveName, R: Wait>(
 ) -> (Option<Copies<N>>, Result<(), KvError>)
     requires published { copies ≡ shown_of front.old }
     requires stands { StandsFor (shown_of front.old ++ deed ∷ []) next.now }
-    requires config { next.now.config ≡ N.config }
+    requires config { next.now.config ≡ N.opening.config }
     ensures published { IfSome result.0 (λ c. c ≡ shown_of front.new) }
     ensures shown { MatchResult result.1 (λ _. shown_of front.new ≡ shown_of front.old ++ deed ∷ []) (λ e. (shown_of front.new ≡ shown_of front.old) × (e ≡ OutOfMemory)) }
 {
@@ -91,8 +91,8 @@ fn show<N: LiveName, R: Wait>(
 // A shelf with a snapshot of the version, under the offer of its last act.
 fn shelve<N: LiveName>(next: &Version, front: &Front<N>) -> Result<Shelf, KvError>
     requires stands { StandsFor (offered_of front.now) next.now }
-    requires config { next.now.config ≡ N.config }
-    ensures { MatchResult result (λ s. (s.glimpse.sight.log ≡ front.now) × IsOf N.book N.config s) (λ e. e ≡ OutOfMemory) }
+    requires config { next.now.config ≡ N.opening.config }
+    ensures { MatchResult result (λ s. (s.glimpse.sight.log ≡ front.now) × IsOf N.opening s) (λ e. e ≡ OutOfMemory) }
 {
     let version = next.snapshot()?;
     Ok(Shelf::new(version, front.glimpse()))
@@ -115,8 +115,8 @@ impl<N: LiveName> Publisher<N> {
         version: &Version,
         readers: usize,
     ) -> Result<Publisher<N>, KvError>
-        requires book { blank.sight.book ≡ N.book }
-        requires config { version.now.config ≡ N.config }
+        requires book { blank.sight.book ≡ N.opening.book }
+        requires config { version.now.config ≡ N.opening.config }
         requires stands { StandsFor [] version.now }
         requires readers { (0 < readers) × (readers < 2 ^ 32) }
         ensures { MatchResult result (λ p. p ≡ []) (λ e. e ≡ OutOfMemory) }
@@ -140,7 +140,7 @@ impl<N: LiveName> Publisher<N> {
     /// Publishes an act, with the version after it. It waits for readers that are inside the copy that is to change. Where it is refused nothing is published.
     pub fn publish<R: Wait>(&mut self, rt: &R, deed: Deed, next: &Version) -> Result<(), KvError>
         requires stands { StandsFor (self.old ++ deed ∷ []) next.now }
-        requires config { next.now.config ≡ N.config }
+        requires config { next.now.config ≡ N.opening.config }
         ensures { MatchResult result (λ _. self.new ≡ self.old ++ deed ∷ []) (λ e. (self.new ≡ self.old) × (e ≡ OutOfMemory)) }
     {
         let Some(copies) = self.copies.take() else {

@@ -1,6 +1,6 @@
 //! Readers, which take no lock and wait for nobody.
 
-ghost use Rattle.std.specs.Prelude.{◌≡◌, IfOk, IfErr, MatchResult, []};
+ghost use Rattle.std.specs.Prelude.{◌≡◌, ◌⊎◌, IfOk, IfErr, MatchResult, []};
 ghost use Rattle.left_right.specs.Sides.{view};
 ghost use Rattle.kv_keys.specs.declared.error.KvError.TheVariants.{OutOfMemory};
 ghost use Rattle.kv_store.specs.Acts.{IsPrefix};
@@ -40,7 +40,7 @@ impl<N: LiveName> Model for Reader<N> {
 
     ghost view = { λ r. record { seen = seen_from r.seat (λ s. (view_of s.place).seen); told = shown_of r.told } };
 
-    ghost invariant = { λ r. IsSome r.seat × IsOf N.book N.config r.empty × (r.empty.glimpse.sight.log ≡ []) };
+    ghost invariant = { λ r. IsSome r.seat × IsOf N.opening r.empty × (r.empty.glimpse.sight.log ≡ []) };
 }
 
 impl<N: LiveName> Reader<N> {
@@ -50,7 +50,7 @@ impl<N: LiveName> Reader<N> {
         told: Front<N>,
         empty: Shelf,
     ) -> Reader<N>
-        requires { IsOf N.book N.config empty × (empty.glimpse.sight.log ≡ []) }
+        requires { IsOf N.opening empty × (empty.glimpse.sight.log ≡ []) }
         ensures { (result.seen ≡ (view seat.place).seen) × (result.told ≡ shown_of told) }
     {
         Reader {
@@ -65,7 +65,7 @@ impl<N: LiveName> Reader<N> {
     pub fn version(&mut self) -> Result<Version, KvError>
         ensures later { IsPrefix self.old.seen self.new.seen }
         ensures told { self.new.told ≡ self.old.told }
-        ensures ok { IfOk result (λ v. StandsFor self.new.seen v × (v.config ≡ N.config) × IsPrefix self.old.told self.new.seen) }
+        ensures ok { IfOk result (λ v. StandsFor self.new.seen v × (v.config ≡ N.opening.config) × IsPrefix self.old.told self.new.seen) }
         ensures err { IfErr result IsUnread }
     {
         let shelf = self.shelf()?;
@@ -76,7 +76,7 @@ impl<N: LiveName> Reader<N> {
     pub(crate) fn shelf(&mut self) -> Result<Shelf, KvError>
         ensures later { IsPrefix self.old.seen self.new.seen }
         ensures told { self.new.told ≡ self.old.told }
-        ensures ok { IfOk result (λ s. (offered_of s.glimpse.sight.log ≡ self.new.seen) × IsOf N.book N.config s × IsPrefix self.old.told self.new.seen) }
+        ensures ok { IfOk result (λ s. (offered_of s.glimpse.sight.log ≡ self.new.seen) × IsOf N.opening s × IsPrefix self.old.told self.new.seen) }
         ensures stands { IfOk result (λ s. StandsFor self.new.seen s.version) }
         ensures err { IfErr result IsUnread }
     {
@@ -102,7 +102,7 @@ impl<N: LiveName> Reader<N> {
 
     /// The empty version, as a shelf.
     pub(crate) fn empty_shelf(&self) -> Result<Shelf, KvError>
-        ensures { MatchResult result (λ s. IsOf N.book N.config s × (s.glimpse.sight.log ≡ [])) (λ e. e ≡ OutOfMemory) }
+        ensures { MatchResult result (λ s. IsOf N.opening s × (s.glimpse.sight.log ≡ [])) (λ e. e ≡ OutOfMemory) }
     {
         self.empty.again()
     }
@@ -112,6 +112,7 @@ impl<N: LiveName> Reader<N> {
         ensures seen { self.new.seen ≡ self.old.seen }
         ensures told { IsPrefix self.old.told self.new.told }
         ensures learned { IsPrefix receipt.now self.new.told }
+        ensures one_list { (self.new.told ≡ self.old.told) ⊎ (self.new.told ≡ receipt.now) }
     {
         self.told = self.told.longer(&receipt.front);
     }
@@ -119,7 +120,7 @@ impl<N: LiveName> Reader<N> {
 
 // A copy of the shelf, unless it is older than what was told. It never is: what was told was published before.
 fn shelf_past<N: LiveName>(told: &Front<N>, shelf: &Shelf) -> Result<Shelf, KvError>
-    requires { IsOf N.book N.config shelf.now }
+    requires { IsOf N.opening shelf.now }
     ensures ok { IfOk result (λ s. (s.glimpse.sight ≡ shelf.now.glimpse.sight) × (s.version.config ≡ shelf.now.version.config) × IsPrefix (shown_of told.now) (offered_of shelf.now.glimpse.sight.log)) }
     ensures stands { IfOk result (λ s. StandsFor (offered_of shelf.now.glimpse.sight.log) s.version) }
     ensures err { IfErr result IsUnread }

@@ -5,7 +5,8 @@ use Rattle.std.proofs.lemmas.List.{with_items_is}
 use Rattle.std.proofs.lemmas.Option.{get_or_from_slice_get}
 use Rattle.kv_watch.specs.Taking.{item_taken}
 use Rattle.kv_bucket.specs.Answers.{answer_item}
-use Rattle.kv_bucket.specs.Held.{Holding, Bucketed, Represents, has_number, lent}
+use Rattle.kv_history.specs.Lent.{lent}
+use Rattle.kv_bucket.specs.Held.{Holding, Bucketed, Represents, has_number}
 use Rattle.kv_bucket.specs.State.{State, after_take, answer_take, open_at}
 use Rattle.kv_bucket.proofs.Answering.{take_none, taken, lends}
 use Rattle.kv_bucket.proofs.Finds.{found_there}

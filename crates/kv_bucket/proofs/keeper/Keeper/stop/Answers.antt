@@ -9,4 +9,4 @@ pub invariant_of-self : goal.invariant_of-self
 invariant_of-self g c =
     let was = c.self.inside in
     let old : Kept = record { bucket = was.bucket; published = was.publisher } in
-    somewhere_quiet (calls.Stop c.args.number) (λ (stopped : Stopped). Ended stopped.handed) g.N.LiveName.config old c.stop.new.self c.stop.result (quiet_stop c.args.number) c.self.invariant c.stop.ensures.ok c.stop.ensures.unchanged
+    somewhere_quiet (calls.Stop c.args.number) (λ (stopped : Stopped). Ended stopped.handed) g.N.LiveName.opening.config old c.stop.new.self c.stop.result (quiet_stop c.args.number) c.self.invariant c.stop.ensures.ok c.stop.ensures.unchanged

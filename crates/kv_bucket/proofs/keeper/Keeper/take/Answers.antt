@@ -10,5 +10,5 @@ pub invariant_of-self : goal.invariant_of-self
 invariant_of-self g c =
     let was = c.self.inside in
     let old : Kept = record { bucket = was.bucket; published = was.publisher } in
-    somewhere_taken (calls.Take c.args.number) (λ (taken : Taken). answer_item (item_taken taken)) g.N.LiveName.config old c.take.follows.lender-at-none c.take.result (quiet_take c.args.number) c.self.invariant
+    somewhere_taken (calls.Take c.args.number) (λ (taken : Taken). answer_item (item_taken taken)) g.N.LiveName.opening.config old c.take.follows.lender-at-none c.take.result (quiet_take c.args.number) c.self.invariant
     c.take.follows.holds-at-none

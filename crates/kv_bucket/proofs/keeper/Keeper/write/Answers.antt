@@ -16,7 +16,7 @@ invariant_of-self-2 g c =
     let is : shut ≡ was.bucket = c.bucket.view_is in
     let old : Kept = record { bucket = shut; published = was.publisher } in
     let whole : old ≡ record { bucket = was.bucket; published = was.publisher } = ap (λ (b : Bucketed). let k : Kept = record { bucket = b; published = was.publisher } in k) is in
-    let config = g.N.LiveName.config in
+    let config = g.N.LiveName.opening.config in
     let some : IsSomewhere config old = subst (IsSomewhere config) (sym whole) c.self.invariant in
     let next = c.in_ok-next.next in
     let accepted = c.in_ok-next.ensures.ok was.publisher (published_stands config old some) in
@@ -32,7 +32,7 @@ returns-clause-ok g c =
     let is : shut ≡ was.bucket = c.bucket.view_is in
     let old : Kept = record { bucket = shut; published = was.publisher } in
     let whole : old ≡ record { bucket = was.bucket; published = was.publisher } = ap (λ (b : Bucketed). let k : Kept = record { bucket = b; published = was.publisher } in k) is in
-    let config = g.N.LiveName.config in
+    let config = g.N.LiveName.opening.config in
     let some : IsSomewhere config old = subst (IsSomewhere config) (sym whole) c.self.invariant in
     let next = c.in_ok-next.next in
     let accepted = c.in_ok-next.ensures.ok was.publisher (published_stands config old some) in
@@ -52,7 +52,7 @@ returns-clause-published g c =
     let is : shut ≡ was.bucket = c.bucket.view_is in
     let old : Kept = record { bucket = shut; published = was.publisher } in
     let whole : old ≡ record { bucket = was.bucket; published = was.publisher } = ap (λ (b : Bucketed). let k : Kept = record { bucket = b; published = was.publisher } in k) is in
-    let config = g.N.LiveName.config in
+    let config = g.N.LiveName.opening.config in
     let some : IsSomewhere config old = subst (IsSomewhere config) (sym whole) c.self.invariant in
     let next = c.in_ok-next.next in
     let accepted = c.in_ok-next.ensures.ok was.publisher (published_stands config old some) in

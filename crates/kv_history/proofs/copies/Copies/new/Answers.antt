@@ -4,4 +4,4 @@ use Rattle.kv_history.proofs.Publishing.{starts}
 use Rattle.kv_history.proofs.copies.Copies.new.Goals as goal
 
 pub new-requires-clause-rule : goal.new-requires-clause-rule
-new-requires-clause-rule g c = starts (IsOf g.N.LiveName.book g.N.LiveName.config) (λ s. offered_of s.glimpse.sight.log) c.args.first c.requires.of
+new-requires-clause-rule g c = starts (IsOf g.N.LiveName.opening) (λ s. offered_of s.glimpse.sight.log) c.args.first c.requires.of

@@ -17,7 +17,7 @@ publish_as-writer-requires g c next is =
     let before : c.args.self ≡ offered_of shown.glimpse.sight.log = search rules in
     let grows : IsPrefix (offered_of shown.glimpse.sight.log) (offered_of next.glimpse.sight.log) =
     subst (λ (xs : List Act). IsPrefix xs (offered_of next.glimpse.sight.log)) before (subst (IsPrefix c.args.self) acts c.requires.grows) in
-    shows (IsOf g.N.LiveName.book g.N.LiveName.config) (λ s. offered_of s.glimpse.sight.log) _ _ shown next
+    shows (IsOf g.N.LiveName.opening) (λ s. offered_of s.glimpse.sight.log) _ _ shown next
     (ap (λ s. s.0.book) same ∙ c.requires.of.0, ap (λ s. s.1) same ∙ c.requires.of.1) grows
 
 pub returns-in-Ok : goal.returns-in-Ok

@@ -4,4 +4,4 @@ use Rattle.kv_history.proofs.Publishing.{admits}
 use Rattle.kv_history.proofs.copies.Copies.seat.Goals as goal
 
 pub reader-requires : goal.reader-requires
-reader-requires g c = admits (IsOf g.N.LiveName.book g.N.LiveName.config) (λ s. offered_of s.glimpse.sight.log)
+reader-requires g c = admits (IsOf g.N.LiveName.opening) (λ s. offered_of s.glimpse.sight.log)

@@ -9,7 +9,7 @@ invariant_of-self-2 g c =
     let was = c.self.inside in
     let next = c.in_ok-shelf.shelf in
     let ok = c.in_ok-shelf.ensures.ok in
-    fed_later g.N.LiveName.config was.reader c.shelf.new.self was.held.base was.held.current next was.cursor c.self.invariant c.shelf.ensures.later ok.0 ok.1.1 c.in_ok-shelf.ensures.stands
+    fed_later g.N.LiveName.opening.config was.reader c.shelf.new.self was.held.base was.held.current next was.cursor c.self.invariant c.shelf.ensures.later ok.0 ok.1.1 c.in_ok-shelf.ensures.stands
 
 pub returns-clause-ok : goal.returns-clause-ok
 returns-clause-ok g c =

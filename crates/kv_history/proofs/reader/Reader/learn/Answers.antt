@@ -1,4 +1,4 @@
-use Rattle.std.proofs.Common.{List, ap, subst}
+use Rattle.std.proofs.Common.{◌≡◌, ◌⊎◌, ⊎_elim, inl, inr, List, ap, subst, ◌∙◌}
 use Rattle.kv_store.specs.Acts.{IsPrefix}
 use Rattle.kv_store.specs.Acts.{Act}
 use Rattle.kv_history.specs.History.{shown_of}
@@ -12,3 +12,7 @@ returns-clause-told g c =
 pub returns-clause-learned : goal.returns-clause-learned
 returns-clause-learned g c =
     subst (λ (acts : List Act). IsPrefix acts (shown_of c.longer.result)) c.receipt.view_is (shown_grows c.receipt.inside.front c.longer.result c.longer.ensures.that)
+
+pub returns-clause-one_list : goal.returns-clause-one_list
+returns-clause-one_list g c =
+    ⊎_elim (λ (own : c.longer.result ≡ c.self.inside.told). inl (ap shown_of own ∙ ap (λ v. v.told) c.self.view_is)) (λ (theirs : c.longer.result ≡ c.receipt.inside.front). inr (ap shown_of theirs ∙ c.receipt.view_is)) c.longer.ensures.one

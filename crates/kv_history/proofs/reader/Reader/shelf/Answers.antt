@@ -9,15 +9,15 @@ use Rattle.kv_history.proofs.Publishing.{sees}
 use Rattle.kv_history.proofs.reader.Reader.shelf.Goals as goal
 
 pub enter_as-requires : goal.enter_as-requires
-enter_as-requires g c x = sees (IsOf g.N.LiveName.book g.N.LiveName.config) (λ s. offered_of s.glimpse.sight.log) _ _ x
+enter_as-requires g c x = sees (IsOf g.N.LiveName.opening) (λ s. offered_of s.glimpse.sight.log) _ _ x
 
 pub returns-in-Ok-clause-ok : goal.returns-in-Ok-clause-ok
 returns-in-Ok-clause-ok g c =
     let shelf = c.get.result.now in
     let seen : offered_of shelf.glimpse.sight.log ≡ (view c.leave.result.place).seen = search rules in
     let told : shown_of c.self.inside.told ≡ c.args.self.now.told = ap (λ v. v.told) c.self.view_is in
-    let entered : IsOf g.N.LiveName.book g.N.LiveName.config shelf = search rules in
-    IfOk-weaker c.shelf_past-shelf.result _ (λ s. (offered_of s.glimpse.sight.log ≡ (view c.leave.result.place).seen) × IsOf g.N.LiveName.book g.N.LiveName.config s × IsPrefix c.args.self.now.told (view c.leave.result.place).seen)
+    let entered : IsOf g.N.LiveName.opening shelf = search rules in
+    IfOk-weaker c.shelf_past-shelf.result _ (λ s. (offered_of s.glimpse.sight.log ≡ (view c.leave.result.place).seen) × IsOf g.N.LiveName.opening s × IsPrefix c.args.self.now.told (view c.leave.result.place).seen)
     (λ s h. (
       ap (λ k. offered_of k.log) h.0 ∙ seen,
       (ap (λ k. k.book) h.0 ∙ entered.0, h.1 ∙ entered.1),
