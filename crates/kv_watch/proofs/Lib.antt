@@ -1,3 +1,4 @@
+mod Cases
 pub mod Counted
 pub mod GivenLaws
 pub mod KeptLaws

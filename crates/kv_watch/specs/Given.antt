@@ -1,5 +1,5 @@
 -- What a watch is given, as a function of the acts.
-use Rattle.std.specs.Prelude.{ℕ, Bool, ◌&&◌, not, nat_le, List, [], ◌∷◌, ◌++◌, Option, Some, None, length, drop, filter, slice_get, if◌then◌else◌}
+use Rattle.std.specs.Prelude.{ℕ, Bool, ◌&&◌, not, nat_le, List, [], ◌∷◌, ◌++◌, Option, Some, None, length, drop, filter, if◌then◌else◌}
 use Rattle.std.specs.List.{filter_map}
 use Rattle.kv_keys.specs.Matching.{any_matches}
 use Rattle.kv_store.specs.declared.write.Op.{Op}
@@ -77,7 +77,3 @@ item_revisions items = filter_map revision_of items
 abbrev pub event_of : Item → Event
 event_of (AnEntry entry) = events.Entry entry.revision
 event_of EndMarker = events.Marker
-
--- what is left of a list behind its first n elements, one at a time: the next one, if any
-abbrev pub next_item : ℕ → List Item → Option Item
-next_item n items = slice_get items n

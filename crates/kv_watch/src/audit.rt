@@ -1,4 +1,5 @@
-//! What a watch is given, computed slowly from all the writes, for audits.
+//! What a watch is given, computed slowly from all the writes, for audits: the function `given`. The module has the name of
+//! its use, since a module and a function beside it may not share one.
 
 ghost use Rattle.std.specs.Prelude.{◌≡◌, ◌==◌, ◌++◌, ◌≤◌, ◌&&◌, IfOk, IfErr, OnOk, [], ◌∷◌, length, map, take};
 ghost use Rattle.kv_store.specs.Acts.{is_purge};

@@ -1,0 +1,149 @@
+//! How a watch shows a write, and which revision a watch says that it looks at next.
+
+use super::*;
+use crate::Shown;
+
+const HEADERS: Options = Options {
+    start: Start::Latest,
+    ignore_deletes: false,
+    headers_only: true,
+};
+
+// The parts of an entry.
+#[derive(Clone, Copy)]
+struct Parts<'a> {
+    key: &'a str,
+    op: Op,
+    revision: u64,
+    size: u64,
+    value: Option<&'a [u8]>,
+}
+
+fn has_parts(rt: &impl Abort, entry: &Shown<'_>, parts: Parts<'_>) {
+    assert_eq!(rt; entry.key().as_str(), parts.key);
+    assert_eq!(rt; entry.op(), parts.op);
+    assert_eq!(rt; entry.revision(), parts.revision);
+    assert_eq!(rt; entry.size(), parts.size);
+    assert_eq!(rt; entry.value(), parts.value);
+}
+
+fn shows(rt: &impl Abort, taken: &Taken<'_>, parts: Parts<'_>) {
+    match taken {
+        Taken::Entry(entry) => has_parts(rt, entry, parts),
+        _ => assert!(rt; false, "no entry"),
+    }
+}
+
+// A watch from the first put of "abc" to "a" shows the put, the marker, and the delete after it.
+fn shows_put_and_delete(
+    rt: &impl Abort,
+    cursor: &mut Cursor,
+    base: &Version,
+    now: &Version,
+    value: Option<&[u8]>,
+) {
+    let first = Parts {
+        key: "a",
+        op: Op::Put,
+        revision: 1,
+        size: 3,
+        value,
+    };
+    shows(rt, &cursor.peek(base, now), first);
+    shows(rt, &cursor.take(base, now), first);
+    assert_eq!(rt; step(rt, cursor, base, now), Some(Event::Marker));
+    shows_delete(rt, &cursor.take(base, now));
+}
+
+fn shows_delete(rt: &impl Abort, taken: &Taken<'_>) {
+    let parts = Parts {
+        key: "a",
+        op: Op::Delete,
+        revision: 2,
+        size: 0,
+        value: None,
+    };
+    shows(rt, taken, parts);
+}
+
+fn shows_each(
+    rt: &impl Abort,
+    alloc: Global,
+    options: Options,
+    value: Option<&[u8]>,
+) -> Result<(), KvError> {
+    let base = written(alloc, &[put("a", "abc")])?;
+    let now = write(alloc, &base, mark(Op::Delete, "a"))?;
+    let mut cursor = open_on(rt, alloc, &base, ">", options)?;
+    shows_put_and_delete(rt, &mut cursor, &base, &now, value);
+    Ok(())
+}
+
+#[test]
+fn entries(rt: HostRuntime) -> Result<(), Fail> {
+    shows_each(&rt, rt.alloc(), LATEST, Some(b"abc"))?;
+    Ok(())
+}
+
+#[test]
+fn headers_only(rt: HostRuntime) -> Result<(), Fail> {
+    shows_each(&rt, rt.alloc(), HEADERS, None)?;
+    Ok(())
+}
+
+fn first_has_parts(rt: &impl Abort, version: &Version, parts: Parts<'_>) {
+    match version.write_at(1) {
+        Some(write) => has_parts(rt, &Shown::new(write, false), parts),
+        None => assert!(rt; false, "no write"),
+    }
+}
+
+#[test]
+fn shown_by_itself(rt: HostRuntime) -> Result<(), Fail> {
+    let version = written(rt.alloc(), &[put("b", "")])?;
+    let parts = Parts {
+        key: "b",
+        op: Op::Put,
+        revision: 1,
+        size: 0,
+        value: Some(b""),
+    };
+    first_has_parts(&rt, &version, parts);
+    Ok(())
+}
+
+// A watch looks next behind its beginning, whatever initial entries it hands out and whatever it settles.
+fn looks_behind_its_beginning(
+    rt: &impl Abort,
+    cursor: &mut Cursor,
+    base: &Version,
+    passed: &Version,
+) {
+    for item in [Event::Entry { revision: 1 }, Event::Marker] {
+        assert_eq!(rt; step(rt, cursor, base, passed), Some(item));
+        assert_eq!(rt; cursor.next(), 2);
+    }
+    cursor.settle(passed);
+    assert_eq!(rt; cursor.next(), 2);
+}
+
+// And then behind each live entry.
+fn looks_behind_the_third(rt: &impl Abort, cursor: &mut Cursor, base: &Version, now: &Version) {
+    assert_eq!(rt;
+        step(rt, cursor, base, now),
+        Some(Event::Entry { revision: 3 })
+    );
+    assert_eq!(rt; cursor.next(), 4);
+    assert_eq!(rt; cursor.handed(), 3);
+}
+
+#[test]
+fn looks_next(rt: HostRuntime) -> Result<(), Fail> {
+    let base = written(rt.alloc(), &[put("k", "1")])?;
+    let passed = write(rt.alloc(), &base, put("x", "2"))?;
+    let mut cursor = open_on(&rt, rt.alloc(), &base, "k", LATEST)?;
+    looks_behind_its_beginning(&rt, &mut cursor, &base, &passed);
+    let now = write(rt.alloc(), &passed, put("k", "3"))?;
+    looks_behind_the_third(&rt, &mut cursor, &base, &now);
+    Ok(())
+}
