@@ -1,9 +1,12 @@
 pub mod ByteByByte
+pub mod Ending
+pub mod Options
 pub mod Parsing
 pub mod Progress
 pub mod Putting
 pub mod Reached
 pub mod Reading
+pub mod Statuses
 pub mod Taking
 pub mod TakingBytes
 pub mod Texts

@@ -1,8 +1,9 @@
 -- How far a replay has come, for whatever answers its lines.
-use Rattle.std.proofs.Common.{◌≡◌, ◌⊎◌, ℕ, ◌<◌, ◌==◌, Bool, true, false, cond, List, [], ◌∷◌, ◌++◌, length, take, drop, take-append-drop, append_assoc, append-nil, Option, Some, None, Result, Ok, Err, refl, sym, ap, subst, ◌∙◌, inl, inr}
+use Rattle.std.proofs.Common.{◌≡◌, ◌⊎◌, ℕ, ◌<◌, ◌==◌, Bool, true, false, cond, ◌||◌, List, [], ◌∷◌, ◌++◌, length, take, drop, take-append-drop, append_assoc, append-nil, Option, Some, None, Result, Ok, Err, refl, sym, ap, subst, ◌∙◌, inl, inr}
 use Rattle.std.specs.Prelude.{OnErr, IsErrOf}
 use Rattle.std.specs.Io.{StartsWith}
 use Rattle.std.specs.Io.KnownBytes.{Appends, Consumes, IsAtEnd, Keeps}
+use Rattle.std.proofs.lemmas.Bool.{ne_eqb}
 use Rattle.std.proofs.lemmas.List.{take_at}
 use Rattle.std.proofs.KnownBytes.{Consumes-nil, Appends-nil, Consumes-trans, Appends-trans, Consumes-kept}
 use Rattle.kv_run.specs.Lines.{lines_of, but_last, texts}
@@ -50,6 +51,12 @@ module _ {S X : Type 0} (limit : ℕ) (text : S → List ℕ → List ℕ) (next
 
   all_text : (input : List ℕ) → script_text input ≡ Said from input ++ Ended (After from input)
   all_text input = texts-said limit text next long_text long_next start input
+
+  -- the text of the whole lines comes first
+  pub whole_first : (input : List ℕ) → StartsWith (script_text input) (whole_text input)
+  whole_first input =
+      starts (script_text input) (whole_text input) (Ended (After from input))
+      (all_text input ∙ ap (λ t. t ++ Ended (After from input)) (sym (whole_texts-said limit text next long_text long_next start input)))
 
   said_by_whole : (r : Reading S) (ends : Bool) → IsWholeLines (cond ends (Ended r) [])
   said_by_whole r true = text_whole r.state r.line
@@ -160,3 +167,15 @@ on_err (Err e) p = p
 -- what an error brings
 pub err_of : {T F : Type 0} {P : Type 0} (r : Result T F) (e : F) → IsErrOf r e → OnErr r P → P
 err_of {T} {F} {P} r e is p = subst (λ (q : Result T F). OnErr q P) is p
+
+or_false : (b : Bool) → (b || false) ≡ b
+or_false true = refl
+or_false false = refl
+
+-- a source that has not ended yet is not asked late
+pub not_late : (late before has_ended began : Bool) → late ≡ (before || has_ended) → (has_ended ≡ false) × (before ≡ began) → late ≡ began
+not_late late before has_ended began is (goes_on, same) = is ∙ ap (λ b. before || b) goes_on ∙ or_false before ∙ same
+
+-- nor has it ended where it gave some bytes
+pub not_ended : (after before : Bool) (count : ℕ) → after ≡ (before || (count == 0)) → before ≡ false → (count ≡ 0 → ⊥) → after ≡ false
+not_ended after before count is goes_on some = is ∙ ap (λ b. b || (count == 0)) goes_on ∙ ne_eqb count 0 some

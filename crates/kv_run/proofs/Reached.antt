@@ -1,5 +1,6 @@
 -- How far a replay of a bucket's script has come.
 use Rattle.std.proofs.Common.{◌≡◌, ℕ, List, [], ◌++◌, Option, refl, ◌∙◌}
+use Rattle.std.specs.Io.{StartsWith}
 use Rattle.std.specs.Io.KnownBytes.{Appends, Consumes, IsAtEnd, Keeps}
 use Rattle.kv_bucket.specs.State.{State, empty}
 use Rattle.kv_store.specs.Configuration.{Configuration}
@@ -17,6 +18,10 @@ module _ (config : Configuration) where
   abbrev pub Reached : (unread left held holds : Option (List ℕ)) → Scripted → Type 0
   Reached unread left held holds script =
       progress.Progress KEPT_BYTES line_text line_next line_text-long line_next-long line_text-whole Holds (empty config) unread left held holds script
+
+  -- the text of the whole lines comes first
+  pub whole_first : (input : List ℕ) → StartsWith (script_text config input) (whole_text config input)
+  whole_first input = progress.whole_first KEPT_BYTES line_text line_next line_text-long line_next-long line_text-whole Holds (empty config) input
 
   pub reached_none : (unread held : Option (List ℕ)) (script : Scripted) → Holds (beginning (empty config)) script → Reached unread unread held held script
   reached_none unread held script holding =

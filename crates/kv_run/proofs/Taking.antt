@@ -1,12 +1,14 @@
 -- Takes in a row.
-use Rattle.std.proofs.Common.{◌≡◌, ◌⊎◌, inl, inr, ◌≤◌, ◌+◌, ◌-◌, ◌<◌, ℕ, suc, zero, Bool, true, false, cond, List, [], ◌∷◌, ◌++◌, length, take, drop, take-append-drop, length-append, append_assoc, append-nil, refl, sym, ap, subst, ◌∙◌, arith}
+use Rattle.std.proofs.Common.{◌≡◌, ◌⊎◌, inl, inr, ◌≤◌, ◌+◌, ◌-◌, ◌<◌, ℕ, suc, zero, Bool, true, false, cond, List, [], ◌∷◌, ◌++◌, length, take, drop, take-append-drop, length-append, append_assoc, append-nil, refl, sym, ap, subst, ◌∙◌, Ok, arith}
 use Rattle.std.specs.Io.BufRead.{strip_last}
 use Rattle.std.proofs.lemmas.List.{take_at}
 use Rattle.kv_bucket.specs.Held.{Bucketed, Represents}
 use Rattle.kv_bucket.specs.State.{State, after, answer_to}
 use Rattle.kv_bucket.specs.declared.call.Call.TheVariants as calls
+use Rattle.std.specs.Result.{result_unwrap_or}
 use Rattle.kv_script.specs.Answered.{taken_text}
-use Rattle.kv_run.specs.Steps.{Does, EndsEarly}
+use Rattle.kv_script.specs.Commands.{Meaning, Status, Take, line_command}
+use Rattle.kv_run.specs.Steps.{Does, EndsBetween, EndsEarly}
 use Rattle.kv_run.specs.Text.{Step, hands_out, line_steps, line_text, takes, steps_text, steps_next}
 use Rattle.kv_run.specs.Written.{AppendsFront}
 use Rattle.kv_run.proofs.Texts.{AreWhole, line_steps-whole, steps_text-whole}
@@ -23,19 +25,31 @@ steps_next-append s (x ∷ xs) ys = steps_next-append x.1 xs ys
 pub does_all : (state : State) (steps : List Step) (before now : List ℕ) (bucket : Bucketed) → now ≡ before ++ steps_text steps → Represents (steps_next state steps) bucket → Does state steps before now bucket
 does_all state steps before now bucket text stands = (text, stands)
 
--- the first of them were
-pub ends_behind : (state : State) (all done rest : List Step) (before now : List ℕ) (bucket : Bucketed) → all ≡ done ++ rest → now ≡ before ++ steps_text done → Represents (steps_next state done) bucket
-    → EndsEarly state all before now bucket
-ends_behind state all done rest before now bucket parts text stands =
+-- the first of them were, and there are more if there are any
+pub ends_between : (state : State) (all done rest : List Step) (before now : List ℕ) (bucket : Bucketed) → all ≡ done ++ rest → (0 < length all → 0 < length rest) → now ≡ before ++ steps_text done → Represents (steps_next state done) bucket
+    → EndsBetween state all before now bucket
+ends_between state all done rest before now bucket parts more text stands =
     let first : take (length done) all ≡ done = ap (take (length done)) parts ∙ take_at done rest (length done) refl in
     record {
-      answered = length done;
       made = length done;
-      ordered = omega arith;
       within = omega (arith, ap length parts, length-append done rest);
+      unfinished = λ some. omega (arith, more some, ap length parts, length-append done rest);
       appended = text ∙ ap (λ steps. before ++ steps_text steps) (sym first);
       stands = subst (λ steps. Represents (steps_next state steps) bucket) (sym first) stands;
     }
+
+-- of calls that were all answered the last was
+pub ends_early : (state : State) (steps : List Step) (before now : List ℕ) (bucket : Bucketed) → EndsBetween state steps before now bucket → EndsEarly state steps before now bucket
+ends_early state steps before now bucket between = record {
+  answered = between.made;
+  made = between.made;
+  ordered = omega arith;
+  nearly = omega arith;
+  within = between.within;
+  unfinished = between.unfinished;
+  appended = between.appended;
+  stands = between.stands;
+}
 
 -- so many takes were made of a count: what is left are the takes of the rest
 pub record Took (state : State) (watch count made : ℕ) (before now : List ℕ) (bucket : Bucketed) : Type 0 where
@@ -112,8 +126,9 @@ module _ (state : State) (watch count made : ℕ) (before now : List ℕ) (bucke
       )
 
   -- memory ran out before the next
-  pub took_part : EndsEarly state (takes watch count state) before now bucket
-  took_part = ends_behind state (takes watch count state) so_far.done (takes watch (count - made) so_far.current) before now bucket so_far.parts so_far.text
+  pub took_part : made < count → EndsBetween state (takes watch count state) before now bucket
+  took_part inside = ends_between state (takes watch count state) so_far.done (takes watch (count - made) so_far.current) before now bucket so_far.parts
+      (λ some. omega (arith, ap length (takes_one watch count made so_far.current inside))) so_far.text
       (subst (λ s. Represents s bucket) (sym so_far.next) so_far.stands)
 
   -- all were made
@@ -131,8 +146,11 @@ module _ (state : State) (watch count made : ℕ) (before now : List ℕ) (bucke
 -- ---- lines of one call
 
 -- nothing was made
+pub between_at_once : (state : State) (steps : List Step) (before now : List ℕ) (bucket : Bucketed) → now ≡ before → Represents state bucket → EndsBetween state steps before now bucket
+between_at_once state steps before now bucket same stands = ends_between state steps [] steps before now bucket refl (λ some. some) (same ∙ sym (append-nil before)) stands
+
 pub ends_at_once : (state : State) (steps : List Step) (before now : List ℕ) (bucket : Bucketed) → now ≡ before → Represents state bucket → EndsEarly state steps before now bucket
-ends_at_once state steps before now bucket same stands = ends_behind state steps [] steps before now bucket refl (same ∙ sym (append-nil before)) stands
+ends_at_once state steps before now bucket same stands = ends_early state steps before now bucket (between_at_once state steps before now bucket same stands)
 
 -- one call was made or not, and it was not answered
 pub ends_once : (state next : State) (text before now : List ℕ) (bucket : Bucketed) → now ≡ before → Represents state bucket ⊎ Represents next bucket → EndsEarly state ((text, next) ∷ []) before now bucket
@@ -141,10 +159,34 @@ ends_once state next text before now bucket same (inr stands) = record {
   answered = 0;
   made = 1;
   ordered = omega arith;
+  nearly = omega arith;
   within = omega arith;
+  unfinished = λ some. some;
   appended = same ∙ sym (append-nil before);
   stands = stands;
 }
+
+-- ---- what is a take
+
+watch_of : Meaning → ℕ
+watch_of (Take watch count) = watch
+watch_of meaning = 0
+
+count_of : Meaning → ℕ
+count_of (Take watch count) = count
+count_of meaning = 0
+
+-- of the same take
+pub same_take : (state : State) (before now : List ℕ) (bucket : Bucketed) (watch count watch' count' : ℕ) → Take watch count ≡ Take watch' count'
+    → EndsBetween state (takes watch count state) before now bucket → EndsBetween state (takes watch' count' state) before now bucket
+unfolding watch_of count_of
+same_take state before now bucket watch count watch' count' same between =
+    subst (λ n. EndsBetween state (takes watch' n state) before now bucket) (ap count_of same)
+    (subst (λ w. EndsBetween state (takes w count state) before now bucket) (ap watch_of same) between)
+
+-- what is read of a line that is a take
+pub read_take : (line : List ℕ) (meaning : Meaning) (watch count : ℕ) → line_command line ≡ Ok meaning → line_command line ≡ Ok (Take watch count) → meaning ≡ Take watch count
+read_take line meaning watch count read same = ap (λ outcome. result_unwrap_or outcome Status) (sym read ∙ same)
 
 whole_take : (n : ℕ) (steps : List Step) → AreWhole steps → AreWhole (take n steps)
 whole_take zero steps whole = tt

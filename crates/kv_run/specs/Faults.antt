@@ -1,5 +1,5 @@
 -- The refusals that end a replay.
-use Rattle.std.specs.Prelude.{⊤}
+use Rattle.std.specs.Prelude.{◌≡◌, ⊤, Result, Err, IsOk}
 use Rattle.kv_keys.specs.declared.error.KvError.{KvError}
 use Rattle.kv_keys.specs.declared.error.KvError.TheVariants.{OutOfMemory, BadBucket, BadConfig, BadKey, BadFilter, OptionsClash, ValueTooLarge, Sealed, JournalFull, KeyExists, WrongLastRevision, KeyNotFound, NoSuchWatch, TooManyWatches, NoReader, BadCommand, ReadFault, WriteFault, BadFloor, WatchBehind, Lagged}
 
@@ -27,29 +27,29 @@ IsWriteOrMemory BadFloor = ⊥
 IsWriteOrMemory (WatchBehind watch) = ⊥
 IsWriteOrMemory (Lagged floor) = ⊥
 
--- memory ran out, a device failed, or the configuration is not legal
-abbrev pub IsReplayFault : KvError → Type 0
-IsReplayFault OutOfMemory = ⊤
-IsReplayFault BadBucket = ⊤
-IsReplayFault BadConfig = ⊤
-IsReplayFault BadKey = ⊥
-IsReplayFault BadFilter = ⊥
-IsReplayFault OptionsClash = ⊥
-IsReplayFault ValueTooLarge = ⊥
-IsReplayFault Sealed = ⊥
-IsReplayFault JournalFull = ⊥
-IsReplayFault KeyExists = ⊥
-IsReplayFault (WrongLastRevision last) = ⊥
-IsReplayFault KeyNotFound = ⊥
-IsReplayFault NoSuchWatch = ⊥
-IsReplayFault TooManyWatches = ⊥
-IsReplayFault NoReader = ⊥
-IsReplayFault BadCommand = ⊥
-IsReplayFault ReadFault = ⊤
-IsReplayFault WriteFault = ⊤
-IsReplayFault BadFloor = ⊥
-IsReplayFault (WatchBehind watch) = ⊥
-IsReplayFault (Lagged floor) = ⊥
+-- why a run ends early under a configuration of this outcome: its refusal, and nothing else, where it is not legal; else want of memory, or a device that failed
+abbrev pub EndsRun : {X : Type 0} → KvError → Result X KvError → Type 0
+EndsRun {X} OutOfMemory outcome = IsOk outcome
+EndsRun {X} BadBucket outcome = outcome ≡ Err BadBucket
+EndsRun {X} BadConfig outcome = outcome ≡ Err BadConfig
+EndsRun {X} BadKey outcome = ⊥
+EndsRun {X} BadFilter outcome = ⊥
+EndsRun {X} OptionsClash outcome = ⊥
+EndsRun {X} ValueTooLarge outcome = ⊥
+EndsRun {X} Sealed outcome = ⊥
+EndsRun {X} JournalFull outcome = ⊥
+EndsRun {X} KeyExists outcome = ⊥
+EndsRun {X} (WrongLastRevision last) outcome = ⊥
+EndsRun {X} KeyNotFound outcome = ⊥
+EndsRun {X} NoSuchWatch outcome = ⊥
+EndsRun {X} TooManyWatches outcome = ⊥
+EndsRun {X} NoReader outcome = ⊥
+EndsRun {X} BadCommand outcome = ⊥
+EndsRun {X} ReadFault outcome = IsOk outcome
+EndsRun {X} WriteFault outcome = IsOk outcome
+EndsRun {X} BadFloor outcome = ⊥
+EndsRun {X} (WatchBehind watch) outcome = ⊥
+EndsRun {X} (Lagged floor) outcome = ⊥
 
 -- memory ran out, or a device failed
 abbrev pub IsRunFault : KvError → Type 0

@@ -1,13 +1,13 @@
 //! The answer to one line.
 
-ghost use Rattle.std.specs.Prelude.{◌≡◌, ◌++◌, OnOk, OnErr, IfErr};
+ghost use Rattle.std.specs.Prelude.{◌≡◌, ◌++◌, ℕ, Ok, OnOk, OnErr, IfErr};
 ghost use Rattle.std.specs.Io.BufRead.{strip_last};
 ghost use Rattle.kv_bucket.specs.Held.{Represents};
 ghost use Rattle.kv_bucket.specs.State.{State};
 ghost use Rattle.kv_keys.specs.declared.error.KvError.TheVariants.{OutOfMemory};
-ghost use Rattle.kv_script.specs.Commands.{meaning_of};
-ghost use Rattle.kv_run.specs.Steps.{Does, EndsEarly};
-ghost use Rattle.kv_run.specs.Text.{line_next, line_steps, line_text, steps};
+ghost use Rattle.kv_script.specs.Commands.{Take, line_command, meaning_of};
+ghost use Rattle.kv_run.specs.Steps.{Does, EndsBetween, EndsEarly};
+ghost use Rattle.kv_run.specs.Text.{line_next, line_steps, line_text, steps, takes};
 ghost use Rattle.kv_run.specs.Written.{AppendsFront};
 
 use crate::reads::{
@@ -33,6 +33,8 @@ fn answer_command(
         Does state (steps state (meaning_of command.now)) out.old.items out.new.items bucket.new) }
     ensures err { OnErr result ((state : State) → Represents state bucket.old →
         EndsEarly state (steps state (meaning_of command.now)) out.old.items out.new.items bucket.new) }
+    ensures shown { OnErr result ((watch count : ℕ) → meaning_of command.now ≡ Take watch count → (state : State) → Represents state bucket.old →
+        EndsBetween state (takes watch count state) out.old.items out.new.items bucket.new) }
     ensures memory { IfErr result (λ e. e ≡ OutOfMemory) }
 {
     match command {
@@ -52,8 +54,8 @@ fn answer_command(
 
 /// Answers a line without its end, and without the carriage return before that.
 ///
-/// The answer lines are appended. After want of memory the first calls of the line were made, and the first of these
-/// were answered; only `take` makes more than one.
+/// The answer lines are appended. After want of memory the first calls of the line were made, and these were answered
+/// but perhaps for the last. Only `take` makes more than one, and each that it made was answered.
 pub fn answer_line(
     alloc: Global,
     bucket: &mut Bucket,
@@ -64,6 +66,9 @@ pub fn answer_line(
         Does state (line_steps state line.now) out.old.items out.new.items bucket.new) }
     ensures err { OnErr result ((state : State) → Represents state bucket.old →
         EndsEarly state (line_steps state line.now) out.old.items out.new.items bucket.new) }
+    // Of takes none was made that was not shown.
+    ensures shown { OnErr result ((watch count : ℕ) → line_command line.now ≡ Ok (Take watch count) → (state : State) → Represents state bucket.old →
+        EndsBetween state (takes watch count state) out.old.items out.new.items bucket.new) }
     ensures memory { IfErr result (λ e. e ≡ OutOfMemory) }
 {
     if is_skipped(line) {

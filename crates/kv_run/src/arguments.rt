@@ -1,12 +1,17 @@
 //! The arguments of the program.
 
-ghost use Rattle.std.specs.Prelude.{◌≡◌, IfOk, IfErr};
+ghost use Rattle.std.specs.Prelude.{◌≡◌, false, IfOk, IfErr, MatchResult, [], map, string_bytes};
+ghost use Rattle.clap.specs.Kinds.{HasKind};
+ghost use Rattle.clap.specs.Simple.{app_of};
+ghost use Rattle.clap.specs.Walk.{rule_of};
 ghost use Rattle.kv_keys.specs.declared.error.KvError.TheVariants.{OutOfMemory};
+ghost use Rattle.kv_run.specs.Arguments.{config_of, faults_of, number_option, program_app, text_option};
 
 use clap::{Arg, ArgAction, Command, Error, value_parser};
 use kv_keys::KvError;
 use kv_store::Config;
 use std::alloc::{AllocError, Global};
+use std::marker::Model;
 
 /// What the arguments ask for.
 #[derive(Debug, Drop)]
@@ -18,28 +23,62 @@ pub(crate) struct Arguments<'a> {
     revision_limit: u64,
 }
 
-fn number<'a>(alloc: Global, name: &'a str, default: &'a str, help: &'a str) -> Arg<'a> {
+/// An option that takes a text.
+fn text<'a>(
+    alloc: Global,
+    name: &'a str,
+    value_name: &'a str,
+    default: &'a str,
+    help: &'a str,
+) -> Arg<'a>
+    ensures rule { rule_of result ≡ text_option name.entry.now default.entry.now }
+    ensures local { result.global ≡ false }
+{
     Arg::new(alloc, name)
         .long(name)
         .action(ArgAction::Set)
-        .value_name("N")
+        .value_name(value_name)
         .default_value(default)
-        .value_parser(value_parser!(u64))
         .help(help)
 }
 
-fn command<'a>(alloc: Global) -> Result<Command<'a>, AllocError> {
-    let bucket = Arg::new(alloc, "bucket")
-        .long("bucket")
-        .action(ArgAction::Set)
-        .value_name("NAME")
-        .default_value("kv")
-        .help("The name of the bucket: 1 to 64 letters, digits, _ and -");
+/// An option that takes a number.
+fn number<'a>(alloc: Global, name: &'a str, default: &'a str, help: &'a str) -> Arg<'a>
+    ensures rule { rule_of result ≡ number_option name.entry.now default.entry.now }
+    ensures local { result.global ≡ false }
+{
+    text(alloc, name, "N", default, help).value_parser(value_parser!(u64))
+}
+
+/// What stands below the options in the help.
+const COMMANDS: &str =
+    "Commands, one a line (K is a key, B a value in base64 or - for the empty one, R a revision, F a filter):
+  put K B, create K B, update K R B  write a value: always, where there is none, where R is the last revision
+  delete K [R], purge K [R]          write a marker; purge forgets the entries before it
+  get K [R], history K, keys F       read a value, the entries of a key, the keys that have a value
+  watch F[,F..] [WORD..]             open a watch, numbered from 1; words: history, updates, from=R, nodeletes, meta
+  take ID N, stop ID                 hand out up to N items of a watch; end it
+  status, seal, place K              the numbers of the bucket; end all writes; where a key stands
+Empty lines and lines that begin with # are skipped. A refused line is answered, and the script goes on.
+
+Example: printf 'put a MQ==\\nget a\\n' | kvbucket
+Each command is shown with its answer in docs/script.md.";
+
+fn command<'a>(alloc: Global) -> Result<Command<'a>, AllocError>
+    ensures { IfOk result (λ command. app_of command ≡ program_app) }
+{
     Command::new(alloc, "kvbucket")
         .about(
             "Runs a script of commands on a key-value bucket: one command a line from standard input, one JSON object a line to standard output.",
         )
-        .arg(bucket)?
+        .after_help(COMMANDS)
+        .arg(text(
+            alloc,
+            "bucket",
+            "NAME",
+            "kv",
+            "The name of the bucket: 1 to 64 letters, digits, _ and -",
+        ))?
         .arg(number(
             alloc,
             "history",
@@ -66,9 +105,28 @@ fn command<'a>(alloc: Global) -> Result<Command<'a>, AllocError> {
         ))
 }
 
+impl<'a> Model for Arguments<'a> {
+    ghost use Rattle.kv_store.specs.Configuration.{Configuration};
+
+    ghost Value = { Configuration };
+
+    ghost view = { λ a. record {
+      bucket = a.bucket.now;
+      history = a.history;
+      value_limit = a.value_limit;
+      write_limit = a.write_limit;
+      revision_limit = a.revision_limit;
+    } };
+}
+
 impl<'a> Arguments<'a> {
     /// What the words ask for. The error has the text for the user, help among it.
-    pub(crate) fn parse(alloc: Global, words: &'a [String]) -> Result<Arguments<'a>, Error> {
+    pub(crate) fn parse(alloc: Global, words: &'a [String]) -> Result<Arguments<'a>, Error>
+        ensures { MatchResult result
+            (λ arguments. (faults_of (map string_bytes words.entry.now) ≡ [])
+            × (arguments ≡ config_of (map string_bytes words.entry.now)))
+            (λ e. HasKind (faults_of (map string_bytes words.entry.now)) e) }
+    {
         let matches = command(alloc)?.try_get_matches_from(words)?;
         Ok(Arguments {
             bucket: matches.get_str("bucket").unwrap_or("kv"),
@@ -83,13 +141,7 @@ impl<'a> Arguments<'a> {
 
     /// The configuration that they ask for. It is not checked here.
     pub(crate) fn config(&self, alloc: Global) -> Result<Config, KvError>
-        ensures ok { IfOk result (λ config. config ≡ record {
-          bucket = self.now.bucket.now;
-          history = self.now.history;
-          value_limit = self.now.value_limit;
-          write_limit = self.now.write_limit;
-          revision_limit = self.now.revision_limit;
-        }) }
+        ensures ok { IfOk result (λ config. config ≡ self.now) }
         ensures err { IfErr result (λ e. e ≡ OutOfMemory) }
     {
         Ok(Config {

@@ -1,17 +1,18 @@
 //! A whole script, from a source to a sink.
 
-ghost use Rattle.std.specs.Prelude.{◌≡◌, ◌<◌, length, true, OnOk, IfOk, IfErr, IsErrOf, Ok, Err};
+ghost use Rattle.std.specs.Prelude.{◌≡◌, ◌<◌, length, true, false, OnOk, IfOk, IfErr, IsErrOf};
 ghost use Rattle.kv_keys.specs.declared.error.KvError.TheVariants.{OutOfMemory};
 ghost use Rattle.std.specs.Io.KnownBytes.{Appends};
 ghost use Rattle.kv_bucket.specs.State.{State, empty};
-ghost use Rattle.kv_run.specs.Faults.{IsBadConfiguration, IsReplayFault, IsRunFault, IsWriteOrMemory};
+ghost use Rattle.kv_run.specs.Faults.{IsBadConfiguration, IsRunFault, IsWriteOrMemory};
 ghost use Rattle.kv_run.specs.Outcome.{Replays, Breaks, Stops, StopsWhole};
 ghost use Rattle.kv_run.specs.Reading.{Reading, beginning, after_bytes, said, ended};
+ghost use Rattle.kv_run.specs.Replaying.{Ran};
 ghost use Rattle.kv_run.specs.Scripted.{Holds};
 ghost use Rattle.kv_run.specs.Text.{line_text, line_next, script_text, whole_text};
 ghost use Rattle.kv_run.specs.Written.{Puts, PutsWhole};
 ghost use Rattle.kv_run.specs.declared.script.TheConstants.{KEPT_BYTES};
-ghost use Rattle.kv_store.specs.Configuration.{Configuration, configure};
+ghost use Rattle.kv_store.specs.Configuration.{Configuration};
 
 use crate::script::Script;
 use crate::sink::Sink;
@@ -83,6 +84,7 @@ fn answer_lines<S: Source, K: Sink>(
     requires { 0 < length buffer.old }
     ensures same_source { S.goes_on source.old source.new }
     ensures same_sink { K.goes_on sink.old sink.new }
+    ensures in_time { S.has_ended source.old ≡ false → S.was_asked_late source.new ≡ S.was_asked_late source.old }
     ensures ok { OnOk result ((config : Configuration) → Holds (beginning (empty config)) script.old →
         Replays (script_text config) (whole_text config) (S.left source.old) (S.left source.new) (K.held sink.old) (K.held sink.new)) }
     ensures read_fault { IsErrOf result KvError.ReadFault → (S.has_failed source.new ≡ true) × ((config : Configuration) → Holds (beginning (empty config)) script.old →
@@ -123,21 +125,14 @@ pub fn run_script<S: Source, K: Sink>(
 ) -> Result<(), KvError>
     ensures same_source { S.goes_on source.old source.new }
     ensures same_sink { K.goes_on sink.old sink.new }
-    // All was read, and its text was written.
-    ensures ok { OnOk result (Replays (script_text config.now) (whole_text config.now) (S.left source.old) (S.left source.new) (K.held sink.old) (K.held sink.new)) }
-    // The source failed, and the text of the lines that were whole by then was written.
-    ensures read_fault { IsErrOf result KvError.ReadFault → (S.has_failed source.new ≡ true)
-        × Breaks (script_text config.now) (whole_text config.now) (S.left source.old) (S.left source.new) (K.held sink.old) (K.held sink.new) }
-    // The sink failed, and a beginning of the text of what was read was written.
-    ensures write_fault { IsErrOf result KvError.WriteFault → (K.has_failed sink.new ≡ true)
-        × Stops (script_text config.now) (whole_text config.now) (S.left source.old) (S.left source.new) (K.held sink.old) (K.held sink.new) }
-    // The same, of whole lines.
-    ensures memory { IsErrOf result KvError.OutOfMemory →
-        StopsWhole (script_text config.now) (whole_text config.now) (S.left source.old) (S.left source.new) (K.held sink.old) (K.held sink.new) }
-    // The configuration is refused for what it is, and then nothing was read or written.
-    ensures refused { IfErr result (λ e. IsBadConfiguration e → (configure config.now ≡ Err e) × ((source.new ≡ source.old) × (sink.new ≡ sink.old))) }
-    ensures legal { OnOk result (configure config.now ≡ Ok config.now) }
-    ensures fault { IfErr result IsReplayFault }
+    ensures ran { Ran config.now (S.left source.old) (S.left source.new) (K.held sink.old) (K.held sink.new) result }
+    // The source is not asked after its end.
+    ensures in_time { S.has_ended source.old ≡ false → S.was_asked_late source.new ≡ S.was_asked_late source.old }
+    // A fault of a device comes only where that device failed.
+    ensures read_fault { IsErrOf result KvError.ReadFault → S.has_failed source.new ≡ true }
+    ensures write_fault { IsErrOf result KvError.WriteFault → K.has_failed sink.new ≡ true }
+    // Where the configuration is refused, nothing was read or written.
+    ensures refused { IfErr result (λ e. IsBadConfiguration e → (source.new ≡ source.old) × (sink.new ≡ sink.old)) }
 {
     let bucket = Bucket::open(alloc, config)?;
     let mut script = Script::new(alloc, bucket);

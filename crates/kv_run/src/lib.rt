@@ -4,6 +4,7 @@
 mod answer;
 mod arguments;
 mod engine;
+pub mod laws;
 mod reads;
 mod refusals;
 mod running;

@@ -18,6 +18,12 @@ pub trait Source {
     /// How often it may still be asked.
     ghost calls_left: { Self → ℕ };
 
+    /// It has given its end.
+    ghost has_ended: { Self → Bool };
+
+    /// It was asked after its end.
+    ghost was_asked_late: { Self → Bool };
+
     /// The second is the first, later.
     ghost goes_on: { Self → Self → Type 0 };
 
@@ -29,7 +35,9 @@ pub trait Source {
         ensures spends { OnOk result (calls_left self.new < calls_left self.old) }
         ensures fault { IfErr result (λ e. e ≡ ReadFault) }
         ensures failed { OnErr result (has_failed self.new ≡ true) }
-        ensures stays_failed { has_failed self.old ≡ true → IsErr result };
+        ensures stays_failed { has_failed self.old ≡ true → IsErr result }
+        ensures ended { IfOk result (λ n. has_ended self.new ≡ (has_ended self.old || (n == 0))) }
+        ensures late { was_asked_late self.new ≡ (was_asked_late self.old || has_ended self.old) };
 
     ghost goes_on_itself: { (a : Self) → goes_on a a };
 
@@ -42,6 +50,8 @@ pub struct Bounded<'r, R> {
     reader: &'r mut R,
     calls: u64,
     has_failed: bool,
+    has_ended: bool,
+    was_asked_late: bool,
 }
 
 impl<'r, R> Bounded<'r, R> {
@@ -51,11 +61,14 @@ impl<'r, R> Bounded<'r, R> {
         ensures reader { result.reader.now ≡ reader.old }
         ensures calls { result.calls ≡ calls }
         ensures fresh { result.has_failed ≡ false }
+        ensures begun { (result.has_ended ≡ false) × (result.was_asked_late ≡ false) }
     {
         Bounded {
             reader,
             calls,
             has_failed: false,
+            has_ended: false,
+            was_asked_late: false,
         }
     }
 }
@@ -69,15 +82,23 @@ impl<'r, R: Read> Source for Bounded<'r, R> {
 
     ghost calls_left = { λ s. s.calls };
 
+    ghost has_ended = { λ s. s.has_ended };
+
+    ghost was_asked_late = { λ s. s.was_asked_late };
+
     ghost goes_on = { λ a b. b.reader.ghost_name ≡ a.reader.ghost_name };
 
     fn read(&mut self, buffer: &mut [u8]) -> Result<usize, KvError> {
+        self.was_asked_late = self.was_asked_late | self.has_ended;
         if self.has_failed || self.calls == 0 {
             return Err(KvError::ReadFault);
         }
         self.calls -= 1;
         match self.reader.read(buffer) {
-            Ok(count) => Ok(count),
+            Ok(count) => {
+                self.has_ended = self.has_ended | (count == 0);
+                Ok(count)
+            }
             Err(_) => {
                 self.has_failed = true;
                 Err(KvError::ReadFault)

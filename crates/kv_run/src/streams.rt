@@ -1,10 +1,8 @@
 //! Scripts over the readers and writers of std.
 
-ghost use Rattle.std.specs.Prelude.{◌≡◌, OnOk, IfErr, IsErrOf, Ok, Err};
-ghost use Rattle.kv_run.specs.Faults.{IsBadConfiguration, IsReplayFault};
-ghost use Rattle.kv_run.specs.Outcome.{Replays, Breaks, Stops, StopsWhole};
-ghost use Rattle.kv_run.specs.Text.{script_text, whole_text};
-ghost use Rattle.kv_store.specs.Configuration.{configure};
+ghost use Rattle.std.specs.Prelude.{◌≡◌, IfErr};
+ghost use Rattle.kv_run.specs.Faults.{IsBadConfiguration};
+ghost use Rattle.kv_run.specs.Replaying.{Ran};
 
 use crate::engine::run_script;
 use crate::sink::Whole;
@@ -26,16 +24,8 @@ pub fn replay<R: Read, W: Write>(
     writer: &mut W,
     config: &Config,
 ) -> Result<(), KvError>
-    ensures ok { OnOk result (Replays (script_text config.now) (whole_text config.now) (R.remaining reader.old) (R.remaining reader.new) (W.contents writer.old) (W.contents writer.new)) }
-    ensures read_fault { IsErrOf result KvError.ReadFault →
-        Breaks (script_text config.now) (whole_text config.now) (R.remaining reader.old) (R.remaining reader.new) (W.contents writer.old) (W.contents writer.new) }
-    ensures write_fault { IsErrOf result KvError.WriteFault →
-        Stops (script_text config.now) (whole_text config.now) (R.remaining reader.old) (R.remaining reader.new) (W.contents writer.old) (W.contents writer.new) }
-    ensures memory { IsErrOf result KvError.OutOfMemory →
-        StopsWhole (script_text config.now) (whole_text config.now) (R.remaining reader.old) (R.remaining reader.new) (W.contents writer.old) (W.contents writer.new) }
-    ensures refused { IfErr result (λ e. IsBadConfiguration e → (configure config.now ≡ Err e) × ((reader.new ≡ reader.old) × (writer.new ≡ writer.old))) }
-    ensures legal { OnOk result (configure config.now ≡ Ok config.now) }
-    ensures fault { IfErr result IsReplayFault }
+    ensures ran { Ran config.now (R.remaining reader.old) (R.remaining reader.new) (W.contents writer.old) (W.contents writer.new) result }
+    ensures refused { IfErr result (λ e. IsBadConfiguration e → (reader.new ≡ reader.old) × (writer.new ≡ writer.old)) }
 {
     replay_bounded(alloc, reader, writer, config, READ_CALLS)
 }
@@ -48,16 +38,8 @@ pub fn replay_bounded<R: Read, W: Write>(
     config: &Config,
     calls: u64,
 ) -> Result<(), KvError>
-    ensures ok { OnOk result (Replays (script_text config.now) (whole_text config.now) (R.remaining reader.old) (R.remaining reader.new) (W.contents writer.old) (W.contents writer.new)) }
-    ensures read_fault { IsErrOf result KvError.ReadFault →
-        Breaks (script_text config.now) (whole_text config.now) (R.remaining reader.old) (R.remaining reader.new) (W.contents writer.old) (W.contents writer.new) }
-    ensures write_fault { IsErrOf result KvError.WriteFault →
-        Stops (script_text config.now) (whole_text config.now) (R.remaining reader.old) (R.remaining reader.new) (W.contents writer.old) (W.contents writer.new) }
-    ensures memory { IsErrOf result KvError.OutOfMemory →
-        StopsWhole (script_text config.now) (whole_text config.now) (R.remaining reader.old) (R.remaining reader.new) (W.contents writer.old) (W.contents writer.new) }
-    ensures refused { IfErr result (λ e. IsBadConfiguration e → (configure config.now ≡ Err e) × ((reader.new ≡ reader.old) × (writer.new ≡ writer.old))) }
-    ensures legal { OnOk result (configure config.now ≡ Ok config.now) }
-    ensures fault { IfErr result IsReplayFault }
+    ensures ran { Ran config.now (R.remaining reader.old) (R.remaining reader.new) (W.contents writer.old) (W.contents writer.new) result }
+    ensures refused { IfErr result (λ e. IsBadConfiguration e → (reader.new ≡ reader.old) × (writer.new ≡ writer.old)) }
 {
     let mut source = Bounded::new(reader, calls);
     let mut sink = Whole::new(writer);

@@ -8,7 +8,7 @@ ghost use Rattle.kv_bucket.specs.declared.call.Call.TheVariants.{Take};
 ghost use Rattle.kv_keys.specs.declared.error.KvError.TheVariants.{OutOfMemory};
 ghost use Rattle.kv_script.specs.Answered.{taken_text};
 ghost use Rattle.kv_watch.specs.Taking.{item_taken};
-ghost use Rattle.kv_run.specs.Steps.{Does, EndsEarly};
+ghost use Rattle.kv_run.specs.Steps.{Does, EndsBetween};
 ghost use Rattle.kv_run.specs.Text.{hands_out, takes};
 
 use kv_bucket::Bucket;
@@ -101,7 +101,7 @@ fn make_take(bucket: &mut Bucket, watch: u64)
     let _ = bucket.take(watch);
 }
 
-/// Makes so many takes, up to the first that hands out no item.
+/// Makes so many takes, up to the first that hands out no item. None is made that is not shown.
 pub(crate) fn answer_takes(
     alloc: Global,
     bucket: &mut Bucket,
@@ -112,7 +112,7 @@ pub(crate) fn answer_takes(
     ensures ok { OnOk result ((state : State) → Represents state bucket.old →
         Does state (takes watch count state) out.old.items out.new.items bucket.new) }
     ensures err { OnErr result ((state : State) → Represents state bucket.old →
-        EndsEarly state (takes watch count state) out.old.items out.new.items bucket.new) }
+        EndsBetween state (takes watch count state) out.old.items out.new.items bucket.new) }
     ensures memory { IfErr result (λ e. e ≡ OutOfMemory) }
 {
     for _ in 0..count {

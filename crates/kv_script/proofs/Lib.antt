@@ -1,3 +1,4 @@
+pub mod Choosing
 pub mod Compact
 pub mod Digits
 pub mod Escapes

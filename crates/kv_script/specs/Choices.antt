@@ -1,8 +1,9 @@
 -- What the words behind the filters of a watch ask for.
-use Rattle.std.specs.Prelude.{ℕ, ◌&&◌, ◌||◌, not, Bool, true, false, nat_lt, nat_eq, if◌then◌else◌, List, drop, find, count_by, codes, bytes_eq, Option, Some, None, is_some, option_map, option_and_then}
+use Rattle.std.specs.Prelude.{ℕ, ◌&&◌, ◌||◌, not, Bool, nat_lt, nat_eq, if◌then◌else◌, List, drop, find, count_by, codes, bytes_eq, Option, None, is_some, option_and_then, Result}
 use Rattle.std.specs.List.{list_all, starts_with}
-use Rattle.kv_watch.specs.declared.options.Start.{Start}
-use Rattle.kv_watch.specs.declared.options.Start.TheVariants.{Latest, History, Updates, From}
+use Rattle.std.specs.Result.{result_map_both}
+use Rattle.kv_keys.specs.declared.error.KvError.{KvError}
+use Rattle.kv_watch.specs.Flags.{start_asked}
 use Rattle.kv_watch.specs.declared.options.Options.{Options}
 use Rattle.kv_script.specs.Words.{number_of}
 
@@ -45,18 +46,8 @@ are_options words = list_all is_option words && not (is_any_repeated words)
 abbrev pub from_among : List (List ℕ) → Option ℕ
 from_among words = option_and_then from_of (find is_from words)
 
--- a watch begins in one way: with two of history, updates and a revision the options clash
-abbrev pub start_of : Bool → Bool → Option ℕ → Option Start
-start_of false false None = Some Latest
-start_of true false None = Some History
-start_of false true None = Some Updates
-start_of false false (Some revision) = Some (From revision)
-start_of true true from = None
-start_of true false (Some revision) = None
-start_of false true (Some revision) = None
-
--- the options that these words ask for, unless they clash
-abbrev pub options_of : List (List ℕ) → Option Options
+-- the options that these words ask for, unless they clash: a watch begins in one way
+abbrev pub options_of : List (List ℕ) → Result Options KvError
 options_of words =
-    option_map (λ start. record { start = start; ignore_deletes = is_given (codes "nodeletes") words; headers_only = is_given (codes "meta") words })
-    (start_of (is_given (codes "history") words) (is_given (codes "updates") words) (from_among words))
+    result_map_both (λ start. record { start = start; ignore_deletes = is_given (codes "nodeletes") words; headers_only = is_given (codes "meta") words })
+    (λ error. error) (start_asked (is_given (codes "history") words) (is_given (codes "updates") words) (from_among words))

@@ -2,10 +2,11 @@
 use Rattle.std.specs.Prelude.{◌≡◌, ℕ, ◌==◌, ◌&&◌, nat_le, Bool, true, if◌then◌else◌, List, [], ◌∷◌, map, length, slice_index_or, codes, bytes_eq, ⊤, Option, Some, None, option_map, option_and_then, Result, Ok, Err}
 use Rattle.std.specs.Borrow.{Bor}
 use Rattle.std.specs.List.{list_all}
+use Rattle.std.specs.Result.{result_map_both}
 use Rattle.std.specs.Str.{is_utf8}
 use Rattle.kv_keys.specs.Grammar.{is_present, is_key, is_filter, parts, are_filters}
 use Rattle.kv_keys.specs.declared.error.KvError.{KvError}
-use Rattle.kv_keys.specs.declared.error.KvError.TheVariants.{OutOfMemory, BadKey, BadFilter, OptionsClash, BadCommand}
+use Rattle.kv_keys.specs.declared.error.KvError.TheVariants.{OutOfMemory, BadKey, BadFilter, BadCommand}
 use Rattle.kv_store.specs.Requests.{Asked, asked, put, create, update, delete, purge}
 use Rattle.kv_watch.specs.declared.options.Options.{Options}
 use Rattle.kv_script.specs.Words.{words_of, number_of, value_of}
@@ -107,17 +108,12 @@ keys_command arguments =
     then (if is_filter (word arguments 0) then Ok (Keys (word arguments 0)) else Err BadFilter)
     else Err BadCommand
 
--- last of all the options are read
-abbrev pub or_clash : List (List ℕ) → Option Options → Result Meaning KvError
-or_clash filters None = Err OptionsClash
-or_clash filters (Some options) = Ok (Watch filters options)
-
--- watch F[,F..] and options
+-- watch F[,F..] and options, which are read last of all
 abbrev pub watch_command : List (List ℕ) → Result Meaning KvError
 watch_command [] = Err BadCommand
 watch_command (filters ∷ words) =
     if are_options words
-    then (if are_filters (parts filters) then or_clash (parts filters) (options_of words) else Err BadFilter)
+    then (if are_filters (parts filters) then result_map_both (Watch (parts filters)) (λ error. error) (options_of words) else Err BadFilter)
     else Err BadCommand
 
 -- 1 to 1,000,000 takes

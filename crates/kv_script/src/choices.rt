@@ -1,14 +1,14 @@
 //! The options of a watch.
 
-ghost use Rattle.std.specs.Prelude.{◌≡◌, MatchResult, Some, None, count_by, find};
+ghost use Rattle.std.specs.Prelude.{◌≡◌, Ok, Err, IfOk, IfErr, count_by};
 ghost use Rattle.std.specs.List.{list_all};
 ghost use Rattle.kv_keys.specs.declared.error.KvError.TheVariants.{OptionsClash};
-ghost use Rattle.kv_script.specs.Choices.{is_from, from_of, is_option, times, is_given, is_repeated, is_any_repeated, are_options, from_among, start_of, options_of};
+ghost use Rattle.kv_script.specs.Choices.{is_from, from_of, is_option, times, is_given, is_repeated, is_any_repeated, are_options, from_among, options_of};
 ghost use Rattle.kv_script.specs.Commands.{texts};
 
 use crate::numbers::number_of;
 use kv_keys::KvError;
-use kv_watch::{Options, Start};
+use kv_watch::Options;
 
 fn from_of(word: &str) -> Option<u64>
     ensures { result ≡ from_of word.now }
@@ -80,31 +80,16 @@ fn from_among(words: &[&str]) -> Option<u64>
     }
 }
 
-fn start_of(history: bool, updates: bool, from: Option<u64>) -> Result<Start, KvError>
-    ensures { MatchResult result (λ start. start_of history updates from ≡ Some start) (λ e. (e ≡ OptionsClash) × (start_of history updates from ≡ None)) }
-{
-    if history && updates {
-        return Err(KvError::OptionsClash);
-    }
-    match from {
-        Some(_) if history || updates => Err(KvError::OptionsClash),
-        Some(revision) => Ok(Start::From(revision)),
-        None if history => Ok(Start::History),
-        None if updates => Ok(Start::Updates),
-        None => Ok(Start::Latest),
-    }
-}
-
 /// The options that these words ask for.
 pub(crate) fn options_of(words: &[&str]) -> Result<Options, KvError>
-    ensures { MatchResult result (λ options. options_of (texts words.now) ≡ Some options) (λ e. (e ≡ OptionsClash) × (options_of (texts words.now) ≡ None)) }
+    ensures ok { IfOk result (λ options. options_of (texts words.now) ≡ Ok options) }
+    ensures err { IfErr result (λ e. (e ≡ OptionsClash) × (options_of (texts words.now) ≡ Err e)) }
 {
-    let history = times(words, "history") > 0;
-    let updates = times(words, "updates") > 0;
-    let start = start_of(history, updates, from_among(words))?;
-    Ok(Options {
-        start,
-        ignore_deletes: times(words, "nodeletes") > 0,
-        headers_only: times(words, "meta") > 0,
-    })
+    Options::of_flags(
+        times(words, "history") > 0,
+        times(words, "updates") > 0,
+        from_among(words),
+        times(words, "nodeletes") > 0,
+        times(words, "meta") > 0,
+    )
 }

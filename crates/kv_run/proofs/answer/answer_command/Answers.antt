@@ -1,5 +1,6 @@
 use Rattle.std.proofs.lemmas.Result.{on_err_weaker}
-use Rattle.kv_run.proofs.Taking.{ends_at_once, ends_once}
+use Rattle.kv_run.specs.Text.{takes}
+use Rattle.kv_run.proofs.Taking.{ends_at_once, ends_early, ends_once, same_take}
 use Rattle.kv_run.proofs.answer.answer_command.Goals as goal
 
 pub returns-in-Write-clause-err : goal.returns-in-Write-clause-err
@@ -31,3 +32,11 @@ returns-in-Seal-clause-err c = rw c.in-Seal.is (on_err_weaker c.answer_seal.resu
 
 pub returns-in-Place-clause-err : goal.returns-in-Place-clause-err
 returns-in-Place-clause-err c = on_err_weaker c.answer_place.result (λ same state r. ends_at_once state _ _ _ _ same r) c.answer_place.ensures.err
+
+pub returns-in-Take-clause-err : goal.returns-in-Take-clause-err
+returns-in-Take-clause-err c =
+    rw c.in-Take.is (on_err_weaker c.answer_takes.result (λ between state r. ends_early state (takes c.in-Take.watch c.in-Take.count state) _ _ _ (between state r)) c.answer_takes.ensures.err)
+
+pub returns-in-Take-clause-shown : goal.returns-in-Take-clause-shown
+returns-in-Take-clause-shown c =
+    rw c.in-Take.is (on_err_weaker c.answer_takes.result (λ between watch count same state r. same_take state _ _ _ c.in-Take.watch c.in-Take.count watch count same (between state r)) c.answer_takes.ensures.err)

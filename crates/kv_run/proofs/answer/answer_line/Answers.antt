@@ -2,7 +2,7 @@ use Rattle.std.proofs.Common.{◌++◌, Ok, Err, append-nil, sym, ap, ◌∙◌}
 use Rattle.std.proofs.lemmas.Result.{on_ok_weaker, on_err_weaker}
 use Rattle.kv_script.specs.Commands.{meaning_of}
 use Rattle.kv_run.proofs.Parsing.{line_steps-skipped, line_steps-read, on_ok_both, refused_by}
-use Rattle.kv_run.proofs.Taking.{ends_at_once}
+use Rattle.kv_run.proofs.Taking.{between_at_once, ends_at_once, read_take}
 use Rattle.kv_run.proofs.answer.answer_line.Goals as goal
 
 pub returns-then-is_skipped-clause-ok : goal.returns-then-is_skipped-clause-ok
@@ -30,3 +30,11 @@ returns-in-Err-clause-ok c =
 
 pub returns-in-Err-clause-err : goal.returns-in-Err-clause-err
 returns-in-Err-clause-err c = on_err_weaker c.answer_refusal.result (λ same state r. ends_at_once state _ _ _ _ same r) c.answer_refusal.ensures.err
+
+pub returns-in-Ok-clause-shown : goal.returns-in-Ok-clause-shown
+returns-in-Ok-clause-shown c =
+    on_err_weaker c.answer_command.result (λ shown watch count same state r. shown watch count (read_take _ _ watch count c.in-Ok.ensures same) state r)
+    c.answer_command.ensures.shown
+
+pub returns-in-Err-clause-shown : goal.returns-in-Err-clause-shown
+returns-in-Err-clause-shown c = on_err_weaker c.answer_refusal.result (λ kept watch count same state r. between_at_once state _ _ _ _ kept r) c.answer_refusal.ensures.err

@@ -1,6 +1,6 @@
 use Rattle.std.proofs.Common.{◌<◌, length, arith, rules}
 use Rattle.std.proofs.lemmas.Result.{on_ok_weaker}
-use Rattle.kv_run.proofs.Progress.{err_of}
+use Rattle.kv_run.proofs.Progress.{err_of, not_ended, not_late}
 use Rattle.kv_run.proofs.Reached.{reached_more, reached_end, reached_fault, stopped_in_bytes, stopped_at_end, whole_in_bytes, whole_at_end}
 use Rattle.kv_run.proofs.engine.answer_lines.Goals as goal
 
@@ -37,6 +37,11 @@ pub reads-preserved : goal.reads-preserved
 reads-preserved g c = record {
   same_source = g.met.S.Source.goes_on_later _ _ _ c.reads.invariant.same_source c.in_ok-count.ensures.same;
   same_sink = g.met.K.Sink.goes_on_later _ _ _ c.reads.invariant.same_sink c.in_ok-answer_bytes.ensures.same;
+  in_time = λ begins.
+      let so_far = c.reads.invariant.in_time begins in (
+        not_ended _ _ _ c.in_ok-count.ensures.ended so_far.0 c.if-count-eq0.false,
+        not_late _ _ _ _ c.in_ok-count.ensures.late so_far,
+      );
   reached = λ config holding.
       let so_far = c.reads.invariant.reached config holding in
       reached_more config _ _ _ _ _ so_far _ _ _ _ c.in_ok-count.ensures.bytes.0 (c.in_ok-answer_bytes.ensures.ok _ so_far.is_after);
@@ -55,3 +60,12 @@ pub returns-in_err-answer_bytes-clause-memory : goal.returns-in_err-answer_bytes
 returns-in_err-answer_bytes-clause-memory g c = λ fault config holding.
     let so_far = c.reads.invariant.reached config holding in
     whole_in_bytes config _ _ _ _ _ so_far _ _ _ c.in_ok-count.ensures.bytes.0 (c.in_err-answer_bytes.ensures.memory (search rules) _ so_far.is_after)
+
+pub returns-in_err-count-clause-in_time : goal.returns-in_err-count-clause-in_time
+returns-in_err-count-clause-in_time g c = λ begins. not_late _ _ _ _ c.in_err-count.ensures.late (c.reads.invariant.in_time begins)
+
+pub returns-then-count-eq0-clause-in_time : goal.returns-then-count-eq0-clause-in_time
+returns-then-count-eq0-clause-in_time g c = λ begins. not_late _ _ _ _ c.in_ok-count.ensures.late (c.reads.invariant.in_time begins)
+
+pub returns-in_err-answer_bytes-clause-in_time : goal.returns-in_err-answer_bytes-clause-in_time
+returns-in_err-answer_bytes-clause-in_time g c = λ begins. not_late _ _ _ _ c.in_ok-count.ensures.late (c.reads.invariant.in_time begins)

@@ -1,7 +1,6 @@
 use Rattle.std.proofs.Common.{◌<◌, ◌≤◌, ℕ, true, false, sym, ◌∙◌, subst, arith, rules}
 use Rattle.kv_bucket.specs.Held.{Represents}
 use Rattle.kv_bucket.specs.State.{State}
-use Rattle.kv_run.specs.Steps.{EndsEarly}
 use Rattle.kv_run.specs.Text.{takes}
 use Rattle.kv_run.proofs.Progress.{on_err}
 use Rattle.kv_run.proofs.Taking.{took_one, took_last, took_part, took_all}
@@ -26,4 +25,4 @@ pub returns-in_err-answer_take-clause-err : goal.returns-in_err-answer_take-clau
 returns-in_err-answer_take-clause-err c =
     on_err c.from_residual.result (λ state r.
     let kept = c.in_err-answer_take.ensures.err in
-    rw (kept.0, kept.1) (took_part state _ _ _ _ _ _ (c.loop.invariant state r)))
+    rw (kept.0, kept.1) (took_part state _ _ _ _ _ _ (c.loop.invariant state r) (omega arith)))

@@ -1,0 +1,69 @@
+-- What the words of a command line ask for: the program's name, and then options with their values.
+use Rattle.std.specs.Prelude.{ℕ, ◌^◌, ◌&&◌, Bool, nat_lt, if◌then◌else◌, List, [], ◌∷◌, map, length, Option, Some, codes, unwrap_or}
+use Rattle.std.specs.Borrow.{Bor}
+use Rattle.std.specs.Char.{digit_value}
+use Rattle.std.specs.List.{list_all}
+use Rattle.std.specs.Option.{option_map_or}
+use Rattle.std.specs.Str.Parse.{digits_value, without_leading_plus}
+use Rattle.clap.specs.Faults.{fault_of}
+use Rattle.clap.specs.Kinds.{Kinds}
+use Rattle.clap.specs.Walk.{Rule, Row, Text, first_of, one_of}
+use Rattle.clap.specs.Simple.{App, matches_of, new_app, new_rule, with_rule}
+use Rattle.clap.specs.declared.builder.action.ArgAction.TheVariants.{Set}
+use Rattle.clap.specs.declared.builder.value_parser.ValueParser.TheVariants as parsers
+use Rattle.kv_store.specs.Configuration.{Configuration}
+
+-- an option with a value, which is this one where none is given
+abbrev pub text_option : Text → Text → Rule
+text_option name default =
+    record (new_rule name) { long = Some name; action = Some Set; value_names = 1; defaults = default ∷ [] }
+
+-- one whose value is a number of 64 bits
+abbrev pub number_option : Text → Text → Rule
+number_option name default =
+    record (text_option name default) { parser = Some (parsers.Unsigned 0 18446744073709551615) }
+
+-- the program, and its options
+abbrev pub program_app : App
+program_app =
+    with_rule (with_rule (with_rule (with_rule (with_rule (new_app (codes "kvbucket"))
+    (text_option (codes "bucket") (codes "kv")))
+    (number_option (codes "history") (codes "1")))
+    (number_option (codes "value-limit") (codes "1048576")))
+    (number_option (codes "write-limit") (codes "1000000")))
+    (number_option (codes "revision-limit") (codes "4294967295"))
+
+-- why the words are refused, if they are; to ask for help is among the reasons
+abbrev pub faults_of : List Text → Kinds
+faults_of words = fault_of program_app words
+
+-- the number of a text of digits, perhaps behind a plus sign; another text has none
+abbrev pub number_or : ℕ → Text → ℕ
+number_or default text =
+    let digits = without_leading_plus text in
+    if nat_lt 0 (length digits) && list_all (λ d. nat_lt (digit_value d) 10) digits && nat_lt (digits_value 10 digits) (2 ^ 64)
+    then digits_value 10 digits else default
+
+-- what the options say, by what was given for each, or else is its default
+abbrev pub text_in : Text → Text → List Row → Text
+text_in name default rows = unwrap_or (first_of name rows) default
+
+abbrev pub number_in : Text → ℕ → List Row → ℕ
+number_in name default rows = option_map_or (number_or default) (one_of name rows) default
+
+abbrev pub config_in : List Row → Configuration
+config_in rows = record {
+  bucket = text_in (codes "bucket") (codes "kv") rows;
+  history = number_in (codes "history") 1 rows;
+  value_limit = number_in (codes "value-limit") 1048576 rows;
+  write_limit = number_in (codes "write-limit") 1000000 rows;
+  revision_limit = number_in (codes "revision-limit") 4294967295 rows;
+}
+
+-- the configuration that the words ask for
+abbrev pub config_of : List Text → Configuration
+config_of words = config_in (matches_of program_app words)
+
+-- the configuration where no option is given
+abbrev pub defaults : Configuration
+defaults = record { bucket = codes "kv"; history = 1; value_limit = 1048576; write_limit = 1000000; revision_limit = 4294967295 }
