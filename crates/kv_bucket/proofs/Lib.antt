@@ -1,3 +1,4 @@
+mod Cases
 pub mod Numbers
 pub mod Told
 pub mod Others
