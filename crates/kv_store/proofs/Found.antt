@@ -1,21 +1,22 @@
 -- Where a write is found: by its revision, and as the last of its key.
-use Rattle.std.proofs.Common.{◌≡◌, ℕ, zero, suc, ◌-◌, ◌<◌, ◌≤◌, Bool, true, false, cond, ◌||◌, ◌==◌, List, [], ◌∷◌, Option, Some, None, inl, inr, ◌⊎◌, ⊎_elim, unwrap_or, length, drop, map, refl, sym, subst, ap, ◌∙◌, arith}
-use Rattle.std.specs.List.{Contains, find, last_or, list_any, slice_get}
+use Rattle.std.proofs.Common.{◌≡◌, ℕ, suc, ◌<◌, ◌≤◌, Bool, true, false, cond, ◌||◌, ◌==◌, List, [], ◌∷◌, Option, Some, None, inl, inr, ◌⊎◌, ⊎_elim, unwrap_or, length, refl, sym, subst, ap, ◌∙◌, arith}
+use Rattle.std.specs.List.{Contains, find, last_or, list_any}
 use Rattle.std.specs.Option.{option_map, option_map_or}
 use Rattle.std.proofs.lemmas.Bool.{eq-eqb, eqb-true, ne_eqb}
-use Rattle.std.proofs.lemmas.List.{drop_all}
 use Rattle.std.proofs.lemmas.List.Elements.{Contains-append_right}
-use Rattle.kv_store.specs.Acts.{Act, Write, is_purge, writes_of}
+use Rattle.kv_store.specs.Acts.{Act, Write, writes_of}
 use Rattle.kv_store.specs.Reads.{unless_empty, write_at_of}
-use Rattle.kv_store.specs.Retained.{kept, last_n, last_revision, last_write, revisions, since_purge, writes_of_key}
+use Rattle.kv_store.specs.Retained.{kept, last_revision, last_write, revisions, since_purge, writes_of_key}
 use Rattle.kv_store.proofs.Keeping.{kept_is_end}
+use Rattle.kv_store.proofs.Lasts.{last_or-since_purge, last_or-last_n, last_or-map}
 use Rattle.kv_store.proofs.Members.{Contains-cases, Contains-from_filter, Contains-here, Contains-none, Contains-there}
 use Rattle.kv_store.proofs.Numbered.{CountsFrom, find_below}
 use Rattle.std.specs.Str.{bytes_eq}
 
 -- ---- by its revision
 
-not_below : (n : ℕ) (ws : List Write) (w : Write) → CountsFrom n ws → Contains ws w → n ≤ w.revision
+-- the revisions of writes that count from n on are n and more
+pub not_below : (n : ℕ) (ws : List Write) (w : Write) → CountsFrom n ws → Contains ws w → n ≤ w.revision
 not_below n [] w h m = absurd (Contains-none w m)
 not_below n (v ∷ ws) w h m =
     ⊎_elim (λ e. omega (arith, h.0, ap (λ (u : Write). u.revision) e)) (λ k. omega (arith, not_below (suc n) ws w h.1 k)) (Contains-cases v ws w m)
@@ -62,31 +63,6 @@ write_at-last key acts h = by_last (last_write key acts) refl
 
 -- ---- the last that is kept
 
--- the last element of a list with an element doesn't depend on a default
-last_or_any : {X : Type 0} (test : X → Bool) (xs : List X) (a b : Option X) → list_any test xs ≡ true → last_or a xs ≡ last_or b xs
-last_or_any test [] a b h = cc
-last_or_any test (x ∷ xs) a b h = refl
-
-last_or-since_purge : (ws : List Write) (o : Option Write) → last_or o (since_purge ws) ≡ last_or o ws
-last_or-since_purge [] o = refl
-last_or-since_purge (w ∷ ws) o =
-    let P : Bool → Type 0 = λ b. list_any (λ v. is_purge v.op) ws ≡ b → last_or o (cond b (since_purge ws) (w ∷ ws)) ≡ last_or (Some w) ws in
-    let cases : (b : Bool) → P b = λ b. elim b as P [ true ↦ (λ h. last_or-since_purge ws o ∙ last_or_any (λ v. is_purge v.op) ws o (Some w) h) | false ↦ (λ h. refl) ] in
-    cases (list_any (λ v. is_purge v.op) ws) refl
-
-last_or-drop : {X : Type 0} (xs : List X) (k : ℕ) (a b : Option X) → k < length xs → last_or a (drop k xs) ≡ last_or b xs
-last_or-drop [] k a b h = absurd (omega arith)
-last_or-drop (x ∷ xs) zero a b h = refl
-last_or-drop (x ∷ xs) (suc k) a b h = last_or-drop xs k a (Some x) (omega arith)
-
-last_or-last_n : {X : Type 0} (n : ℕ) (xs : List X) → 0 < n → last_or None (last_n n xs) ≡ last_or None xs
-last_or-last_n n [] h = let e : last_n n [] ≡ [] = drop_all (0 - n) [] (omega arith) in ap (last_or None) e
-last_or-last_n n (x ∷ xs) h = last_or-drop (x ∷ xs) (length (x ∷ xs) - n) None None (omega arith)
-
-last_or-map : {X Y : Type 0} (f : X → Y) (xs : List X) (o : Option X) → last_or (option_map f o) (map f xs) ≡ option_map f (last_or o xs)
-last_or-map f [] o = refl
-last_or-map f (x ∷ xs) o = last_or-map f xs (Some x)
-
 revision_or_zero : (o : Option Write) → option_map_or (λ v. v.revision) o 0 ≡ unwrap_or (option_map (λ v. v.revision) o) 0
 revision_or_zero None = refl
 revision_or_zero (Some v) = refl
@@ -101,11 +77,6 @@ pub last_revision-kept : (h : ℕ) (key : List ℕ) (acts : List Act) → 0 < h 
 last_revision-kept h key acts some =
     revision_or_zero (last_write key acts)
     ∙ ap (λ o. unwrap_or o 0) (ap (option_map (λ v. v.revision)) (last_write-kept h key acts some) ∙ sym (last_or-map (λ v. v.revision) (kept h key acts) None))
-
-pub last_get : {X : Type 0} (xs : List X) → slice_get xs (length xs - 1) ≡ last_or None xs
-last_get [] = refl
-last_get (x ∷ []) = refl
-last_get (x ∷ y ∷ ys) = let e : suc (suc (length ys)) - 1 ≡ suc (suc (length ys) - 1) = omega arith in rw e (last_get (y ∷ ys))
 
 -- ---- as one that is kept
 

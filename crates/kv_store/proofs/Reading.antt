@@ -1,12 +1,11 @@
 -- What a version that stands for acts has to be read from.
-use Rattle.std.proofs.Common.{◌≡◌, ℕ, suc, ◌+◌, ◌<◌, true, false, cond, ◌&&◌, ◌==◌, List, [], ◌∷◌, ◌++◌, Option, Some, None, length, get_or, take, map, filter, refl, sym, subst, ap, ◌∙◌, ⊎_elim, arith}
+use Rattle.std.proofs.Common.{◌≡◌, ℕ, ◌+◌, ◌<◌, true, false, cond, ◌&&◌, List, [], ◌∷◌, ◌++◌, Option, Some, None, length, get_or, take, map, filter, refl, sym, ap, ◌∙◌}
 use Rattle.std.specs.Prelude.{nat_le}
-use Rattle.std.specs.List.{Contains, filter_map, find, cons_option}
+use Rattle.std.specs.List.{Contains, filter_map, cons_option}
 use Rattle.std.specs.Option.{option_and_then, option_map, option_to_list}
-use Rattle.std.specs.Str.{bytes_eq}
-use Rattle.std.proofs.lemmas.Bool.{and_parts, leb-true, eq-eqb, ne_eqb}
+use Rattle.std.proofs.lemmas.Bool.{and_parts, leb-true}
 use Rattle.std.proofs.lemmas.List.{take_more, map-append}
-use Rattle.std.proofs.lemmas.List.Elements.{Contains-append_right, filter_map-append}
+use Rattle.std.proofs.lemmas.List.Elements.{filter_map-append}
 use Rattle.kv_keys.specs.Matching.{matches}
 use Rattle.kv_store.specs.Acts.{Act, Write, is_put, writes_of}
 use Rattle.kv_store.specs.Configuration.{Configuration, IsLegal}
@@ -15,10 +14,9 @@ use Rattle.kv_store.specs.Retained.{kept, latest, revisions, is_latest}
 use Rattle.kv_store.specs.Selected.{key_put}
 use Rattle.kv_store.specs.Standing.{StandsFor}
 use Rattle.kv_store.specs.Stored.{Stored, kept_at, write_at}
-use Rattle.kv_store.proofs.Keeping.{kept_is_end}
-use Rattle.kv_store.proofs.Members.{Contains-here, Contains-there, Contains-cases, Contains-none, Contains-from_filter, filter-filter}
-use Rattle.kv_store.proofs.Numbered.{CountsFrom, counts_from_lawful}
-use Rattle.kv_store.proofs.Selecting.{revision_after}
+use Rattle.kv_store.proofs.Found.{found, kept_member}
+use Rattle.kv_store.proofs.Members.{Contains-here, Contains-there, Contains-from_filter, filter-filter}
+use Rattle.kv_store.proofs.Numbered.{counts_from_lawful}
 
 -- some entry of each key is kept
 pub history_some : (config : Configuration) → IsLegal config → 0 < config.history
@@ -31,18 +29,6 @@ history_some config l =
     let two = (and_parts (history && value) writes three).0 in
     let both = (and_parts history value two).0 in
     leb-true 1 config.history (and_parts (nat_le 1 config.history) (nat_le config.history 64) both).0
-
-find_member : (n : ℕ) (ws : List Write) (w : Write) → CountsFrom n ws → Contains ws w → find (λ v. v.revision == w.revision) ws ≡ Some w
-find_member n [] w c m = absurd (Contains-none w m)
-find_member n (v ∷ ws) w c m = ⊎_elim (λ e. here e) (λ k. later k (find_member (suc n) ws w c.1 k)) (Contains-cases v ws w m)
-  where
-    here : v ≡ w → cond (v.revision == w.revision) (Some v) (find (λ v. v.revision == w.revision) ws) ≡ Some w
-    here e = rw (eq-eqb v.revision w.revision (ap (λ (u : Write). u.revision) e)) (ap Some e)
-
-    later : Contains ws w → find (λ v. v.revision == w.revision) ws ≡ Some w → cond (v.revision == w.revision) (Some v) (find (λ v. v.revision == w.revision) ws) ≡ Some w
-    later k rest =
-        let above = revision_after (suc n) ws w c.1 k in
-        rw (ne_eqb v.revision w.revision (λ e. omega (arith, e, c.0, above))) rest
 
 filter_map_more : {X Y : Type 0} (f : X → Option Y) (xs : List X) (i : ℕ) (d : X) → i < length xs → filter_map f (take (i + 1) xs) ≡ filter_map f (take i xs) ++ option_to_list (f (get_or xs i d))
 filter_map_more {X} {Y} f xs i d l =
@@ -63,12 +49,7 @@ read_more {T} {Y} read f rs i o before after l one all is =
 
 -- each write is stored of its revision
 pub stored_write : (acts : List Act) (version : Stored) (w : Write) → StandsFor acts version → Contains (writes_of acts) w → write_at w.revision version ≡ Some w
-stored_write acts version w s m = s.written w.revision ∙ find_member 1 (writes_of acts) w (counts_from_lawful version.config acts s.lawful) m
-
-pub kept_is_written : (h : ℕ) (key : List ℕ) (acts : List Act) (w : Write) → Contains (kept h key acts) w → Contains (writes_of acts) w
-kept_is_written h key acts w m =
-    let end = kept_is_end h key acts in
-    (Contains-from_filter (λ v. bytes_eq v.key key) (writes_of acts) w (subst (λ ws. Contains ws w) end.1 (Contains-append_right end.0 (kept h key acts) w m))).0
+stored_write acts version w s m = s.written w.revision ∙ found 1 (writes_of acts) w (counts_from_lawful version.config acts s.lawful) m
 
 -- what is found of the revisions of writes
 pub found_of_revisions : {Y : Type 0} (f : ℕ → Option Y) (g : Write → Option Y) (ws : List Write) → ((w : Write) → Contains ws w → f w.revision ≡ g w) → filter_map f (revisions ws) ≡ filter_map g ws
@@ -91,7 +72,7 @@ puts_found (w ∷ ws) =
 pub kept_writes : (acts : List Act) (version : Stored) (key : List ℕ) → StandsFor acts version → filter_map (λ r. write_at r version) (revisions (kept version.config.history key acts)) ≡ kept version.config.history key acts
 kept_writes acts version key s =
     let ws = kept version.config.history key acts in
-    found_of_revisions (λ r. write_at r version) Some ws (λ w m. stored_write acts version w s (kept_is_written version.config.history key acts w m)) ∙ all_found ws
+    found_of_revisions (λ r. write_at r version) Some ws (λ w m. stored_write acts version w s (kept_member version.config.history key acts w m)) ∙ all_found ws
 
 unless_empty-revisions : (ws : List Write) (rs : List ℕ) → unless_empty (revisions ws) ≡ Some rs → (revisions ws ≡ rs) × (unless_empty ws ≡ Some ws)
 unless_empty-revisions [] rs h = cc

@@ -1,5 +1,5 @@
 -- The selected writes are those that the kept revisions of the keys name.
-use Rattle.std.proofs.Common.{◌≡◌, ℕ, ◌+◌, ◌<◌, Bool, true, false, cond, ◌&&◌, ◌||◌, ◌==◌, List, [], ◌∷◌, Option, Some, None, filter, refl, sym, subst, ap, ◌∙◌, suc, inl, inr, ◌⊎◌, ⊎_elim, arith}
+use Rattle.std.proofs.Common.{◌≡◌, ℕ, ◌<◌, Bool, true, false, cond, ◌&&◌, ◌||◌, ◌==◌, List, [], ◌∷◌, Option, Some, None, filter, refl, sym, subst, ap, ◌∙◌, suc, inl, inr, ◌⊎◌, ⊎_elim, arith}
 use Rattle.std.specs.Prelude.{nat_le, ◌↔◌}
 use Rattle.std.proofs.lemmas.Slice.Eq.{bytes_eq-Decides}
 use Rattle.std.specs.List.{Contains, last_or, list_any}
@@ -12,6 +12,7 @@ use Rattle.kv_store.specs.declared.selection.Selection.TheVariants.{Latest, Reta
 use Rattle.kv_store.specs.Acts.{Act, Write, writes_of}
 use Rattle.kv_store.specs.Retained.{writes_of_key, last_write, since_purge, kept, revisions, is_kept, is_latest, retained, latest}
 use Rattle.kv_store.specs.Selected.{selected, selected_revisions}
+use Rattle.kv_store.proofs.Found.{not_below}
 use Rattle.kv_store.proofs.Keeping.{retained_of_key}
 use Rattle.kv_store.proofs.Lasts.{last_n_one, last_or-since_purge, last_or-last_n, last_or-map}
 use Rattle.kv_store.proofs.Members.{Contains-cases, Contains-none, Contains-filter, Contains-from_filter, filter-filter}
@@ -89,12 +90,6 @@ module _ (h : ℕ) (acts : List Act) (some : 0 < h) (counts : CountsFrom 1 (writ
 
 -- ---- one write has one revision
 
--- the revisions of writes that count from n on are n and more
-pub revision_after : (n : ℕ) (ws : List Write) (w : Write) → CountsFrom n ws → Contains ws w → n < w.revision + 1
-revision_after n [] w c m = absurd (Contains-none w m)
-revision_after n (v ∷ ws) w c m =
-    ⊎_elim (λ e. let r : v.revision ≡ w.revision = ap (λ (u : Write). u.revision) e in omega (arith, c.0, r)) (λ k. omega (arith, revision_after (suc n) ws w c.1 k)) (Contains-cases v ws w m)
-
 pub one_write : (n : ℕ) (ws : List Write) (v w : Write) → CountsFrom n ws → Contains ws v → Contains ws w → v.revision ≡ w.revision → v ≡ w
 one_write n [] v w c a b e = absurd (Contains-none v a)
 one_write n (u ∷ ws) v w c a b e = ⊎_elim (λ p. first p (Contains-cases u ws w b)) (λ k. later (λ i j. one_write (suc n) ws v w c.1 i j e) k (Contains-cases u ws w b)) (Contains-cases u ws v a)
@@ -103,12 +98,12 @@ one_write n (u ∷ ws) v w c a b e = ⊎_elim (λ p. first p (Contains-cases u w
     first p (inl q) = sym p ∙ q
     first p (inr m) =
         let r : u.revision ≡ v.revision = ap (λ (x : Write). x.revision) p in
-        absurd (omega (arith, c.0, r, e, revision_after (suc n) ws w c.1 m))
+        absurd (omega (arith, c.0, r, e, not_below (suc n) ws w c.1 m))
 
     later : (Contains ws v → Contains ws w → v ≡ w) → Contains ws v → (u ≡ w) ⊎ Contains ws w → v ≡ w
     later deeper k (inl q) =
         let r : u.revision ≡ w.revision = ap (λ (x : Write). x.revision) q in
-        absurd (omega (arith, c.0, r, e, revision_after (suc n) ws v c.1 k))
+        absurd (omega (arith, c.0, r, e, not_below (suc n) ws v c.1 k))
     later deeper k (inr m) = deeper k m
 
 -- ---- retained and kept

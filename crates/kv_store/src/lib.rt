@@ -26,3 +26,6 @@ pub use status::Status;
 pub use version::Version;
 pub use wanted::Wanted;
 pub use write::{Op, Write};
+
+#[cfg(test)]
+mod tests;

@@ -32,7 +32,8 @@ impl Rev {
     pub fn number(&self) -> u32
         ensures { result ≡ self.now }
     {
-        self.0
+        let Rev(revision) = self;
+        *revision
     }
 }
 

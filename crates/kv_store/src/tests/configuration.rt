@@ -1,0 +1,83 @@
+//! Which configurations are refused.
+
+use super::*;
+
+// Whether a bucket with this name is made, under this name.
+fn answer_to_name(alloc: Global, name: &str) -> Result<(), KvError> {
+    let version = empty(alloc, &named(alloc, name)?)?;
+    if version.bucket() == name {
+        Ok(())
+    } else {
+        Err(KvError::BadCommand)
+    }
+}
+
+// The answer to a configuration with these numbers.
+fn answer_to_numbers(
+    alloc: Global,
+    history: u64,
+    value_limit: u64,
+    write_limit: u64,
+    revision_limit: u64,
+) -> Result<(), KvError> {
+    let mut config = named(alloc, "kv")?;
+    config.history = history;
+    config.value_limit = value_limit;
+    config.write_limit = write_limit;
+    config.revision_limit = revision_limit;
+    empty(alloc, &config)?;
+    Ok(())
+}
+
+#[test]
+fn bucket_names(rt: HostRuntime) -> Result<(), Fail> {
+    let bad = Err(KvError::BadBucket);
+    let longest = "0123456789-abcdefghijklmnopqrstuvwxyz_ABCDEFGHIJKLMNOPQRSTUVWXYZ";
+    let longer = "0123456789-abcdefghijklmnopqrstuvwxyz_ABCDEFGHIJKLMNOPQRSTUVWXYZ0";
+    assert_eq!(rt; longest.len(), 64);
+    assert_eq!(rt; answer_to_name(rt.alloc(), longest), Ok(()));
+    assert_eq!(rt; answer_to_name(rt.alloc(), longer), bad);
+    assert_eq!(rt; answer_to_name(rt.alloc(), "my.bucket"), bad);
+    assert_eq!(rt; answer_to_name(rt.alloc(), ""), bad);
+    Ok(())
+}
+
+#[test]
+fn smallest_and_largest_numbers(rt: HostRuntime) -> Result<(), Fail> {
+    assert_eq!(rt; answer_to_numbers(rt.alloc(), 1, 0, 1, 1), Ok(()));
+    assert_eq!(rt;
+        answer_to_numbers(rt.alloc(), 64, 1_048_576, 1_000_000, 4_294_967_295),
+        Ok(())
+    );
+    Ok(())
+}
+
+#[test]
+fn numbers_below_their_limits(rt: HostRuntime) -> Result<(), Fail> {
+    let bad = Err(KvError::BadConfig);
+    assert_eq!(rt; answer_to_numbers(rt.alloc(), 0, 0, 1, 1), bad);
+    assert_eq!(rt; answer_to_numbers(rt.alloc(), 1, 0, 0, 1), bad);
+    assert_eq!(rt; answer_to_numbers(rt.alloc(), 1, 0, 1, 0), bad);
+    Ok(())
+}
+
+#[test]
+fn numbers_above_their_limits(rt: HostRuntime) -> Result<(), Fail> {
+    let bad = Err(KvError::BadConfig);
+    assert_eq!(rt; answer_to_numbers(rt.alloc(), 65, 0, 1, 1), bad);
+    assert_eq!(rt; answer_to_numbers(rt.alloc(), 1, 1_048_577, 1, 1), bad);
+    assert_eq!(rt; answer_to_numbers(rt.alloc(), 1, 0, 1_000_001, 1), bad);
+    assert_eq!(rt; answer_to_numbers(rt.alloc(), 1, 0, 1, 4_294_967_296), bad);
+    Ok(())
+}
+
+#[test]
+fn the_name_comes_before_the_numbers(rt: HostRuntime) -> Result<(), Fail> {
+    let mut config = named(rt.alloc(), "my.bucket")?;
+    config.history = 0;
+    let refused = empty(rt.alloc(), &config);
+    assert_eq!(rt; refused.err(), Some(KvError::BadBucket));
+    assert_eq!(rt; config.bucket.as_str(), "my.bucket");
+    assert_eq!(rt; config.history, 0);
+    Ok(())
+}

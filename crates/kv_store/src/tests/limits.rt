@@ -1,0 +1,132 @@
+//! Values, writes and revisions at their limits, and which refusal comes first.
+
+use super::*;
+
+fn limited(
+    alloc: Global,
+    value_limit: u64,
+    write_limit: u64,
+    revision_limit: u64,
+) -> Result<Version, KvError> {
+    let mut config = named(alloc, "kv")?;
+    config.value_limit = value_limit;
+    config.write_limit = write_limit;
+    config.revision_limit = revision_limit;
+    empty(alloc, &config)
+}
+
+// A full journal with two entries, whose value limit is 3.
+fn full(rt: &impl Abort, alloc: Global) -> Result<Version, KvError> {
+    let steps = [("a", Ask::Put("abc"), Ok(1)), ("b", Ask::Put(""), Ok(2))];
+    run(rt, alloc, limited(alloc, 3, 2, 100)?, &steps)
+}
+
+#[test]
+fn value_limit(rt: HostRuntime) -> Result<(), Fail> {
+    let steps = [
+        ("a", Ask::Put("abc"), Ok(1)),
+        ("a", Ask::Put("abcd"), Err(KvError::ValueTooLarge)),
+        ("k", Ask::Create("abcd"), Err(KvError::ValueTooLarge)),
+        ("a", Ask::Update("abcd", 1), Err(KvError::ValueTooLarge)),
+        ("b", Ask::Put(""), Ok(2)),
+    ];
+    run(&rt, rt.alloc(), limited(rt.alloc(), 3, 100, 100)?, &steps)?;
+    Ok(())
+}
+
+#[test]
+fn write_limit(rt: HostRuntime) -> Result<(), Fail> {
+    let steps = [
+        ("k", Ask::Put(""), Err(KvError::JournalFull)),
+        ("n", Ask::Delete(None), Err(KvError::JournalFull)),
+        ("n", Ask::Purge(None), Err(KvError::JournalFull)),
+    ];
+    let version = run(&rt, rt.alloc(), full(&rt, rt.alloc())?, &steps)?;
+    assert_eq!(rt; version.revision(), 2);
+    Ok(())
+}
+
+#[test]
+fn revision_limit(rt: HostRuntime) -> Result<(), Fail> {
+    let steps = [
+        ("a", Ask::Put(""), Ok(1)),
+        ("b", Ask::Put(""), Err(KvError::JournalFull)),
+        ("a", Ask::Delete(None), Err(KvError::JournalFull)),
+    ];
+    run(&rt, rt.alloc(), limited(rt.alloc(), 3, 100, 1)?, &steps)?;
+    Ok(())
+}
+
+// Requests with more than one reason against them are refused by the first: in a full journal.
+#[test]
+fn first_refusal_of_a_full_journal(rt: HostRuntime) -> Result<(), Fail> {
+    let steps = [
+        ("a", Ask::Create("abcd"), Err(KvError::ValueTooLarge)),
+        ("a", Ask::Create(""), Err(KvError::JournalFull)),
+        ("a", Ask::Update("", 7), Err(KvError::JournalFull)),
+        ("a", Ask::Delete(Some(7)), Err(KvError::JournalFull)),
+    ];
+    run(&rt, rt.alloc(), full(&rt, rt.alloc())?, &steps)?;
+    Ok(())
+}
+
+// And where that is sealed.
+#[test]
+fn first_refusal_of_a_sealed_bucket(rt: HostRuntime) -> Result<(), Fail> {
+    let steps = [
+        ("a", Ask::Create("abcd"), Err(KvError::ValueTooLarge)),
+        ("a", Ask::Create(""), Err(KvError::Sealed)),
+        ("a", Ask::Update("", 7), Err(KvError::Sealed)),
+        ("n", Ask::Purge(None), Err(KvError::Sealed)),
+    ];
+    let version = sealed(&rt, rt.alloc(), &full(&rt, rt.alloc())?)?;
+    run(&rt, rt.alloc(), version, &steps)?;
+    Ok(())
+}
+
+#[test]
+fn a_seal_of_a_sealed_bucket(rt: HostRuntime) -> Result<(), Fail> {
+    let once = sealed(&rt, rt.alloc(), &full(&rt, rt.alloc())?)?;
+    let twice = sealed(&rt, rt.alloc(), &once)?;
+    assert!(rt; look(rt.alloc(), &once)? == look(rt.alloc(), &twice)?);
+    let status = Status {
+        history: 1,
+        last: 2,
+        sealed: true,
+        stored: 2,
+        values: 2,
+    };
+    assert_eq!(rt; twice.status(), status);
+    Ok(())
+}
+
+fn zeros(alloc: Global, count: usize) -> Result<Vec<u8>, KvError> {
+    let value = vec![in alloc; 0; count]?;
+    Ok(value)
+}
+
+fn large_once(alloc: Global, size: usize) -> Result<Request, KvError> {
+    Ok(Request::Put {
+        key: Key::parse(alloc, "a")?,
+        value: zeros(alloc, size)?,
+    })
+}
+
+// A put of a value of so many bytes.
+fn large(alloc: Global, size: usize) -> Result<Request, KvError> {
+    match large_once(alloc, size) {
+        Err(KvError::OutOfMemory) => large_once(alloc, size),
+        request => request,
+    }
+}
+
+#[test]
+fn largest_value(rt: HostRuntime) -> Result<(), Fail> {
+    let first = empty(rt.alloc(), &named(rt.alloc(), "kv")?)?;
+    let refused = apply(&rt, rt.alloc(), &first, &large(rt.alloc(), 1_048_577)?);
+    assert_eq!(rt; refused.err(), Some(KvError::ValueTooLarge));
+    let second = apply(&rt, rt.alloc(), &first, &large(rt.alloc(), 1_048_576)?)?;
+    let a = key(rt.alloc(), "a")?;
+    assert_eq!(rt; second.get(&a)?.value().len(), 1_048_576);
+    Ok(())
+}

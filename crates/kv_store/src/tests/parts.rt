@@ -1,0 +1,159 @@
+//! Each public call once, with its answer.
+
+use super::*;
+use crate::{Rev, Wanted, Write};
+use kv_keys::{Filter, Filters, Place};
+
+// A bucket that keeps two entries of each key, with a put, an update and a delete of `a`, and a put of `b`.
+fn small(rt: &impl Abort, alloc: Global) -> Result<Version, KvError> {
+    let steps = [
+        ("a", Ask::Create("one"), Ok(1)),
+        ("a", Ask::Update("two", 1), Ok(2)),
+        ("b", Ask::Put(""), Ok(3)),
+        ("a", Ask::Delete(Some(2)), Ok(4)),
+    ];
+    let mut config = named(alloc, "small")?;
+    config.history = 2;
+    run(rt, alloc, empty(alloc, &config)?, &steps)
+}
+
+#[test]
+fn configuration_with_the_defaults(rt: HostRuntime) -> Result<(), Fail> {
+    let config = named(rt.alloc(), "my.bucket")?;
+    assert_eq!(rt; config.bucket.as_str(), "my.bucket");
+    assert_eq!(rt; config.history, 1);
+    assert_eq!(rt; config.value_limit, 1_048_576);
+    assert_eq!(rt; config.write_limit, 1_000_000);
+    assert_eq!(rt; config.revision_limit, 4_294_967_295);
+    Ok(())
+}
+
+#[test]
+fn what_a_request_asks_for(rt: HostRuntime) -> Result<(), Fail> {
+    let create = request(rt.alloc(), "a", Ask::Create("one"))?;
+    let purge = request(rt.alloc(), "b", Ask::Purge(None))?;
+    assert_eq!(rt; create.key().as_str(), "a");
+    assert_eq!(rt; create.value(), b"one".as_slice());
+    assert_eq!(rt; create.op(), Op::Put);
+    assert_eq!(rt; purge.key().as_str(), "b");
+    assert_eq!(rt; purge.value(), b"".as_slice());
+    assert_eq!(rt; purge.op(), Op::Purge);
+    Ok(())
+}
+
+#[test]
+fn what_an_op_does(rt: HostRuntime) {
+    assert!(rt; Op::Put.is_put());
+    assert!(rt; !Op::Delete.is_put() && !Op::Purge.is_put());
+    assert!(rt; Op::Purge.is_purge());
+    assert!(rt; !Op::Put.is_purge() && !Op::Delete.is_purge());
+}
+
+#[test]
+fn revisions_as_keys(rt: HostRuntime) {
+    let rev = Rev::new(7);
+    assert_eq!(rt; rev.number(), 7);
+    assert_eq!(rt; rev.place(), 7);
+    assert!(rt; rev == Rev::new(7));
+    assert!(rt; rev < Rev::new(4_294_967_295));
+}
+
+#[test]
+fn parts_of_a_write(rt: HostRuntime) -> Result<(), Fail> {
+    let version = small(&rt, rt.alloc())?;
+    let b = key(rt.alloc(), "b")?;
+    let write = version.get(&b)?;
+    assert_eq!(rt; write.key().as_str(), "b");
+    assert_eq!(rt; write.op(), Op::Put);
+    assert_eq!(rt; write.value(), b"".as_slice());
+    assert_eq!(rt; write.revision(), 3);
+    Ok(())
+}
+
+#[test]
+fn numbers_of_a_version(rt: HostRuntime) -> Result<(), Fail> {
+    let version = small(&rt, rt.alloc())?;
+    let status = Status {
+        history: 2,
+        last: 4,
+        sealed: false,
+        stored: 4,
+        values: 3,
+    };
+    assert_eq!(rt; version.status(), status);
+    assert_eq!(rt; version.bucket(), "small");
+    assert_eq!(rt; version.revision(), 4);
+    assert!(rt; !version.sealed());
+    Ok(())
+}
+
+// Whether the write of the revision is stored, with this value.
+fn is_stored(version: &Version, revision: u64, value: &[u8]) -> bool {
+    match version.write_at(revision) {
+        Some(write) => write.value() == value,
+        None => false,
+    }
+}
+
+#[test]
+fn writes_by_revision(rt: HostRuntime) -> Result<(), Fail> {
+    let version = small(&rt, rt.alloc())?;
+    assert!(rt; is_stored(&version, 1, b"one"));
+    assert!(rt; is_stored(&version, 4, b""));
+    assert!(rt; version.write_at(0).is_none());
+    assert!(rt; version.write_at(5).is_none());
+    assert!(rt; version.write_at(u64::MAX).is_none());
+    Ok(())
+}
+
+#[test]
+fn revisions_by_key(rt: HostRuntime) -> Result<(), Fail> {
+    let version = small(&rt, rt.alloc())?;
+    let a = key(rt.alloc(), "a")?;
+    let n = key(rt.alloc(), "n")?;
+    assert_eq!(rt; version.kept_at(&a), Some([2, 4].as_slice()));
+    assert_eq!(rt; version.kept_at(&n), None);
+    assert_eq!(rt; version.last_revision(&a), 4);
+    assert_eq!(rt; version.last_revision(&n), 0);
+    Ok(())
+}
+
+#[test]
+fn the_two_tries(rt: HostRuntime) -> Result<(), Fail> {
+    let version = small(&rt, rt.alloc())?;
+    let a = key(rt.alloc(), "a")?;
+    assert_eq!(rt; version.by_key().len(), 2);
+    assert_eq!(rt; version.by_key().get(&a).map(Vec::len), Some(2));
+    assert_eq!(rt; version.by_revision().len(), 4);
+    assert_eq!(rt;
+        version.by_revision().get(&Rev::new(4)).map(Write::op),
+        Some(Op::Delete)
+    );
+    Ok(())
+}
+
+fn wants<W: Wanted>(wanted: &W, key: &Key) -> bool {
+    wanted.wants(key)
+}
+
+#[test]
+fn wanted_by_a_filter(rt: HostRuntime) -> Result<(), Fail> {
+    let a = key(rt.alloc(), "a")?;
+    let all = match Filter::parse(rt.alloc(), "*") {
+        Err(KvError::OutOfMemory) => Filter::parse(rt.alloc(), "*"),
+        parsed => parsed,
+    }?;
+    assert!(rt; wants(&all, &a));
+    Ok(())
+}
+
+#[test]
+fn wanted_by_filters(rt: HostRuntime) -> Result<(), Fail> {
+    let a = key(rt.alloc(), "a")?;
+    let others = match Filters::parse(rt.alloc(), "b,a.>") {
+        Err(KvError::OutOfMemory) => Filters::parse(rt.alloc(), "b,a.>"),
+        parsed => parsed,
+    }?;
+    assert!(rt; !wants(&others, &a));
+    Ok(())
+}
