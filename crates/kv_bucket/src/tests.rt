@@ -76,18 +76,41 @@ fn look(bucket: &Bucket) -> Sight {
     }
 }
 
-fn open_once(alloc: Global, name: &str, history: u64, write_limit: u64) -> Result<Bucket, KvError> {
+// The numbers of a configuration.
+#[derive(Clone, Copy)]
+struct Limits {
+    history: u64,
+    value_limit: u64,
+    write_limit: u64,
+    revision_limit: u64,
+}
+
+const LARGEST: Limits = Limits {
+    history: 64,
+    value_limit: 1_048_576,
+    write_limit: 1_000_000,
+    revision_limit: 4_294_967_295,
+};
+
+fn open_once(alloc: Global, name: &str, limits: Limits) -> Result<Bucket, KvError> {
     let mut config = Config::named(alloc, name)?;
-    config.history = history;
-    config.write_limit = write_limit;
+    config.history = limits.history;
+    config.value_limit = limits.value_limit;
+    config.write_limit = limits.write_limit;
+    config.revision_limit = limits.revision_limit;
     Bucket::open(alloc, &config)
 }
 
-fn open(alloc: Global, name: &str, history: u64, write_limit: u64) -> Result<Bucket, KvError> {
-    match open_once(alloc, name, history, write_limit) {
-        Err(KvError::OutOfMemory) => open_once(alloc, name, history, write_limit),
+fn open(alloc: Global, name: &str, limits: Limits) -> Result<Bucket, KvError> {
+    match open_once(alloc, name, limits) {
+        Err(KvError::OutOfMemory) => open_once(alloc, name, limits),
         bucket => bucket,
     }
+}
+
+fn keeping(alloc: Global, history: u64) -> Result<Bucket, KvError> {
+    let limits = Limits { history, ..LARGEST };
+    open(alloc, "kv", limits)
 }
 
 fn put_once(alloc: Global, key: &str, value: &str) -> Result<Request, KvError> {
@@ -106,6 +129,19 @@ fn put(alloc: Global, key: &str, value: &str) -> Result<Request, KvError> {
 fn all_keys(alloc: Global) -> Result<Filters, KvError> {
     match Filters::parse(alloc, ">") {
         Err(KvError::OutOfMemory) => Filters::parse(alloc, ">"),
+        filters => filters,
+    }
+}
+
+fn one_filter_once(alloc: Global) -> Result<Filters, KvError> {
+    let filter = Filter::parse(alloc, ">")?;
+    Filters::one(alloc, &filter)
+}
+
+// The same filters, as the list of one.
+fn one_filter(alloc: Global) -> Result<Filters, KvError> {
+    match one_filter_once(alloc) {
+        Err(KvError::OutOfMemory) => one_filter_once(alloc),
         filters => filters,
     }
 }
@@ -140,23 +176,5 @@ fn watch(rt: &impl Abort, bucket: &mut Bucket, filters: &Filters) -> Result<u64,
             bucket.watch(filters, LATEST)
         }
         number => number,
-    }
-}
-
-// Where a request for memory is refused, the calls before the refused one were done, and the others go on from there.
-fn run(
-    rt: &impl Abort,
-    bucket: &mut Bucket,
-    calls: &[Call],
-    replies: &mut Vec<Reply>,
-) -> Result<(), KvError> {
-    let before = replies.len();
-    match bucket.run(calls, replies) {
-        Err(KvError::OutOfMemory) => {
-            let done = replies.len().saturating_sub(before);
-            assert!(rt; done < calls.len());
-            bucket.run(&calls[done..], replies)
-        }
-        done => done,
     }
 }

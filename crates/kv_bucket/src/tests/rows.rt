@@ -2,16 +2,19 @@
 
 use super::*;
 
-#[test]
-fn initial_by_revision(rt: HostRuntime) -> Result<(), Fail> {
-    let mut bucket = open(rt.alloc(), "kv", 1, 1_000_000)?;
+fn put_three(rt: &impl Abort, alloc: Global, bucket: &mut Bucket) -> Result<(), KvError> {
     for (key, value) in [("b", "1"), ("a", "2"), ("b", "3")] {
-        let request = put(rt.alloc(), key, value)?;
-        write(&rt, &mut bucket, &request)?;
+        let request = put(alloc, key, value)?;
+        write(rt, bucket, &request)?;
     }
+    Ok(())
+}
+
+fn initial_by(rt: &impl Abort, alloc: Global, filters: &Filters) -> Result<(), KvError> {
+    let mut bucket = keeping(alloc, 1)?;
+    put_three(rt, alloc, &mut bucket)?;
     assert_eq!(rt; bucket.version().revision(), 3);
-    let filters = all_keys(rt.alloc())?;
-    assert_eq!(rt; watch(&rt, &mut bucket, &filters)?, 1);
+    assert_eq!(rt; watch(rt, &mut bucket, filters)?, 1);
     for answer in [
         Answer::Entry(2),
         Answer::Entry(3),
@@ -25,9 +28,18 @@ fn initial_by_revision(rt: HostRuntime) -> Result<(), Fail> {
 }
 
 #[test]
+fn initial_by_revision(rt: HostRuntime) -> Result<(), Fail> {
+    let parsed = all_keys(rt.alloc())?;
+    initial_by(&rt, rt.alloc(), &parsed)?;
+    let single = one_filter(rt.alloc())?;
+    initial_by(&rt, rt.alloc(), &single)?;
+    Ok(())
+}
+
+#[test]
 fn watch_numbers(rt: HostRuntime) -> Result<(), Fail> {
     let none = Answer::Refused(KvError::NoSuchWatch);
-    let mut bucket = open(rt.alloc(), "kv", 1, 1_000_000)?;
+    let mut bucket = keeping(rt.alloc(), 1)?;
     let filters = all_keys(rt.alloc())?;
     assert_eq!(rt; brief_taken(bucket.take(7)), none);
     assert_eq!(rt; watch(&rt, &mut bucket, &filters)?, 1);
@@ -42,7 +54,7 @@ fn watch_numbers(rt: HostRuntime) -> Result<(), Fail> {
 
 #[test]
 fn sixty_four_watches(rt: HostRuntime) -> Result<(), Fail> {
-    let mut bucket = open(rt.alloc(), "kv", 1, 1_000_000)?;
+    let mut bucket = keeping(rt.alloc(), 1)?;
     let filters = all_keys(rt.alloc())?;
     for number in 1..65u64 {
         assert_eq!(rt; watch(&rt, &mut bucket, &filters)?, number);
@@ -59,7 +71,12 @@ fn sixty_four_watches(rt: HostRuntime) -> Result<(), Fail> {
 
 #[test]
 fn write_limit_and_seal(rt: HostRuntime) -> Result<(), Fail> {
-    let mut bucket = open(rt.alloc(), "kv", 1, 2)?;
+    let limits = Limits {
+        history: 1,
+        write_limit: 2,
+        ..LARGEST
+    };
+    let mut bucket = open(rt.alloc(), "kv", limits)?;
     let first = put(rt.alloc(), "a", "")?;
     let second = put(rt.alloc(), "b", "")?;
     let third = put(rt.alloc(), "c", "")?;
@@ -79,9 +96,59 @@ fn write_limit_and_seal(rt: HostRuntime) -> Result<(), Fail> {
     Ok(())
 }
 
+// The refusal of an opening, want of memory aside.
+fn refusal(alloc: Global, name: &str, limits: Limits) -> Option<KvError> {
+    open(alloc, name, limits).err()
+}
+
+// A name of 64 letters is the longest.
+const LONGEST_NAME: &str = "abcdefghijklmnopqrstuvwxyzabcdefghijklmnopqrstuvwxyzabcdefghijkl";
+
 #[test]
-fn refused_configurations(rt: HostRuntime) -> Result<(), Fail> {
-    assert!(rt; matches!(open(rt.alloc(), "my.bucket", 1, 1), Err(KvError::BadBucket)));
-    assert!(rt; matches!(open(rt.alloc(), "kv", 65, 1), Err(KvError::BadConfig)));
-    Ok(())
+fn refused_names(rt: HostRuntime) {
+    let too_long = "abcdefghijklmnopqrstuvwxyzabcdefghijklmnopqrstuvwxyzabcdefghijklm";
+    for name in ["my.bucket", "", too_long] {
+        assert_eq!(rt;
+            refusal(rt.alloc(), name, LARGEST),
+            Some(KvError::BadBucket)
+        );
+    }
+    assert_eq!(rt; refusal(rt.alloc(), LONGEST_NAME, LARGEST), None);
+    let limits = Limits {
+        history: 0,
+        ..LARGEST
+    };
+    assert_eq!(rt;
+        refusal(rt.alloc(), "my.bucket", limits),
+        Some(KvError::BadBucket)
+    );
+}
+
+#[test]
+fn refused_numbers(rt: HostRuntime) {
+    let table = [
+        (0, 1, 1, 1),
+        (65, 1, 1, 1),
+        (1, 1_048_577, 1, 1),
+        (1, 1, 0, 1),
+        (1, 1, 1_000_001, 1),
+        (1, 1, 1, 0),
+        (1, 1, 1, 4_294_967_296u64),
+    ];
+    for (history, value_limit, write_limit, revision_limit) in table {
+        let limits = Limits {
+            history,
+            value_limit,
+            write_limit,
+            revision_limit,
+        };
+        assert_eq!(rt; refusal(rt.alloc(), "kv", limits), Some(KvError::BadConfig));
+    }
+    let smallest = Limits {
+        history: 1,
+        value_limit: 0,
+        write_limit: 1,
+        revision_limit: 1,
+    };
+    assert_eq!(rt; refusal(rt.alloc(), "kv", smallest), None);
 }

@@ -7,21 +7,21 @@ fn push_put(alloc: Global, calls: &mut Vec<Call>, key: &str, value: &str) -> Res
     Ok(())
 }
 
-fn initial_calls_once(alloc: Global) -> Result<Vec<Call>, KvError> {
+fn initial_calls_once(alloc: Global, filters: &Filters) -> Result<Vec<Call>, KvError> {
     let mut calls = Vec::new(alloc);
     for (key, value) in [("b", "1"), ("a", "2"), ("b", "3")] {
         push_put(alloc, &mut calls, key, value)?;
     }
-    calls.push(Call::Watch(all_keys(alloc)?, LATEST))?;
+    calls.push(Call::Watch(filters.copy(alloc)?, LATEST))?;
     for _ in 0..4u8 {
         calls.push(Call::Take(1))?;
     }
     Ok(calls)
 }
 
-fn initial_calls(alloc: Global) -> Result<Vec<Call>, KvError> {
-    match initial_calls_once(alloc) {
-        Err(KvError::OutOfMemory) => initial_calls_once(alloc),
+fn initial_calls(alloc: Global, filters: &Filters) -> Result<Vec<Call>, KvError> {
+    match initial_calls_once(alloc, filters) {
+        Err(KvError::OutOfMemory) => initial_calls_once(alloc, filters),
         calls => calls,
     }
 }
@@ -36,12 +36,51 @@ fn is_entry(reply: Option<&Reply>, key: &str, value: &[u8]) -> bool {
     }
 }
 
-#[test]
-fn initial_by_revision_in_a_run(rt: HostRuntime) -> Result<(), Fail> {
-    let mut bucket = open(rt.alloc(), "kv", 1, 1_000_000)?;
-    let calls = initial_calls(rt.alloc())?;
-    let mut replies = Vec::new(rt.alloc());
-    run(&rt, &mut bucket, &calls, &mut replies)?;
+// A bucket looks like one that was asked these calls alone.
+fn looks_asked(
+    rt: &impl Abort,
+    alloc: Global,
+    history: u64,
+    calls: &[Call],
+    bucket: &Bucket,
+) -> Result<(), KvError> {
+    let mut other = keeping(alloc, history)?;
+    let mut replies = Vec::new(alloc);
+    other.run(calls, &mut replies)?;
+    assert_eq!(rt; look(bucket), look(&other));
+    Ok(())
+}
+
+// The replies to the calls of a bucket that keeps so many entries of each key. Where a request for memory is refused, the
+// calls before the refused one were done and answered, and the others go on from there.
+fn replies(
+    rt: &impl Abort,
+    alloc: Global,
+    history: u64,
+    calls: &[Call],
+) -> Result<Vec<Reply>, KvError> {
+    let mut bucket = keeping(alloc, history)?;
+    let mut replies = Vec::new(alloc);
+    if let Err(error) = bucket.run(calls, &mut replies) {
+        assert_eq!(rt; error, KvError::OutOfMemory);
+        let done = replies.len();
+        assert!(rt; done < calls.len());
+        looks_asked(rt, alloc, history, &calls[..done], &bucket)?;
+        bucket.run(&calls[done..], &mut replies)?;
+    }
+    Ok(replies)
+}
+
+fn are_answers(rt: &impl Abort, replies: &[Reply], answers: &[Answer]) {
+    assert_eq!(rt; replies.len(), answers.len());
+    for (reply, answer) in replies.iter().zip(answers) {
+        assert_eq!(rt; brief(reply), *answer);
+    }
+}
+
+fn initial_by(rt: &impl Abort, alloc: Global, filters: &Filters) -> Result<(), KvError> {
+    let calls = initial_calls(alloc, filters)?;
+    let replies = replies(rt, alloc, 1, &calls)?;
     let answers = [
         Answer::Revision(1),
         Answer::Revision(2),
@@ -52,12 +91,18 @@ fn initial_by_revision_in_a_run(rt: HostRuntime) -> Result<(), Fail> {
         Answer::Marker,
         Answer::Empty,
     ];
-    assert_eq!(rt; replies.len(), 8);
-    for (reply, answer) in replies.iter().zip(answers) {
-        assert_eq!(rt; brief(reply), answer);
-    }
+    are_answers(rt, &replies, &answers);
     assert!(rt; is_entry(replies.get(4), "a", b"2"));
     assert!(rt; is_entry(replies.get(5), "b", b"3"));
+    Ok(())
+}
+
+#[test]
+fn initial_by_revision_in_a_run(rt: HostRuntime) -> Result<(), Fail> {
+    let parsed = all_keys(rt.alloc())?;
+    initial_by(&rt, rt.alloc(), &parsed)?;
+    let single = one_filter(rt.alloc())?;
+    initial_by(&rt, rt.alloc(), &single)?;
     Ok(())
 }
 
@@ -88,10 +133,8 @@ fn other_calls(alloc: Global) -> Result<Vec<Call>, KvError> {
 
 #[test]
 fn each_call_in_a_run(rt: HostRuntime) -> Result<(), Fail> {
-    let mut bucket = open(rt.alloc(), "kv", 2, 1_000_000)?;
     let calls = other_calls(rt.alloc())?;
-    let mut replies = Vec::new(rt.alloc());
-    run(&rt, &mut bucket, &calls, &mut replies)?;
+    let replies = replies(&rt, rt.alloc(), 2, &calls)?;
     let status = Status {
         history: 2,
         last: 2,
@@ -114,9 +157,6 @@ fn each_call_in_a_run(rt: HostRuntime) -> Result<(), Fail> {
         Answer::Sealed,
         Answer::Refused(KvError::Sealed),
     ];
-    assert_eq!(rt; replies.len(), 13);
-    for (reply, answer) in replies.iter().zip(answers) {
-        assert_eq!(rt; brief(reply), answer);
-    }
+    are_answers(&rt, &replies, &answers);
     Ok(())
 }
