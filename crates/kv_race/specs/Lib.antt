@@ -1,0 +1,4 @@
+pub mod Racing
+pub mod Telling
+pub mod Watching
+pub mod Working

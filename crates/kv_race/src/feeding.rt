@@ -1,0 +1,60 @@
+//! What the watchers of a race follow: feeds, which take no lock.
+
+ghost use Rattle.std.specs.Prelude.{◌≡◌, ◌-◌, IfOk, IfErr, length, take};
+ghost use Rattle.std.specs.Option.{option_map};
+ghost use Rattle.kv_keys.specs.declared.error.KvError.TheVariants.{OutOfMemory};
+ghost use Rattle.kv_watch.specs.Taking.{item_taken};
+ghost use Rattle.kv_bucket.specs.Answers.{answer_of};
+ghost use Rattle.kv_history.specs.Feeding.{given_by, next_of, after_item};
+ghost use Rattle.kv_race.specs.Watching.{reply_to};
+
+use crate::watcher::Follows;
+use kv_bucket::{Feed, LiveName, Reply, Seen, Taken};
+use kv_keys::KvError;
+use std::alloc::Global;
+
+// A copy of what a take hands out.
+fn copy_of(alloc: Global, taken: &Taken<'_>) -> Result<Option<Reply>, KvError>
+    ensures ok { IfOk result (λ reply. option_map answer_of reply ≡ option_map reply_to (item_taken taken.now)) }
+    ensures err { IfErr result (λ e. e ≡ OutOfMemory) }
+{
+    match taken {
+        Taken::Entry(shown) => {
+            let seen = Seen::of_shown(alloc, shown)?;
+            Ok(Some(Reply::Entry(seen)))
+        }
+        Taken::Marker => Ok(Some(Reply::Marker)),
+        Taken::Empty => Ok(None),
+    }
+}
+
+// Takes the next item, and looks at it no more.
+fn pass<N: LiveName>(feed: &mut Feed<N>)
+    ensures { feed.new ≡ after_item feed.old (next_of N.opening.config.history feed.old) }
+{
+    let _ = feed.take();
+}
+
+impl<N: LiveName> Follows for Feed<N> {
+    ghost watch = { λ feed. record { began = feed.began; filters = feed.filters; options = feed.options } };
+
+    ghost place = { λ feed. record { acts = feed.acts; seen = feed.reader.seen; told = feed.reader.told } };
+
+    ghost handed_out = { λ feed. take feed.handed (given_by N.opening.config.history feed) };
+
+    ghost left = { λ feed. length (given_by N.opening.config.history feed) - feed.handed };
+
+    #[tactic(auto, using(crate::proofs::Fed::went_on, crate::proofs::Fed::stayed))]
+    fn go_on(&mut self) -> Result<(), KvError> {
+        let _ = self.handed();
+        self.refresh()
+    }
+
+    #[tactic(auto, using(crate::proofs::Fed::handed_on))]
+    fn hand_out(&mut self, alloc: Global) -> Result<Option<Reply>, KvError> {
+        let _ = self.handed();
+        let reply = copy_of(alloc, &self.peek())?;
+        pass(self);
+        Ok(reply)
+    }
+}

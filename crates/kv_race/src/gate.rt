@@ -1,0 +1,26 @@
+//! Where the threads of a race can be held up, and watched.
+
+/// A thread of a race: the worker or the watcher of a number, from 0.
+#[derive(Clone, Copy, Debug, PartialEq, Eq)]
+pub enum Who {
+    Worker(usize),
+    Watcher(usize),
+}
+
+/// Stands before and after each write of a worker and each round of a watcher, `n` of which counts from 0 for each of
+/// them. A test can wait in it for other threads; how long a race then takes is the gate's affair.
+pub trait Gate: Sync {
+    fn before(&self, who: Who, n: u64);
+
+    fn after(&self, who: Who, n: u64);
+}
+
+/// Holds nobody up.
+#[derive(Clone, Copy, Debug)]
+pub struct NoGate;
+
+impl Gate for NoGate {
+    fn before(&self, _who: Who, _n: u64) {}
+
+    fn after(&self, _who: Who, _n: u64) {}
+}
