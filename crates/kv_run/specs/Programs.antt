@@ -1,5 +1,5 @@
 -- What a status of the program says.
-use Rattle.std.specs.Prelude.{◌≡◌, ◌≢◌, ◌⊎◌, ℕ, [], IsErr}
+use Rattle.std.specs.Prelude.{◌≢◌, ◌⊎◌, ℕ, [], IsErr}
 use Rattle.clap.specs.Kinds.{Kinds}
 use Rattle.kv_keys.specs.declared.error.KvError.{KvError}
 use Rattle.kv_keys.specs.declared.error.KvError.TheVariants.{BadBucket, BadConfig}

@@ -22,3 +22,6 @@ pub use running::program;
 pub use sink::{Sink, Whole};
 pub use source::{Bounded, Source};
 pub use streams::{replay, replay_bounded};
+
+#[cfg(test)]
+mod tests;

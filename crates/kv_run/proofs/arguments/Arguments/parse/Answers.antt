@@ -1,4 +1,4 @@
-use Rattle.std.proofs.Common.{◌≡◌, List, [], ap, sym, map, ◌∙◌, codes, string_bytes}
+use Rattle.std.proofs.Common.{◌≡◌, List, ap, sym, map, ◌∙◌, codes, string_bytes}
 use Rattle.std.specs.Option.{unwrap_or}
 use Rattle.std.specs.contracts.prelude.U64FromStr.TheImpl as reader
 use Rattle.clap.specs.Faults.{fault_of, is_simple_and_free}
@@ -6,7 +6,7 @@ use Rattle.clap.specs.Matches.{found_of, one_text}
 use Rattle.clap.specs.Simple.{is_simple, matches_of}
 use Rattle.clap.specs.Walk.{Row, Text, rows_of, first_of, one_of}
 use Rattle.clap.proofs.WalkLemmas.{first_value-rows, one_text-rows}
-use Rattle.kv_run.specs.Arguments.{faults_of, number_in, program_app, text_in}
+use Rattle.kv_run.specs.Arguments.{number_in, program_app, text_in}
 use Rattle.kv_run.proofs.Options.{option_number, program_is_free, program_is_simple, unwrap_text}
 use Rattle.kv_run.proofs.arguments.Arguments.parse.Goals as goal
 

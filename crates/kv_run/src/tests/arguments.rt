@@ -1,0 +1,199 @@
+//! The program: its arguments, its status and what it tells of faults.
+
+use super::*;
+
+fn words_once(alloc: Global, arguments: &[&str]) -> Result<Vec<String>, AllocError> {
+    let mut words = Vec::new(alloc);
+    words.push(String::from_str(alloc, "kvbucket")?)?;
+    for argument in arguments {
+        words.push(String::from_str(alloc, argument)?)?;
+    }
+    Ok(words)
+}
+
+fn words(alloc: Global, arguments: &[&str]) -> Result<Vec<String>, AllocError> {
+    match words_once(alloc, arguments) {
+        Err(AllocError) => words_once(alloc, arguments),
+        words => words,
+    }
+}
+
+// What the program came to.
+#[derive(Drop)]
+struct Done {
+    status: u8,
+    written: Vec<u8>,
+    faults: Vec<u8>,
+}
+
+fn run_once(alloc: Global, words: &[String], script: &[u8]) -> Result<Done, AllocError> {
+    let mut reader = script;
+    let mut written = paper(alloc)?;
+    let mut faults = paper(alloc)?;
+    let status = program(alloc, words, &mut reader, &mut written, &mut faults);
+    Ok(Done {
+        status,
+        written,
+        faults,
+    })
+}
+
+// Runs the program, and runs it again where it ended for want of memory and whole lines of the text were written.
+fn run_program(
+    alloc: Global,
+    arguments: &[&str],
+    script: &str,
+    text: &[u8],
+) -> Result<Done, AllocError> {
+    let words = words(alloc, arguments)?;
+    let first = run_once(alloc, &words, script.as_bytes())?;
+    if first.status == 1 && wants_memory(&first, text) {
+        return run_once(alloc, &words, script.as_bytes());
+    }
+    Ok(first)
+}
+
+fn wants_memory(done: &Done, text: &[u8]) -> bool {
+    done.faults.as_slice() == b"kvbucket: OutOfMemory\n".as_slice() && is_front(&done.written, text)
+}
+
+// Whether the program writes this text and answers 0.
+fn runs(alloc: Global, arguments: &[&str], script: &str, text: &str) -> Result<bool, AllocError> {
+    let done = run_program(alloc, arguments, script, text.as_bytes())?;
+    let is_written = done.written.as_slice() == text.as_bytes();
+    Ok(done.status == 0 && is_written && done.faults.is_empty())
+}
+
+fn is_refused(done: &Done, fault: &str) -> bool {
+    done.status == 2 && done.written.is_empty() && done.faults.starts_with(fault.as_bytes())
+}
+
+// Whether the program refuses these arguments by a status of 2, writes nothing, and tells this. The text of a fault may
+// be shorter where memory was refused while it was made, so a run that told another is made again.
+fn refuses(alloc: Global, arguments: &[&str], fault: &str) -> Result<bool, AllocError> {
+    let first = run_program(alloc, arguments, "put a -\n", b"")?;
+    if is_refused(&first, fault) {
+        return Ok(true);
+    }
+    let second = run_program(alloc, arguments, "put a -\n", b"")?;
+    Ok(is_refused(&second, fault))
+}
+
+#[test]
+fn names_that_are_none(rt: HostRuntime) -> Result<(), Fail> {
+    assert!(rt;
+        refuses(
+            rt.alloc(),
+            &["--bucket", "my.bucket"],
+            "kvbucket: BadBucket\n"
+        )?
+    );
+    assert!(rt; refuses(rt.alloc(), &["--bucket", ""], "kvbucket: BadBucket\n")?);
+    assert!(rt;
+        refuses(
+            rt.alloc(),
+            &["--bucket", "", "--history", "0"],
+            "kvbucket: BadBucket\n"
+        )?
+    );
+    Ok(())
+}
+
+#[test]
+fn numbers_outside_their_limits(rt: HostRuntime) -> Result<(), Fail> {
+    assert!(rt; refuses(rt.alloc(), &["--history", "65"], "kvbucket: BadConfig\n")?);
+    assert!(rt; refuses(rt.alloc(), &["--history", "0"], "kvbucket: BadConfig\n")?);
+    assert!(rt; refuses(rt.alloc(), &["--write-limit", "0"], "kvbucket: BadConfig\n")?);
+    assert!(rt;
+        refuses(
+            rt.alloc(),
+            &["--value-limit", "1048577"],
+            "kvbucket: BadConfig\n"
+        )?
+    );
+    assert!(rt;
+        refuses(
+            rt.alloc(),
+            &["--revision-limit", "0"],
+            "kvbucket: BadConfig\n"
+        )?
+    );
+    Ok(())
+}
+
+#[test]
+fn arguments_that_are_none(rt: HostRuntime) -> Result<(), Fail> {
+    assert!(rt;
+        refuses(
+            rt.alloc(),
+            &["--history", "x"],
+            "error: invalid value 'x' for '--history <N>'"
+        )?
+    );
+    assert!(rt;
+        refuses(
+            rt.alloc(),
+            &["--colour"],
+            "error: unexpected argument '--colour' found"
+        )?
+    );
+    Ok(())
+}
+
+fn shows_help(alloc: Global) -> Result<bool, AllocError> {
+    let done = run_program(alloc, &["--help"], "put a -\n", b"")?;
+    let is_shown = done.written.starts_with(b"Runs a script of commands");
+    Ok(done.status == 0 && is_shown && done.faults.is_empty())
+}
+
+#[test]
+fn help(rt: HostRuntime) -> Result<(), Fail> {
+    assert!(rt; shows_help(rt.alloc())? || shows_help(rt.alloc())?);
+    Ok(())
+}
+
+#[test]
+fn history_of_two(rt: HostRuntime) -> Result<(), Fail> {
+    let script = "put k MQ==\n\
+        put k Mg==\n\
+        put k Mw==\n\
+        watch > history\n\
+        take 1 9\n";
+    let text = "{\"revision\":1}\n\
+        {\"revision\":2}\n\
+        {\"revision\":3}\n\
+        {\"watch\":1}\n\
+        {\"key\":\"k\",\"op\":\"PUT\",\"revision\":2,\"size\":1,\"value\":\"Mg==\",\"watch\":1}\n\
+        {\"key\":\"k\",\"op\":\"PUT\",\"revision\":3,\"size\":1,\"value\":\"Mw==\",\"watch\":1}\n\
+        {\"marker\":true,\"watch\":1}\n\
+        {\"empty\":true,\"watch\":1}\n";
+    assert!(rt; runs(rt.alloc(), &["--history", "2"], script, text)?);
+    Ok(())
+}
+
+#[test]
+fn other_arguments(rt: HostRuntime) -> Result<(), Fail> {
+    let script = "put a YWI=\nput a -\nput a -\nput a -\nstatus\n";
+    let text = "{\"code\":7,\"error\":\"ValueTooLarge\"}\n\
+        {\"revision\":1}\n\
+        {\"revision\":2}\n\
+        {\"code\":9,\"error\":\"JournalFull\"}\n\
+        {\"bucket\":\"b-1_B\",\"history\":1,\"last\":2,\"sealed\":false,\"stored\":2,\"values\":1,\"watches\":0}\n";
+    assert!(rt;
+        runs(
+            rt.alloc(),
+            &["--bucket=b-1_B", "--value-limit=1", "--write-limit=2"],
+            script,
+            text
+        )?
+    );
+    assert!(rt;
+        runs(
+            rt.alloc(),
+            &["--bucket=b-1_B", "--value-limit=1", "--revision-limit=2"],
+            script,
+            text
+        )?
+    );
+    Ok(())
+}

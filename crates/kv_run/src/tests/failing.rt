@@ -1,0 +1,209 @@
+//! Runs over readers and writers that give and take a few bytes a call, and fail.
+
+use super::devices::{Given, is, replayed};
+use super::*;
+
+const SCRIPT: &[u8] = b"put b MQ==\nput a Mg==\nput b Mw==\nwatch >\ntake 1 4\n";
+
+const TEXT: &[u8] = b"{\"revision\":1}\n\
+    {\"revision\":2}\n\
+    {\"revision\":3}\n\
+    {\"watch\":1}\n\
+    {\"key\":\"a\",\"op\":\"PUT\",\"revision\":2,\"size\":1,\"value\":\"Mg==\",\"watch\":1}\n\
+    {\"key\":\"b\",\"op\":\"PUT\",\"revision\":3,\"size\":1,\"value\":\"Mw==\",\"watch\":1}\n\
+    {\"marker\":true,\"watch\":1}\n\
+    {\"empty\":true,\"watch\":1}\n";
+
+const PLAIN: Given<'static> = Given {
+    script: SCRIPT,
+    text: TEXT,
+    read_most: usize::MAX,
+    read_fails_at: 0,
+    write_most: usize::MAX,
+    write_calls: usize::MAX,
+    calls: u64::MAX,
+};
+
+const SEAL: Given<'static> = Given {
+    script: b"seal\n",
+    text: b"{\"sealed\":true}\n",
+    read_most: 1,
+    ..PLAIN
+};
+
+const FIRST: Given<'static> = Given {
+    script: b"put a MQ==\nget a\n",
+    text: FIRST_TEXT,
+    ..PLAIN
+};
+
+const FIRST_TEXT: &[u8] = b"{\"revision\":1}\n\
+    {\"key\":\"a\",\"op\":\"PUT\",\"revision\":1,\"size\":1,\"value\":\"MQ==\"}\n";
+
+// How many lines these bytes end.
+fn lines_in(bytes: &[u8]) -> usize {
+    bytes.iter().filter(|byte| **byte == b'\n').count()
+}
+
+// The beginning of the text that has so many lines.
+fn first_lines(lines: usize) -> &'static [u8] {
+    let mut left = lines;
+    for at in 0..TEXT.len() {
+        if left == 0 {
+            return &TEXT[..at];
+        }
+        if TEXT[at] == b'\n' {
+            left -= 1;
+        }
+    }
+    TEXT
+}
+
+// The text of so many lines of the script: the last of them, a take, has more than one answer.
+fn text_of_lines(lines: usize) -> &'static [u8] {
+    if lines < 5 { first_lines(lines) } else { TEXT }
+}
+
+#[test]
+fn one_byte_a_call(rt: HostRuntime) -> Result<(), Fail> {
+    let given = Given {
+        read_most: 1,
+        write_most: 1,
+        ..PLAIN
+    };
+    let ran = replayed(rt.alloc(), given)?;
+    assert!(rt; is(&ran, Ok(()), TEXT));
+    assert_eq!(rt; ran.asked, SCRIPT.len() + 1);
+    Ok(())
+}
+
+#[test]
+fn nothing_is_read_after_the_end(rt: HostRuntime) -> Result<(), Fail> {
+    let ran = replayed(rt.alloc(), PLAIN)?;
+    assert!(rt; is(&ran, Ok(()), TEXT));
+    assert_eq!(rt; ran.asked, 2);
+    Ok(())
+}
+
+// The reader fails at this call, in the midst of a script that it gives byte by byte.
+fn reader_fails_at(alloc: Global, call: usize) -> Result<bool, KvError> {
+    let given = Given {
+        read_most: 1,
+        read_fails_at: call,
+        ..PLAIN
+    };
+    let ran = replayed(alloc, given)?;
+    let read = call.saturating_sub(1).min(SCRIPT.len());
+    let text = text_of_lines(lines_in(&SCRIPT[..read]));
+    Ok(is(&ran, Err(KvError::ReadFault), text) && ran.asked == call)
+}
+
+#[test]
+fn reader_fails_at_each_call(rt: HostRuntime) -> Result<(), Fail> {
+    for call in 1..SCRIPT.len() + 2 {
+        assert!(rt; reader_fails_at(rt.alloc(), call)?);
+    }
+    Ok(())
+}
+
+// The writer takes one byte a call, and fails at this call.
+fn writer_fails_at(alloc: Global, call: usize) -> Result<bool, KvError> {
+    let before = call.saturating_sub(1).min(TEXT.len());
+    let given = Given {
+        write_most: 1,
+        write_calls: before,
+        ..PLAIN
+    };
+    Ok(is(
+        &replayed(alloc, given)?,
+        Err(KvError::WriteFault),
+        &TEXT[..before],
+    ))
+}
+
+#[test]
+fn writer_fails_at_each_call(rt: HostRuntime) -> Result<(), Fail> {
+    for call in 1..TEXT.len() + 1 {
+        assert!(rt; writer_fails_at(rt.alloc(), call)?);
+    }
+    Ok(())
+}
+
+#[test]
+fn bounds_on_read_calls(rt: HostRuntime) -> Result<(), Fail> {
+    assert!(rt;
+        is(
+            &replayed(rt.alloc(), Given { calls: 6, ..SEAL })?,
+            Ok(()),
+            SEAL.text
+        )
+    );
+    for (calls, text) in [(5, SEAL.text), (4, b""), (0, b"")] {
+        let ran = replayed(rt.alloc(), Given { calls, ..SEAL })?;
+        assert!(rt; is(&ran, Err(KvError::ReadFault), text));
+        assert_eq!(rt; ran.asked as u64, calls);
+    }
+    assert!(rt;
+        is(
+            &replayed(
+                rt.alloc(),
+                Given {
+                    calls: 100,
+                    ..FIRST
+                }
+            )?,
+            Ok(()),
+            FIRST.text
+        )
+    );
+    Ok(())
+}
+
+#[test]
+fn reader_fails_in_the_second_line(rt: HostRuntime) -> Result<(), Fail> {
+    let given = Given {
+        script: b"put a MQ==\nput b",
+        read_fails_at: 2,
+        ..FIRST
+    };
+    let ran = replayed(rt.alloc(), given)?;
+    assert!(rt; is(&ran, Err(KvError::ReadFault), b"{\"revision\":1}\n"));
+    Ok(())
+}
+
+#[test]
+fn last_line_without_its_end(rt: HostRuntime) -> Result<(), Fail> {
+    let given = Given {
+        script: b"put a MQ==\nget a",
+        ..FIRST
+    };
+    assert!(rt; is(&replayed(rt.alloc(), given)?, Ok(()), FIRST.text));
+    Ok(())
+}
+
+#[test]
+fn writer_fails_after_four_bytes(rt: HostRuntime) -> Result<(), Fail> {
+    let given = Given {
+        write_most: 4,
+        write_calls: 1,
+        ..FIRST
+    };
+    assert!(rt;
+        is(
+            &replayed(rt.alloc(), given)?,
+            Err(KvError::WriteFault),
+            b"{\"re"
+        )
+    );
+    Ok(())
+}
+
+#[test]
+fn writer_takes_nothing(rt: HostRuntime) -> Result<(), Fail> {
+    let given = Given {
+        write_most: 0,
+        ..FIRST
+    };
+    assert!(rt; is(&replayed(rt.alloc(), given)?, Err(KvError::WriteFault), b""));
+    Ok(())
+}
