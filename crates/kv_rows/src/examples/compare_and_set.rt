@@ -1,0 +1,39 @@
+//! Compare-and-set.
+
+use super::*;
+use kv_bucket::{Bucket, Config, Key, KvError, Request};
+
+// Sets a value where nobody has written the key since this revision of it; 0: where nobody ever has.
+fn set(
+    alloc: Global,
+    bucket: &mut Bucket,
+    key: &Key,
+    value: &str,
+    last: u64,
+) -> Result<u64, KvError> {
+    bucket.write(&Request::Update {
+        key: key.copy(alloc)?,
+        value: Vec::from_slice(alloc, value.as_bytes())?,
+        last,
+    })
+}
+
+fn two_writers(rt: &impl Abort, alloc: Global) -> Result<(), KvError> {
+    let mut bucket = Bucket::open(alloc, &Config::named(alloc, "settings")?)?;
+    let port = Key::parse(alloc, "app.port")?;
+    let read = set(alloc, &mut bucket, &port, "80", 0)?;
+
+    assert_eq!(rt; set(alloc, &mut bucket, &port, "8080", read)?, 2);
+    let late = set(alloc, &mut bucket, &port, "8081", read);
+    assert_eq!(rt; late, Err(KvError::WrongLastRevision { last: 2 }));
+    assert_eq!(rt; bucket.version().get(&port)?.value(), "8080".as_bytes());
+    Ok(())
+}
+
+#[test]
+fn compare_and_set(rt: HostRuntime) -> Result<(), Fail> {
+    match two_writers(&rt, rt.alloc()) {
+        Err(KvError::OutOfMemory) => Ok(two_writers(&rt, rt.alloc())?),
+        done => Ok(done?),
+    }
+}

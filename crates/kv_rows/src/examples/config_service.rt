@@ -1,0 +1,53 @@
+//! A service that hands out configuration.
+
+use super::*;
+use kv_bucket::{Bucket, Config, Filters, Key, KvError, Options, Request, Start, Taken};
+
+const LATEST: Options = Options {
+    start: Start::Latest,
+    ignore_deletes: false,
+    headers_only: false,
+};
+
+fn put(alloc: Global, bucket: &mut Bucket, key: &str, value: &str) -> Result<u64, KvError> {
+    bucket.write(&Request::Put {
+        key: Key::parse(alloc, key)?,
+        value: Vec::from_slice(alloc, value.as_bytes())?,
+    })
+}
+
+// Whether a watch hands out this entry next.
+fn hands_out(bucket: &mut Bucket, watch: u64, key: &str, value: &str) -> Result<bool, KvError> {
+    match bucket.take(watch)? {
+        Taken::Entry(entry) => {
+            Ok(entry.key().as_str() == key && entry.value() == Some(value.as_bytes()))
+        }
+        _ => Ok(false),
+    }
+}
+
+fn config_service(rt: &impl Abort, alloc: Global) -> Result<(), KvError> {
+    let mut bucket = Bucket::open(alloc, &Config::named(alloc, "settings")?)?;
+    assert_eq!(rt; put(alloc, &mut bucket, "app.port", "80")?, 1);
+    assert_eq!(rt; put(alloc, &mut bucket, "app.host", "kv")?, 2);
+    assert_eq!(rt; put(alloc, &mut bucket, "db.port", "5432")?, 3);
+
+    let watch = bucket.watch(&Filters::parse(alloc, "app.>")?, LATEST)?;
+    assert!(rt; hands_out(&mut bucket, watch, "app.port", "80")?);
+    assert!(rt; hands_out(&mut bucket, watch, "app.host", "kv")?);
+    assert!(rt; matches!(bucket.take(watch)?, Taken::Marker));
+
+    put(alloc, &mut bucket, "app.port", "8080")?;
+    assert!(rt; hands_out(&mut bucket, watch, "app.port", "8080")?);
+    assert!(rt; matches!(bucket.take(watch)?, Taken::Empty));
+    assert_eq!(rt; bucket.stop(watch)?.handed, 4);
+    Ok(())
+}
+
+#[test]
+fn a_config_service(rt: HostRuntime) -> Result<(), Fail> {
+    match config_service(&rt, rt.alloc()) {
+        Err(KvError::OutOfMemory) => Ok(config_service(&rt, rt.alloc())?),
+        done => Ok(done?),
+    }
+}

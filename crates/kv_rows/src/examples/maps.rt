@@ -1,0 +1,52 @@
+//! A map with a held snapshot.
+
+use super::*;
+use kv_keys::{Key, KvError};
+use kv_trie::Trie;
+
+type Ports = Trie<Key, u16>;
+
+// The ports with one more; 1000 at the most.
+fn with_port(alloc: Global, ports: &Ports, name: &str, port: u16) -> Result<Ports, KvError> {
+    if ports.len() >= 1000 {
+        return Err(KvError::JournalFull);
+    }
+    ports.insert(alloc, Key::parse(alloc, name)?, port)
+}
+
+fn held_map(rt: &impl Abort, alloc: Global) -> Result<(), KvError> {
+    let web = Key::parse(alloc, "web")?;
+    let first = with_port(alloc, &Trie::new(), "web", 80)?;
+    let held = first.snapshot()?;
+    let second = with_port(alloc, &first, "web", 8080)?;
+
+    assert_eq!(rt; held.get(&web), Some(&80));
+    assert_eq!(rt; second.get(&web), Some(&8080));
+    Ok(())
+}
+
+fn removed(rt: &impl Abort, alloc: Global) -> Result<(), KvError> {
+    let web = Key::parse(alloc, "web")?;
+    let one = with_port(alloc, &Trie::new(), "web", 80)?;
+    let none = one.remove(alloc, &web)?;
+
+    assert_eq!(rt; none.get(&web), None);
+    assert_eq!(rt; (one.len(), none.len()), (1, 0));
+    Ok(())
+}
+
+#[test]
+fn held_snapshot(rt: HostRuntime) -> Result<(), Fail> {
+    match held_map(&rt, rt.alloc()) {
+        Err(KvError::OutOfMemory) => Ok(held_map(&rt, rt.alloc())?),
+        done => Ok(done?),
+    }
+}
+
+#[test]
+fn removed_key(rt: HostRuntime) -> Result<(), Fail> {
+    match removed(&rt, rt.alloc()) {
+        Err(KvError::OutOfMemory) => Ok(removed(&rt, rt.alloc())?),
+        done => Ok(done?),
+    }
+}
