@@ -24,8 +24,10 @@ fn two_writers(rt: &impl Abort, alloc: Global) -> Result<(), KvError> {
     let read = set(alloc, &mut bucket, &port, "80", 0)?;
 
     assert_eq!(rt; set(alloc, &mut bucket, &port, "8080", read)?, 2);
-    let late = set(alloc, &mut bucket, &port, "8081", read);
-    assert_eq!(rt; late, Err(KvError::WrongLastRevision { last: 2 }));
+    match set(alloc, &mut bucket, &port, "8081", read) {
+        Err(KvError::OutOfMemory) => return Err(KvError::OutOfMemory),
+        late => assert_eq!(rt; late, Err(KvError::WrongLastRevision { last: 2 })),
+    }
     assert_eq!(rt; bucket.version().get(&port)?.value(), "8080".as_bytes());
     Ok(())
 }
