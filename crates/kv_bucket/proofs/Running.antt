@@ -1,5 +1,5 @@
 -- One call more of a run, and what a run tells each watch.
-use Rattle.std.proofs.Common.{◌≡◌, List, [], ◌∷◌, ◌++◌, length, map, drop, sym, ap, ◌∙◌, subst, append_assoc}
+use Rattle.std.proofs.Common.{◌≡◌, ◌<◌, ℕ, List, [], ◌∷◌, ◌++◌, Result, Ok, Err, OnErr, length, map, drop, take, sym, ap, ◌∙◌, subst, append_assoc}
 use Rattle.std.proofs.Math.Seq.{drop-append_seam}
 use Rattle.std.proofs.lemmas.List.{map-append}
 use Rattle.kv_bucket.specs.declared.call.Call.{Call}
@@ -35,3 +35,9 @@ run_tells old new calls before replies ran state r =
     let added : drop (length before) replies ≡ ran.0 = ap (drop (length before)) ran.1 ∙ drop-append_seam before ran.0 in
     let answers : map answer_of (drop (length before) replies) ≡ answers_to state calls = ap (map answer_of) added ∙ (ran.2 state r).0 in
     subst (TellsEachWatch state calls) (sym answers) (tells_each_watch state calls)
+
+-- the same of a run that ended early, of the calls that it answered
+pub tells_early : {T E : Type 0} (result : Result T E) (old new : Bucketed) (calls : List Call) (before replies : List Reply) (k : ℕ) → k < length calls → IsRun old (take k calls) before replies new →
+    OnErr result ((n : ℕ) × (n < length calls) × ((state : State) → Represents state old → TellsEachWatch state (take n calls) (map answer_of (drop (length before) replies))))
+tells_early (Ok value) old new calls before replies k within ran = tt
+tells_early (Err error) old new calls before replies k within ran = (k, within, run_tells old new (take k calls) before replies ran)

@@ -24,6 +24,3 @@ pub use kv_watch::{Options, Shown, Start, Taken};
 pub use live::{Live, Opened};
 pub use reply::Reply;
 pub use seen::Seen;
-
-#[cfg(test)]
-mod tests;

@@ -28,6 +28,9 @@ impl Bucket {
         // Each watch that the calls opened was handed, in order, the first items of what it is given.
         ensures told { OnOk result ((state : State) → Represents state self.old →
             TellsEachWatch state calls.now (map answer_of (drop (length replies.old.items) replies.new.items))) }
+        // The same where memory ran out, of the calls that were answered.
+        ensures told_early { OnErr result ((k : ℕ) × (k < length calls.now) × ((state : State) → Represents state self.old →
+            TellsEachWatch state (take k calls.now) (map answer_of (drop (length replies.old.items) replies.new.items)))) }
     {
         for call in calls {
             replies.reserve(1)?;

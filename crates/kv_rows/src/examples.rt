@@ -9,3 +9,4 @@ mod compare_and_set;
 mod config_service;
 mod maps;
 mod names;
+mod scripts;

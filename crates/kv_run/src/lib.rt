@@ -22,6 +22,3 @@ pub use running::program;
 pub use sink::{Sink, Whole};
 pub use source::{Bounded, Source};
 pub use streams::{replay, replay_bounded};
-
-#[cfg(test)]
-mod tests;

@@ -27,8 +27,3 @@ pub use grammar::{is_skipped, parse};
 pub use refusals::{append_refusal, append_worker_refusal};
 pub use status::{append_place, append_status};
 pub use taken::append_taken_entry;
-
-#[cfg(test)]
-mod answer_tests;
-#[cfg(test)]
-mod tests;

@@ -26,6 +26,3 @@ pub use status::Status;
 pub use version::Version;
 pub use wanted::Wanted;
 pub use write::{Op, Write};
-
-#[cfg(test)]
-mod tests;

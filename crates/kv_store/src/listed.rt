@@ -54,6 +54,3 @@ impl Version {
         self.keys_at(alloc, &revisions)
     }
 }
-
-#[cfg(test)]
-mod tests;

@@ -17,6 +17,3 @@ pub use event::Event;
 pub use options::{Options, Start};
 pub use shown::Shown;
 pub use taken::Taken;
-
-#[cfg(test)]
-mod tests;

@@ -2,8 +2,9 @@ use Rattle.std.proofs.Common.{◌≡◌, ◌+◌, ◌≤◌, [], ◌∷◌, ◌+
 use Rattle.std.specs.Prelude.{List}
 use Rattle.std.proofs.lemmas.List.{take_more, take_all}
 use Rattle.kv_bucket.specs.declared.call.Call.{Call}
+use Rattle.kv_bucket.specs.declared.reply.Reply.{Reply}
 use Rattle.kv_bucket.specs.Stepping.{IsRun}
-use Rattle.kv_bucket.proofs.Running.{run_push, run_tells}
+use Rattle.kv_bucket.proofs.Running.{run_push, run_tells, tells_early}
 use Rattle.kv_bucket.proofs.bucket.Bucket.run.Goals as goal
 
 pub loop-call-preserved : goal.loop-call-preserved
@@ -22,3 +23,15 @@ returns-clause-told c =
     let all : take c.loop-call.call-index c.args.calls.now ≡ c.args.calls.now = take_all c.loop-call.call-index c.args.calls.now end in
     run_tells c.args.self.now c.loop-call.self c.args.calls.now c.args.replies.now.items c.loop-call.replies.items
     (subst (λ (cs : List Call). IsRun c.args.self.now cs c.args.replies.now.items c.loop-call.replies.items c.loop-call.self) all c.loop-call.invariant)
+
+pub returns-in_err-reserve-clause-told_early : goal.returns-in_err-reserve-clause-told_early
+returns-in_err-reserve-clause-told_early c =
+    let calls = take c.loop-call.call-index c.args.calls.now in
+    tells_early c.from_residual.result c.args.self.now c.loop-call.self c.args.calls.now c.args.replies.now.items c.reserve.new.self.items c.loop-call.call-index c.loop-call-test.true
+    (subst (λ (replies : List Reply). IsRun c.args.self.now calls c.args.replies.now.items replies c.loop-call.self) (sym c.reserve.ensures.items) c.loop-call.invariant)
+
+pub returns-in_err-answer-clause-told_early : goal.returns-in_err-answer-clause-told_early
+returns-in_err-answer-clause-told_early c =
+    let calls = take c.loop-call.call-index c.args.calls.now in
+    tells_early c.from_residual-in_err-answer.result c.args.self.now c.loop-call.self c.args.calls.now c.args.replies.now.items c.reserve.new.self.items c.loop-call.call-index c.loop-call-test.true
+    (subst (λ (replies : List Reply). IsRun c.args.self.now calls c.args.replies.now.items replies c.loop-call.self) (sym c.in_ok-reserve.ensures.items) c.loop-call.invariant)

@@ -1,7 +1,7 @@
 //! Tests of buckets by worked rows. Each also passes where any one request for memory is refused: then the bucket is as it
 //! was, and the same call, made again, goes on.
 
-use crate::{
+use kv_bucket::{
     Bucket, Call, Config, Filter, Filters, Key, KvError, Options, Reply, Request, Start, Status,
     Taken,
 };

@@ -1,7 +1,7 @@
 //! How a watch shows a write, and which revision a watch says that it looks at next.
 
 use super::*;
-use crate::Shown;
+use kv_watch::Shown;
 
 const HEADERS: Options = Options {
     start: Start::Latest,

@@ -1,8 +1,8 @@
 //! Tests of scripts. Each also passes where any one request for memory is refused: then whole lines of the text were
 //! written, and the same run, made again, goes on.
 
-use crate::{program, replay, replay_bounded};
 use kv_keys::KvError;
+use kv_run::{program, replay, replay_bounded};
 use kv_store::Config;
 use std::alloc::{AllocError, Global};
 use std::process::Abort;

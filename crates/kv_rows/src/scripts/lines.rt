@@ -1,8 +1,8 @@
 //! Lines by themselves.
 
 use super::*;
-use crate::answer_line;
 use kv_bucket::Bucket;
+use kv_run::answer_line;
 
 fn answer_all(
     alloc: Global,

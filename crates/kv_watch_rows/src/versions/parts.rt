@@ -1,8 +1,8 @@
 //! Each public call once, with its answer.
 
 use super::*;
-use crate::{Rev, Wanted, Write};
 use kv_keys::{Filter, Filters, Place};
+use kv_store::{Rev, Wanted, Write};
 
 // A bucket that keeps two entries of each key, with a put, an update and a delete of `a`, and a put of `b`.
 fn small(rt: &impl Abort, alloc: Global) -> Result<Version, KvError> {

@@ -1,8 +1,8 @@
 //! What drives a row: the plain list of what a watch is given, and cursors that go through it in several ways.
 
 use super::*;
-use crate::given;
 use kv_store::Write;
+use kv_watch::given;
 
 // A row: a bucket with writes before the watch and others after it, and what the watch is given by each.
 #[derive(Clone, Copy)]

@@ -1,17 +1,18 @@
 //! Tests of versions by worked rows. Each also passes where any one request for memory is refused: then what was named
 //! is as it was, and the same call, made again, goes on.
 
-use crate::{Config, Op, Request, Status, Version};
 use kv_keys::{Key, KvError};
+use kv_store::{Config, Op, Request, Status, Version};
 use std::alloc::Global;
 use std::process::Abort;
 use std::test::Fail;
 
 mod configuration;
 mod limits;
+mod listed;
 mod parts;
 mod rows;
-mod versions;
+mod side_by_side;
 
 // What is asked of a key; a put, a create and an update come with their value.
 #[derive(Clone, Copy)]

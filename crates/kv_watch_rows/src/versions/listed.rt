@@ -1,10 +1,9 @@
 //! Keys and histories that are read back. Each test also passes where any one request for memory is refused: the same
 //! call, made again, answers.
 
-use super::*;
-use crate::config::Config;
-use crate::request::Request;
-use kv_keys::Filters;
+use kv_keys::{Filter, Filters, Key, KvError};
+use kv_store::{Config, Op, Request, Selection, Version};
+use std::alloc::Global;
 use std::test::Fail;
 
 fn empty_once(alloc: Global, history: u64) -> Result<Version, KvError> {

@@ -1,8 +1,8 @@
-// Tests of lines by texts from outside: the rules of the script's grammar, and worked rows of scripts with their answers.
-//
-// A request for memory that is refused is made again: a second refusal in a row does not come.
-use super::*;
+//! Tests of lines by texts from outside: the rules of the script's grammar, and worked rows of scripts with their answers.
+//!
+//! A request for memory that is refused is made again: a second refusal in a row does not come.
 use kv_keys::KvError;
+use kv_script::{Command, is_skipped, parse};
 use kv_store::Request;
 use kv_watch::Start;
 use std::alloc::{AllocError, Global};

@@ -1,9 +1,13 @@
-// Tests of answer lines by the texts of the script's rules and of worked rows.
-//
-// A request for memory that is refused is made again: a second refusal in a row does not come.
-use super::*;
+//! Tests of answer lines by the texts of the script's rules and of worked rows.
+//!
+//! A request for memory that is refused is made again: a second refusal in a row does not come.
 use kv_keys::{Key, KvError};
-use kv_store::{Config, Op, Request, Status, Version};
+use kv_script::{
+    append_empty, append_entry, append_history, append_keys, append_marker, append_place,
+    append_refusal, append_revision, append_sealed, append_status, append_stopped,
+    append_taken_entry, append_told, append_watch, append_worker_refusal,
+};
+use kv_store::{Config, Op, Request, Status, Version, Write};
 use std::alloc::{AllocError, Global};
 use std::process::Abort;
 use std::test::Fail;
@@ -83,20 +87,38 @@ fn refusals(rt: HostRuntime) -> Result<(), Fail> {
     Ok(())
 }
 
+// A taken entry of a watch. The call is made again where memory was refused.
+fn taken(
+    alloc: Global,
+    out: &mut Vec<u8>,
+    watch: u64,
+    key: &Key,
+    (op, revision, size): (Op, u64, u64),
+    value: Option<&[u8]>,
+) -> Result<(), AllocError> {
+    twice!(append_taken_entry(alloc, out, watch, key, op, revision, size, value));
+    Ok(())
+}
+
+fn keys(alloc: Global, out: &mut Vec<u8>, keys: &[&Key]) -> Result<(), AllocError> {
+    twice!(append_keys(alloc, out, keys));
+    Ok(())
+}
+
 #[test]
 fn taken_entries_and_keys(rt: HostRuntime) -> Result<(), Fail> {
     let alloc = rt.alloc();
     let mut out = Vec::new(alloc);
     let zinke = key(alloc, "zinke")?;
     let other = key(alloc, "a.b")?;
-    twice!(append_taken_entry(alloc, &mut out, 1, &zinke, Op::Put, 2, 1, Some(b"2")));
-    twice!(append_taken_entry(alloc, &mut out, 1, &zinke, Op::Put, 3, 0, Some(b"")));
-    twice!(append_taken_entry(alloc, &mut out, 2, &zinke, Op::Put, 4, 3, None));
-    twice!(append_taken_entry(alloc, &mut out, 2, &other, Op::Delete, 5, 0, None));
-    twice!(append_taken_entry(alloc, &mut out, 2, &other, Op::Purge, 6, 0, None));
-    twice!(append_keys(alloc, &mut out, &[]));
-    twice!(append_keys(alloc, &mut out, &[&zinke]));
-    twice!(append_keys(alloc, &mut out, &[&other, &zinke]));
+    taken(alloc, &mut out, 1, &zinke, (Op::Put, 2, 1), Some(b"2"))?;
+    taken(alloc, &mut out, 1, &zinke, (Op::Put, 3, 0), Some(b""))?;
+    taken(alloc, &mut out, 2, &zinke, (Op::Put, 4, 3), None)?;
+    taken(alloc, &mut out, 2, &other, (Op::Delete, 5, 0), None)?;
+    taken(alloc, &mut out, 2, &other, (Op::Purge, 6, 0), None)?;
+    keys(alloc, &mut out, &[])?;
+    keys(alloc, &mut out, &[&zinke])?;
+    keys(alloc, &mut out, &[&other, &zinke])?;
     twice!(append_history(alloc, &mut out, &[]));
     let text =
         "{\"key\":\"zinke\",\"op\":\"PUT\",\"revision\":2,\"size\":1,\"value\":\"Mg==\",\"watch\":1}\n\
@@ -144,25 +166,54 @@ fn name(alloc: Global) -> Result<String, AllocError> {
     }
 }
 
-#[test]
-fn entries_of_reads(rt: HostRuntime) -> Result<(), Fail> {
-    let alloc = rt.alloc();
-    let mut out = Vec::new(alloc);
-    let config = Config {
+fn config(alloc: Global) -> Result<Config, AllocError> {
+    Ok(Config {
         bucket: name(alloc)?,
         history: 2,
         value_limit: 3,
         write_limit: 9,
         revision_limit: 9,
-    };
+    })
+}
+
+fn once_put(alloc: Global) -> Result<Version, KvError> {
+    let config = config(alloc)?;
+    applied(alloc, &empty(alloc, &config)?, &put(alloc, b"2")?)
+}
+
+fn entry(alloc: Global, out: &mut Vec<u8>, write: &Write) -> Result<(), AllocError> {
+    twice!(append_entry(alloc, out, write));
+    Ok(())
+}
+
+fn history(alloc: Global, out: &mut Vec<u8>, writes: &[&Write]) -> Result<(), AllocError> {
+    twice!(append_history(alloc, out, writes));
+    Ok(())
+}
+
+// The entry of one version, that of the next, and both.
+fn entries(
+    alloc: Global,
+    out: &mut Vec<u8>,
+    first: &Version,
+    second: &Version,
+) -> Result<(), KvError> {
     let zinke = key(alloc, "zinke")?;
-    let first = applied(alloc, &empty(alloc, &config)?, &put(alloc, b"2")?)?;
-    let second = applied(alloc, &first, &put(alloc, b"")?)?;
     let one = first.get(&zinke)?;
     let two = second.get(&zinke)?;
-    twice!(append_entry(alloc, &mut out, one));
-    twice!(append_entry(alloc, &mut out, two));
-    twice!(append_history(alloc, &mut out, &[one, two]));
+    entry(alloc, out, one)?;
+    entry(alloc, out, two)?;
+    history(alloc, out, &[one, two])?;
+    Ok(())
+}
+
+#[test]
+fn entries_of_reads(rt: HostRuntime) -> Result<(), Fail> {
+    let alloc = rt.alloc();
+    let mut out = Vec::new(alloc);
+    let first = once_put(alloc)?;
+    let second = applied(alloc, &first, &put(alloc, b"")?)?;
+    entries(alloc, &mut out, &first, &second)?;
     let text = "{\"key\":\"zinke\",\"op\":\"PUT\",\"revision\":1,\"size\":1,\"value\":\"Mg==\"}\n\
         {\"key\":\"zinke\",\"op\":\"PUT\",\"revision\":2,\"size\":0,\"value\":\"\"}\n\
         {\"entries\":[{\"key\":\"zinke\",\"op\":\"PUT\",\"revision\":1,\"size\":1,\"value\":\"Mg==\"},{\"key\":\"zinke\",\"op\":\"PUT\",\"revision\":2,\"size\":0,\"value\":\"\"}]}\n";

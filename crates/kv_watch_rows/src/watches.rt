@@ -1,9 +1,9 @@
 //! Tests of watches by worked rows: writes, a watch, and what it is given. Each also passes where any one request for memory
 //! is refused: then nothing has changed, and the same call, made again, goes on.
 
-use crate::{Cursor, Event, Options, Start, Taken};
 use kv_keys::{Filter, Filters, Key, KvError};
 use kv_store::{Config, Op, Request, Version};
+use kv_watch::{Cursor, Event, Options, Start, Taken};
 use std::alloc::Global;
 use std::process::Abort;
 use std::test::Fail;
