@@ -129,33 +129,36 @@ fn writer_fails_at_each_call(rt: HostRuntime) -> Result<(), Fail> {
     Ok(())
 }
 
+// Within this many calls the script ends well, and has its text.
+fn calls_suffice(rt: &impl Abort, alloc: Global, given: Given<'_>) -> Result<(), KvError> {
+    assert!(rt; is(&replayed(alloc, given)?, Ok(()), given.text));
+    Ok(())
+}
+
+// This many calls, all of them made, are too few for the end of the script, and enough for this text.
+fn calls_end_at(
+    rt: &impl Abort,
+    alloc: Global,
+    given: Given<'_>,
+    text: &[u8],
+) -> Result<(), KvError> {
+    let ran = replayed(alloc, given)?;
+    assert!(rt; is(&ran, Err(KvError::ReadFault), text));
+    assert_eq!(rt; ran.asked as u64, given.calls);
+    Ok(())
+}
+
 #[test]
 fn bounds_on_read_calls(rt: HostRuntime) -> Result<(), Fail> {
-    assert!(rt;
-        is(
-            &replayed(rt.alloc(), Given { calls: 6, ..SEAL })?,
-            Ok(()),
-            SEAL.text
-        )
-    );
+    calls_suffice(&rt, rt.alloc(), Given { calls: 6, ..SEAL })?;
     for (calls, text) in [(5, SEAL.text), (4, b""), (0, b"")] {
-        let ran = replayed(rt.alloc(), Given { calls, ..SEAL })?;
-        assert!(rt; is(&ran, Err(KvError::ReadFault), text));
-        assert_eq!(rt; ran.asked as u64, calls);
+        calls_end_at(&rt, rt.alloc(), Given { calls, ..SEAL }, text)?;
     }
-    assert!(rt;
-        is(
-            &replayed(
-                rt.alloc(),
-                Given {
-                    calls: 100,
-                    ..FIRST
-                }
-            )?,
-            Ok(()),
-            FIRST.text
-        )
-    );
+    let given = Given {
+        calls: 100,
+        ..FIRST
+    };
+    calls_suffice(&rt, rt.alloc(), given)?;
     Ok(())
 }
 

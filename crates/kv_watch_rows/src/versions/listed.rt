@@ -1,49 +1,39 @@
 //! Keys and histories that are read back. Each test also passes where any one request for memory is refused: the same
 //! call, made again, answers.
 
+use super::{Ask, key, named, request};
 use kv_keys::{Filter, Filters, Key, KvError};
-use kv_store::{Config, Op, Request, Selection, Version};
-use std::alloc::Global;
+use kv_store::{Op, Request, Selection, Version, Write};
+use std::alloc::{AllocError, Global};
+use std::process::Abort;
 use std::test::Fail;
-
-fn empty_once(alloc: Global, history: u64) -> Result<Version, KvError> {
-    let config = Config {
-        bucket: String::from_str(alloc, "kv")?,
-        history,
-        value_limit: 10,
-        write_limit: 100,
-        revision_limit: 100,
-    };
-    Version::empty(alloc, &config)
-}
 
 // A new bucket that keeps so many entries of each key.
 fn empty(alloc: Global, history: u64) -> Result<Version, KvError> {
-    match empty_once(alloc, history) {
-        Err(KvError::OutOfMemory) => empty_once(alloc, history),
-        other => other,
+    let mut config = named(alloc, "kv")?;
+    config.history = history;
+    super::empty(alloc, &config)
+}
+
+fn asked(op: Op) -> Ask {
+    match op {
+        Op::Put => Ask::Put(""),
+        Op::Delete => Ask::Delete(None),
+        Op::Purge => Ask::Purge(None),
     }
 }
 
-fn written_once(alloc: Global, version: &Version, op: Op, text: &str) -> Result<Version, KvError> {
-    let key = Key::parse(alloc, text)?;
-    let request = match op {
-        Op::Put => Request::Put {
-            key,
-            value: Vec::new(alloc),
-        },
-        Op::Delete => Request::Delete { key, last: None },
-        Op::Purge => Request::Purge { key, last: None },
-    };
-    version.apply(alloc, &request)
+fn applied(alloc: Global, version: &Version, request: &Request) -> Result<Version, KvError> {
+    match version.apply(alloc, request) {
+        Err(KvError::OutOfMemory) => version.apply(alloc, request),
+        other => other,
+    }
 }
 
 // The version with one more write.
 fn written(alloc: Global, version: &Version, op: Op, text: &str) -> Result<Version, KvError> {
-    match written_once(alloc, version, op, text) {
-        Err(KvError::OutOfMemory) => written_once(alloc, version, op, text),
-        other => other,
-    }
+    let request = request(alloc, text, asked(op))?;
+    applied(alloc, version, &request)
 }
 
 fn all_written(alloc: Global, history: u64, writes: &[(Op, &str)]) -> Result<Version, KvError> {
@@ -54,18 +44,23 @@ fn all_written(alloc: Global, history: u64, writes: &[(Op, &str)]) -> Result<Ver
     Ok(version)
 }
 
-fn listed_once(alloc: Global, version: &Version, filter: &str) -> Result<String, KvError> {
-    let filter = Filter::parse(alloc, filter)?;
-    let keys = version.keys(alloc, &filter)?;
+// The keys, each with a space behind it.
+fn text_of(alloc: Global, keys: &[&Key]) -> Result<String, AllocError> {
     let mut text = String::new(alloc);
-    for key in &keys {
+    for key in keys {
         text.push_str(key.as_str())?;
         text.push(' ')?;
     }
     Ok(text)
 }
 
-// The keys that match, each with a space behind it.
+fn listed_once(alloc: Global, version: &Version, filter: &str) -> Result<String, KvError> {
+    let filter = Filter::parse(alloc, filter)?;
+    let keys = version.keys(alloc, &filter)?;
+    Ok(text_of(alloc, &keys)?)
+}
+
+// The keys that match.
 fn listed(alloc: Global, version: &Version, filter: &str) -> Result<String, KvError> {
     match listed_once(alloc, version, filter) {
         Err(KvError::OutOfMemory) => listed_once(alloc, version, filter),
@@ -73,21 +68,49 @@ fn listed(alloc: Global, version: &Version, filter: &str) -> Result<String, KvEr
     }
 }
 
-fn entries_once(alloc: Global, version: &Version, text: &str) -> Result<Vec<(Op, u64)>, KvError> {
-    let key = Key::parse(alloc, text)?;
-    let mut entries = Vec::new(alloc);
-    for write in &version.history(alloc, &key)? {
-        entries.push((write.op(), write.revision()))?;
-    }
-    Ok(entries)
+fn lists(
+    rt: &impl Abort,
+    alloc: Global,
+    version: &Version,
+    filter: &str,
+    keys: &str,
+) -> Result<(), KvError> {
+    assert_eq!(rt; listed(alloc, version, filter)?.as_str(), keys);
+    Ok(())
 }
 
-// What the retained entries of a key did, and their revisions.
+// What the writes did, and their revisions.
+fn numbers_of(alloc: Global, writes: &[&Write]) -> Result<Vec<(Op, u64)>, AllocError> {
+    let mut numbers = Vec::new(alloc);
+    for write in writes {
+        numbers.push((write.op(), write.revision()))?;
+    }
+    Ok(numbers)
+}
+
+fn entries_once(alloc: Global, version: &Version, key: &Key) -> Result<Vec<(Op, u64)>, KvError> {
+    let writes = version.history(alloc, key)?;
+    Ok(numbers_of(alloc, &writes)?)
+}
+
+// The retained entries of a key.
 fn entries(alloc: Global, version: &Version, text: &str) -> Result<Vec<(Op, u64)>, KvError> {
-    match entries_once(alloc, version, text) {
-        Err(KvError::OutOfMemory) => entries_once(alloc, version, text),
+    let key = key(alloc, text)?;
+    match entries_once(alloc, version, &key) {
+        Err(KvError::OutOfMemory) => entries_once(alloc, version, &key),
         other => other,
     }
+}
+
+fn retains(
+    rt: &impl Abort,
+    alloc: Global,
+    version: &Version,
+    text: &str,
+    numbers: &[(Op, u64)],
+) -> Result<(), KvError> {
+    assert_eq!(rt; entries(alloc, version, text)?.as_slice(), numbers);
+    Ok(())
 }
 
 fn revisions_once(
@@ -113,6 +136,21 @@ fn revisions(
     }
 }
 
+fn selects(
+    rt: &impl Abort,
+    alloc: Global,
+    version: &Version,
+    filters: &str,
+    selection: Selection,
+    wanted: &[u64],
+) -> Result<(), KvError> {
+    assert_eq!(rt;
+        revisions(alloc, version, filters, selection)?.as_slice(),
+        wanted
+    );
+    Ok(())
+}
+
 #[test]
 fn wildcards(rt: HostRuntime) -> Result<(), Fail> {
     let writes = [(Op::Put, "a"), (Op::Put, "a.b"), (Op::Put, "a.b.c")];
@@ -126,7 +164,7 @@ fn wildcards(rt: HostRuntime) -> Result<(), Fail> {
         ("b", ""),
     ];
     for (filter, keys) in rows {
-        assert_eq!(rt; listed(rt.alloc(), &version, filter)?.as_str(), keys);
+        lists(&rt, rt.alloc(), &version, filter, keys)?;
     }
     Ok(())
 }
@@ -141,8 +179,15 @@ fn keys_come_by_their_latest_revisions(rt: HostRuntime) -> Result<(), Fail> {
         (Op::Delete, "a"),
     ];
     let version = all_written(rt.alloc(), 5, &writes)?;
-    assert_eq!(rt; listed(rt.alloc(), &version, ">")?.as_str(), "b c ");
+    lists(&rt, rt.alloc(), &version, ">", "b c ")?;
     Ok(())
+}
+
+fn knows_not(rt: &impl Abort, alloc: Global, version: &Version, text: &str) {
+    assert_eq!(rt;
+        entries(alloc, version, text).err(),
+        Some(KvError::KeyNotFound)
+    );
 }
 
 #[test]
@@ -154,12 +199,9 @@ fn purge_keeps_its_marker(rt: HostRuntime) -> Result<(), Fail> {
         (Op::Put, "k"),
     ];
     let version = all_written(rt.alloc(), 64, &writes)?;
-    let found = entries(rt.alloc(), &version, "k")?;
-    assert_eq!(rt; found.as_slice(), [(Op::Purge, 3), (Op::Put, 4)].as_slice());
-    assert_eq!(rt;
-        entries(rt.alloc(), &version, "other").err(),
-        Some(KvError::KeyNotFound)
-    );
+    let numbers = [(Op::Purge, 3), (Op::Put, 4)];
+    retains(&rt, rt.alloc(), &version, "k", &numbers)?;
+    knows_not(&rt, rt.alloc(), &version, "other");
     Ok(())
 }
 
@@ -172,11 +214,10 @@ fn hostile_places(rt: HostRuntime) -> Result<(), Fail> {
         (Op::Put, "zinke"),
     ];
     let version = all_written(rt.alloc(), 2, &writes)?;
-    let purged = entries(rt.alloc(), &version, "altarage")?;
-    assert_eq!(rt; purged.as_slice(), [(Op::Purge, 3)].as_slice());
-    let found = entries(rt.alloc(), &version, "zinke")?;
-    assert_eq!(rt; found.as_slice(), [(Op::Put, 2), (Op::Put, 4)].as_slice());
-    assert_eq!(rt; listed(rt.alloc(), &version, ">")?.as_str(), "zinke ");
+    retains(&rt, rt.alloc(), &version, "altarage", &[(Op::Purge, 3)])?;
+    let numbers = [(Op::Put, 2), (Op::Put, 4)];
+    retains(&rt, rt.alloc(), &version, "zinke", &numbers)?;
+    lists(&rt, rt.alloc(), &version, ">", "zinke ")?;
     Ok(())
 }
 
@@ -188,9 +229,8 @@ fn places_that_collide(rt: HostRuntime) -> Result<(), Fail> {
         (Op::Delete, "altarage"),
     ];
     let version = all_written(rt.alloc(), 1, &writes)?;
-    assert_eq!(rt; listed(rt.alloc(), &version, ">")?.as_str(), "zinke ");
-    let found = entries(rt.alloc(), &version, "altarage")?;
-    assert_eq!(rt; found.as_slice(), [(Op::Delete, 3)].as_slice());
+    lists(&rt, rt.alloc(), &version, ">", "zinke ")?;
+    retains(&rt, rt.alloc(), &version, "altarage", &[(Op::Delete, 3)])?;
     Ok(())
 }
 
@@ -204,11 +244,23 @@ fn selections(rt: HostRuntime) -> Result<(), Fail> {
         (Op::Put, "a.b"),
     ];
     let version = all_written(rt.alloc(), 2, &writes)?;
-    let latest = revisions(rt.alloc(), &version, "a.*,*.b", Selection::Latest)?;
-    assert_eq!(rt; latest.as_slice(), [4, 5].as_slice());
-    let retained = revisions(rt.alloc(), &version, "a.*,*.b", Selection::Retained)?;
-    assert_eq!(rt; retained.as_slice(), [3, 4, 5].as_slice());
-    let later = revisions(rt.alloc(), &version, ">", Selection::From(4))?;
-    assert_eq!(rt; later.as_slice(), [4, 5].as_slice());
+    let filters = "a.*,*.b";
+    selects(
+        &rt,
+        rt.alloc(),
+        &version,
+        filters,
+        Selection::Latest,
+        &[4, 5],
+    )?;
+    selects(
+        &rt,
+        rt.alloc(),
+        &version,
+        filters,
+        Selection::Retained,
+        &[3, 4, 5],
+    )?;
+    selects(&rt, rt.alloc(), &version, ">", Selection::From(4), &[4, 5])?;
     Ok(())
 }

@@ -28,25 +28,31 @@ fn configuration_with_the_defaults(rt: HostRuntime) -> Result<(), Fail> {
     Ok(())
 }
 
+fn asks_for(rt: &impl Abort, request: &Request, text: &str, op: Op, value: &[u8]) {
+    assert_eq!(rt; request.key().as_str(), text);
+    assert_eq!(rt; request.op(), op);
+    assert_eq!(rt; request.value(), value);
+}
+
 #[test]
 fn what_a_request_asks_for(rt: HostRuntime) -> Result<(), Fail> {
     let create = request(rt.alloc(), "a", Ask::Create("one"))?;
+    asks_for(&rt, &create, "a", Op::Put, b"one");
     let purge = request(rt.alloc(), "b", Ask::Purge(None))?;
-    assert_eq!(rt; create.key().as_str(), "a");
-    assert_eq!(rt; create.value(), b"one".as_slice());
-    assert_eq!(rt; create.op(), Op::Put);
-    assert_eq!(rt; purge.key().as_str(), "b");
-    assert_eq!(rt; purge.value(), b"".as_slice());
-    assert_eq!(rt; purge.op(), Op::Purge);
+    asks_for(&rt, &purge, "b", Op::Purge, b"");
     Ok(())
+}
+
+fn does(rt: &impl Abort, op: Op, is_put: bool, is_purge: bool) {
+    assert_eq!(rt; op.is_put(), is_put);
+    assert_eq!(rt; op.is_purge(), is_purge);
 }
 
 #[test]
 fn what_an_op_does(rt: HostRuntime) {
-    assert!(rt; Op::Put.is_put());
-    assert!(rt; !Op::Delete.is_put() && !Op::Purge.is_put());
-    assert!(rt; Op::Purge.is_purge());
-    assert!(rt; !Op::Put.is_purge() && !Op::Delete.is_purge());
+    does(&rt, Op::Put, true, false);
+    does(&rt, Op::Delete, false, false);
+    does(&rt, Op::Purge, false, true);
 }
 
 #[test]
@@ -87,12 +93,20 @@ fn numbers_of_a_version(rt: HostRuntime) -> Result<(), Fail> {
     Ok(())
 }
 
+fn write_of(version: &Version, revision: u64) -> Option<&Write> {
+    version.write_at(revision)
+}
+
 // Whether the write of the revision is stored, with this value.
 fn is_stored(version: &Version, revision: u64, value: &[u8]) -> bool {
-    match version.write_at(revision) {
+    match write_of(version, revision) {
         Some(write) => write.value() == value,
         None => false,
     }
+}
+
+fn has_none(rt: &impl Abort, version: &Version, revision: u64) {
+    assert!(rt; write_of(version, revision).is_none());
 }
 
 #[test]
@@ -100,9 +114,9 @@ fn writes_by_revision(rt: HostRuntime) -> Result<(), Fail> {
     let version = small(&rt, rt.alloc())?;
     assert!(rt; is_stored(&version, 1, b"one"));
     assert!(rt; is_stored(&version, 4, b""));
-    assert!(rt; version.write_at(0).is_none());
-    assert!(rt; version.write_at(5).is_none());
-    assert!(rt; version.write_at(u64::MAX).is_none());
+    for revision in [0, 5, u64::MAX] {
+        has_none(&rt, &version, revision);
+    }
     Ok(())
 }
 

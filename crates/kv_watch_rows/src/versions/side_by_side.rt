@@ -44,26 +44,45 @@ fn status(last: u64, values: u64, sealed: bool) -> Status {
     }
 }
 
+fn has_at(rt: &impl Abort, alloc: Global, version: &Version, revision: u64) -> Result<(), KvError> {
+    let a = key(alloc, "a")?;
+    assert_eq!(rt; version.get(&a)?.revision(), revision);
+    Ok(())
+}
+
+fn has_none(rt: &impl Abort, alloc: Global, version: &Version) -> Result<(), KvError> {
+    let a = key(alloc, "a")?;
+    assert_eq!(rt; version.get(&a).err(), Some(KvError::KeyNotFound));
+    Ok(())
+}
+
+fn is_sealed(rt: &impl Abort, version: &Version, sealed: bool) {
+    assert_eq!(rt; version.sealed(), sealed);
+}
+
 #[test]
 fn four_versions_side_by_side(rt: HostRuntime) -> Result<(), Fail> {
     let versions = four_versions(&rt, rt.alloc())?;
-    let a = key(rt.alloc(), "a")?;
-    assert_eq!(rt; versions.snapshot.get(&a)?.revision(), 1);
-    assert_eq!(rt; versions.deleted.get(&a).err(), Some(KvError::KeyNotFound));
-    assert_eq!(rt; versions.empty.revision(), 0);
-    assert!(rt; versions.sealed.sealed());
-    assert!(rt; !versions.deleted.sealed());
+    has_none(&rt, rt.alloc(), &versions.empty)?;
+    has_at(&rt, rt.alloc(), &versions.snapshot, 1)?;
+    has_none(&rt, rt.alloc(), &versions.deleted)?;
+    is_sealed(&rt, &versions.sealed, true);
+    is_sealed(&rt, &versions.deleted, false);
     Ok(())
+}
+
+fn has_numbers(rt: &impl Abort, version: &Version, numbers: Status) {
+    assert_eq!(rt; version.status(), numbers);
 }
 
 #[test]
 fn numbers_side_by_side(rt: HostRuntime) -> Result<(), Fail> {
     let versions = four_versions(&rt, rt.alloc())?;
-    assert_eq!(rt; versions.empty.status(), status(0, 0, false));
-    assert_eq!(rt; versions.written.status(), status(1, 1, false));
-    assert_eq!(rt; versions.snapshot.status(), status(1, 1, false));
-    assert_eq!(rt; versions.deleted.status(), status(2, 1, false));
-    assert_eq!(rt; versions.sealed.status(), status(2, 1, true));
+    has_numbers(&rt, &versions.empty, status(0, 0, false));
+    has_numbers(&rt, &versions.written, status(1, 1, false));
+    has_numbers(&rt, &versions.snapshot, status(1, 1, false));
+    has_numbers(&rt, &versions.deleted, status(2, 1, false));
+    has_numbers(&rt, &versions.sealed, status(2, 1, true));
     Ok(())
 }
 

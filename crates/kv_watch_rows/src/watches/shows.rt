@@ -121,10 +121,14 @@ fn looks_behind_its_beginning(
 ) {
     for item in [Event::Entry { revision: 1 }, Event::Marker] {
         assert_eq!(rt; step(rt, cursor, base, passed), Some(item));
-        assert_eq!(rt; cursor.next(), 2);
+        looks_at(rt, cursor, 2);
     }
     cursor.settle(passed);
-    assert_eq!(rt; cursor.next(), 2);
+    looks_at(rt, cursor, 2);
+}
+
+fn looks_at(rt: &impl Abort, cursor: &Cursor, revision: u64) {
+    assert_eq!(rt; cursor.next(), revision);
 }
 
 // And then behind each live entry.
@@ -133,17 +137,28 @@ fn looks_behind_the_third(rt: &impl Abort, cursor: &mut Cursor, base: &Version, 
         step(rt, cursor, base, now),
         Some(Event::Entry { revision: 3 })
     );
-    assert_eq!(rt; cursor.next(), 4);
+    looks_at(rt, cursor, 4);
     assert_eq!(rt; cursor.handed(), 3);
+}
+
+// Writes once what the watch does not want, and once what it wants.
+fn looks_behind_each(
+    rt: &impl Abort,
+    alloc: Global,
+    cursor: &mut Cursor,
+    base: &Version,
+) -> Result<(), KvError> {
+    let passed = write(alloc, base, put("x", "2"))?;
+    looks_behind_its_beginning(rt, cursor, base, &passed);
+    let now = write(alloc, &passed, put("k", "3"))?;
+    looks_behind_the_third(rt, cursor, base, &now);
+    Ok(())
 }
 
 #[test]
 fn looks_next(rt: HostRuntime) -> Result<(), Fail> {
     let base = written(rt.alloc(), &[put("k", "1")])?;
-    let passed = write(rt.alloc(), &base, put("x", "2"))?;
     let mut cursor = open_on(&rt, rt.alloc(), &base, "k", LATEST)?;
-    looks_behind_its_beginning(&rt, &mut cursor, &base, &passed);
-    let now = write(rt.alloc(), &passed, put("k", "3"))?;
-    looks_behind_the_third(&rt, &mut cursor, &base, &now);
+    looks_behind_each(&rt, rt.alloc(), &mut cursor, &base)?;
     Ok(())
 }

@@ -106,20 +106,39 @@ fn initial_by_revision_in_a_run(rt: HostRuntime) -> Result<(), Fail> {
     Ok(())
 }
 
-fn other_calls_once(alloc: Global) -> Result<Vec<Call>, KvError> {
-    let mut calls = Vec::new(alloc);
-    push_put(alloc, &mut calls, "k", "1")?;
-    push_put(alloc, &mut calls, "k", "2")?;
-    calls.push(Call::Get(Key::parse(alloc, "k")?))?;
-    calls.push(Call::GetAt(Key::parse(alloc, "k")?, 1))?;
-    calls.push(Call::GetAt(Key::parse(alloc, "k")?, 3))?;
-    calls.push(Call::History(Key::parse(alloc, "k")?))?;
+fn key(alloc: Global) -> Result<Key, KvError> {
+    Key::parse(alloc, "k")
+}
+
+fn push_reads(alloc: Global, calls: &mut Vec<Call>) -> Result<(), KvError> {
+    calls.push(Call::Get(key(alloc)?))?;
+    calls.push(Call::GetAt(key(alloc)?, 1))?;
+    calls.push(Call::GetAt(key(alloc)?, 3))?;
+    calls.push(Call::History(key(alloc)?))?;
+    Ok(())
+}
+
+fn push_lists(alloc: Global, calls: &mut Vec<Call>) -> Result<(), KvError> {
     calls.push(Call::Keys(Filter::parse(alloc, "*")?))?;
     calls.push(Call::Watch(all_keys(alloc)?, LATEST))?;
+    Ok(())
+}
+
+fn push_numbers(calls: &mut Vec<Call>) -> Result<(), KvError> {
     calls.push(Call::Status)?;
     calls.push(Call::Take(2))?;
     calls.push(Call::Stop(1))?;
     calls.push(Call::Seal)?;
+    Ok(())
+}
+
+fn other_calls_once(alloc: Global) -> Result<Vec<Call>, KvError> {
+    let mut calls = Vec::new(alloc);
+    push_put(alloc, &mut calls, "k", "1")?;
+    push_put(alloc, &mut calls, "k", "2")?;
+    push_reads(alloc, &mut calls)?;
+    push_lists(alloc, &mut calls)?;
+    push_numbers(&mut calls)?;
     push_put(alloc, &mut calls, "k", "3")?;
     Ok(calls)
 }

@@ -58,6 +58,25 @@ fn brief_taken(taken: Result<Taken<'_>, KvError>) -> Answer {
     }
 }
 
+fn peek(bucket: &Bucket, number: u64) -> Answer {
+    brief_taken(bucket.peek(number))
+}
+
+fn take(bucket: &mut Bucket, number: u64) -> Answer {
+    brief_taken(bucket.take(number))
+}
+
+fn stop(bucket: &mut Bucket, number: u64) -> Answer {
+    match bucket.stop(number) {
+        Ok(stopped) => Answer::Stopped(stopped.handed),
+        Err(error) => Answer::Refused(error),
+    }
+}
+
+fn watches(bucket: &Bucket) -> u64 {
+    bucket.watches()
+}
+
 // What can be seen of a bucket with two watches at most.
 #[derive(Clone, Copy, Debug, PartialEq, Eq)]
 struct Sight {
@@ -70,9 +89,9 @@ struct Sight {
 fn look(bucket: &Bucket) -> Sight {
     Sight {
         status: bucket.version().status(),
-        watches: bucket.watches(),
-        first: brief_taken(bucket.peek(1)),
-        second: brief_taken(bucket.peek(2)),
+        watches: watches(bucket),
+        first: peek(bucket, 1),
+        second: peek(bucket, 2),
     }
 }
 
@@ -146,34 +165,50 @@ fn one_filter(alloc: Global) -> Result<Filters, KvError> {
     }
 }
 
+fn looks(rt: &impl Abort, bucket: &Bucket, before: Sight) {
+    assert_eq!(rt; look(bucket), before);
+}
+
+fn write_once(bucket: &mut Bucket, request: &Request) -> Result<u64, KvError> {
+    bucket.write(request)
+}
+
 fn write(rt: &impl Abort, bucket: &mut Bucket, request: &Request) -> Result<u64, KvError> {
     let before = look(bucket);
-    match bucket.write(request) {
+    match write_once(bucket, request) {
         Err(KvError::OutOfMemory) => {
-            assert_eq!(rt; look(bucket), before);
-            bucket.write(request)
+            looks(rt, bucket, before);
+            write_once(bucket, request)
         }
         revision => revision,
     }
 }
 
+fn seal_once(bucket: &mut Bucket) -> Result<(), KvError> {
+    bucket.seal()
+}
+
 fn seal(rt: &impl Abort, bucket: &mut Bucket) -> Result<(), KvError> {
     let before = look(bucket);
-    match bucket.seal() {
+    match seal_once(bucket) {
         Err(KvError::OutOfMemory) => {
-            assert_eq!(rt; look(bucket), before);
-            bucket.seal()
+            looks(rt, bucket, before);
+            seal_once(bucket)
         }
         done => done,
     }
 }
 
+fn watch_once(bucket: &mut Bucket, filters: &Filters) -> Result<u64, KvError> {
+    bucket.watch(filters, LATEST)
+}
+
 fn watch(rt: &impl Abort, bucket: &mut Bucket, filters: &Filters) -> Result<u64, KvError> {
     let before = look(bucket);
-    match bucket.watch(filters, LATEST) {
+    match watch_once(bucket, filters) {
         Err(KvError::OutOfMemory) => {
-            assert_eq!(rt; look(bucket), before);
-            bucket.watch(filters, LATEST)
+            looks(rt, bucket, before);
+            watch_once(bucket, filters)
         }
         number => number,
     }

@@ -21,8 +21,8 @@ fn initial_by(rt: &impl Abort, alloc: Global, filters: &Filters) -> Result<(), K
         Answer::Marker,
         Answer::Empty,
     ] {
-        assert_eq!(rt; brief_taken(bucket.peek(1)), answer);
-        assert_eq!(rt; brief_taken(bucket.take(1)), answer);
+        assert_eq!(rt; peek(&bucket, 1), answer);
+        assert_eq!(rt; take(&mut bucket, 1), answer);
     }
     Ok(())
 }
@@ -36,36 +36,72 @@ fn initial_by_revision(rt: HostRuntime) -> Result<(), Fail> {
     Ok(())
 }
 
+// Watches everything, and tells whether the watch has this number.
+fn watches_as(
+    rt: &impl Abort,
+    bucket: &mut Bucket,
+    filters: &Filters,
+    number: u64,
+) -> Result<(), KvError> {
+    assert_eq!(rt; watch(rt, bucket, filters)?, number);
+    Ok(())
+}
+
+fn stops_as(rt: &impl Abort, bucket: &mut Bucket, number: u64, handed: u64) {
+    assert_eq!(rt; stop(bucket, number), Answer::Stopped(handed));
+}
+
+fn has_watches(rt: &impl Abort, bucket: &Bucket, count: u64) {
+    assert_eq!(rt; watches(bucket), count);
+}
+
+fn takes_and_stops(rt: &impl Abort, bucket: &mut Bucket) {
+    assert_eq!(rt; take(bucket, 1), Answer::Marker);
+    stops_as(rt, bucket, 1, 1);
+}
+
+fn knows_no_watch(rt: &impl Abort, bucket: &mut Bucket, number: u64) {
+    assert_eq!(rt; take(bucket, number), Answer::Refused(KvError::NoSuchWatch));
+    assert_eq!(rt; stop(bucket, number), Answer::Refused(KvError::NoSuchWatch));
+}
+
 #[test]
 fn watch_numbers(rt: HostRuntime) -> Result<(), Fail> {
-    let none = Answer::Refused(KvError::NoSuchWatch);
     let mut bucket = keeping(rt.alloc(), 1)?;
     let filters = all_keys(rt.alloc())?;
-    assert_eq!(rt; brief_taken(bucket.take(7)), none);
-    assert_eq!(rt; watch(&rt, &mut bucket, &filters)?, 1);
-    assert_eq!(rt; brief_taken(bucket.take(1)), Answer::Marker);
-    assert_eq!(rt; bucket.stop(1)?.handed, 1);
-    assert_eq!(rt; bucket.stop(1), Err(KvError::NoSuchWatch));
-    assert_eq!(rt; brief_taken(bucket.take(1)), none);
-    assert_eq!(rt; watch(&rt, &mut bucket, &filters)?, 2);
-    assert_eq!(rt; bucket.watches(), 1);
+    knows_no_watch(&rt, &mut bucket, 7);
+    watches_as(&rt, &mut bucket, &filters, 1)?;
+    takes_and_stops(&rt, &mut bucket);
+    knows_no_watch(&rt, &mut bucket, 1);
+    watches_as(&rt, &mut bucket, &filters, 2)?;
+    has_watches(&rt, &bucket, 1);
     Ok(())
+}
+
+fn opens_sixty_four(
+    rt: &impl Abort,
+    bucket: &mut Bucket,
+    filters: &Filters,
+) -> Result<(), KvError> {
+    for number in 1..65u64 {
+        watches_as(rt, bucket, filters, number)?;
+    }
+    Ok(())
+}
+
+fn opens_no_more(rt: &impl Abort, bucket: &mut Bucket, filters: &Filters) {
+    assert_eq!(rt; watch(rt, bucket, filters), Err(KvError::TooManyWatches));
 }
 
 #[test]
 fn sixty_four_watches(rt: HostRuntime) -> Result<(), Fail> {
     let mut bucket = keeping(rt.alloc(), 1)?;
     let filters = all_keys(rt.alloc())?;
-    for number in 1..65u64 {
-        assert_eq!(rt; watch(&rt, &mut bucket, &filters)?, number);
-    }
-    assert_eq!(rt;
-        watch(&rt, &mut bucket, &filters),
-        Err(KvError::TooManyWatches)
-    );
-    assert_eq!(rt; bucket.stop(1)?.handed, 0);
-    assert_eq!(rt; watch(&rt, &mut bucket, &filters)?, 65);
-    assert_eq!(rt; bucket.watches(), 64);
+    opens_sixty_four(&rt, &mut bucket, &filters)?;
+    opens_no_more(&rt, &mut bucket, &filters);
+    stops_as(&rt, &mut bucket, 1, 0);
+    watches_as(&rt, &mut bucket, &filters, 65)?;
+    has_watches(&rt, &bucket, 64);
     Ok(())
 }
 
