@@ -1,12 +1,11 @@
 -- What an act and a quiet call make of what lies under the lock.
-use Rattle.std.proofs.Common.{◌≡◌, ℕ, ◌+◌, ◌-◌, ◌<◌, Bool, true, false, cond, List, [], ◌∷◌, ◌++◌, Option, Some, None, Result, Ok, Err, length, refl, sym, ap, ◌∙◌, subst, arith, length-append}
+use Rattle.std.proofs.Common.{◌≡◌, ℕ, ◌+◌, ◌-◌, true, false, cond, List, [], ◌∷◌, ◌++◌, Option, Some, None, Result, Ok, Err, length, refl, sym, ap, ◌∙◌, subst, arith, length-append}
 use Rattle.std.specs.Prelude.{IfOk, OnOk, OnErr, MatchResult}
 use Rattle.std.specs.List.{slice_get}
 use Rattle.kv_keys.specs.declared.error.KvError.{KvError}
 use Rattle.kv_store.specs.Acceptance.{accept}
-use Rattle.kv_store.specs.Acts.{Act, Wrote, Seal, Write, writes_of}
+use Rattle.kv_store.specs.Acts.{Act, Wrote, Write, writes_of}
 use Rattle.kv_store.specs.Configuration.{Configuration}
-use Rattle.kv_store.specs.Reads.{write_at_of}
 use Rattle.kv_store.specs.Requests.{Asked}
 use Rattle.kv_store.specs.Standing.{StandsFor}
 use Rattle.kv_store.specs.Stored.{Stored, write_at}
@@ -16,7 +15,7 @@ use Rattle.kv_watch.specs.Given.{Item}
 use Rattle.kv_bucket.specs.declared.call.Call.{Call}
 use Rattle.kv_bucket.specs.declared.call.Call.TheVariants as calls
 use Rattle.kv_bucket.specs.Answers.{Answer, Revision}
-use Rattle.kv_bucket.specs.Held.{Bucketed, Represents}
+use Rattle.kv_bucket.specs.Held.{Bucketed}
 use Rattle.kv_bucket.specs.Keeping.{Kept, IsAt, state_of, IsSomewhere, IsKeptStep, PublishesWrite}
 use Rattle.kv_bucket.specs.State.{State, Watch, add_act, add_watch, opened, open_at, has_room, next_of, after, after_write, after_stop, after_item, after_take, answer_write}
 use Rattle.kv_bucket.specs.Stepping.{IsStep}

@@ -13,3 +13,4 @@ pub mod Answering
 pub mod Running
 pub mod NoMemory
 pub mod Somewhere
+pub mod Sent

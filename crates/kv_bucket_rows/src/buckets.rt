@@ -11,6 +11,7 @@ use std::test::Fail;
 
 mod rows;
 mod runs;
+mod threads;
 
 const LATEST: Options = Options {
     start: Start::Latest,

@@ -1,5 +1,7 @@
-//! Tests of buckets by worked rows, and nothing else. They use public calls alone.
+//! Tests of buckets by worked rows, and the example of docs/library.md with threads. They use public calls alone.
 #![tactic(auto)]
 
 #[cfg(test)]
 mod buckets;
+#[cfg(test)]
+mod examples;

@@ -17,6 +17,3 @@ pub use grammar::is_name;
 pub use key::Key;
 pub use place::{Place, fnv32};
 pub use short::Short;
-
-#[cfg(test)]
-mod tests;

@@ -1,3 +1,4 @@
+pub mod Openings
 pub mod Racing
 pub mod Telling
 pub mod Watching

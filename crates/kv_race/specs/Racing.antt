@@ -1,9 +1,19 @@
--- What a watch sees of a request that was answered by a revision.
-use Rattle.std.specs.Prelude.{◌==◌, ℕ, Bool, false, List, [], ◌∷◌}
-use Rattle.kv_store.specs.Acts.{Write}
+-- What a race promises.
+use Rattle.std.specs.Prelude.{◌≡◌, ◌==◌, ℕ, Bool, false, List, [], ◌∷◌, Some, Result, Ok, Err, ⊤, filter, map}
+use Rattle.kv_keys.specs.declared.error.KvError.{KvError}
+use Rattle.kv_store.specs.Acceptance.{IsLawful}
+use Rattle.kv_store.specs.Acts.{Act, Write}
+use Rattle.kv_store.specs.Configuration.{Configuration}
+use Rattle.kv_store.specs.Reads.{write_at_of}
 use Rattle.kv_store.specs.Requests.{Asked, key_of, op_of, value_of}
-use Rattle.kv_watch.specs.Given.{Item, AnEntry, EndMarker, matching, all_shown}
+use Rattle.kv_store.specs.Standing.{StandsFor}
+use Rattle.kv_store.specs.Stored.{Stored}
+use Rattle.kv_watch.specs.Given.{Item, AnEntry, EndMarker, matching, all_shown, given}
 use Rattle.kv_watch.specs.declared.options.Options.{Options}
+use Rattle.kv_bucket.specs.Answers.{Answer}
+use Rattle.kv_bucket.specs.Keeping.{RefusedSomewhere}
+use Rattle.std.specs.List.{AllZip}
+use Rattle.kv_race.specs.Watching.{reply_to}
 
 -- what a request writes at a revision
 abbrev pub written_by : Asked → ℕ → Write
@@ -16,3 +26,32 @@ is_at revision EndMarker = false
 -- what a watch shows of one write: its entry, or nothing where it does not match or is left out
 abbrev pub shown_alone : List (List ℕ) → Options → Write → List Item
 shown_alone filters options w = all_shown options (matching filters (w ∷ []))
+
+-- where a request was answered by a revision, the items of that revision are what the watch shows of the request's own write: one entry or none, and nothing else
+abbrev pub IsSeen : List (List ℕ) → Options → List Item → Asked → Result ℕ KvError → Type 0
+IsSeen filters options items request (Ok revision) = filter (is_at revision) items ≡ shown_alone filters options (written_by request revision)
+IsSeen filters options items request (Err error) = ⊤
+
+-- where a request was answered by a revision, the write of that revision is the request's own; a refusal is one that the rules give after some lawful acts, or memory ran out
+abbrev pub IsWritten : Configuration → List Act → Asked → Result ℕ KvError → Type 0
+IsWritten config acts request (Ok revision) = write_at_of revision acts ≡ Some (written_by request revision)
+IsWritten config acts request (Err error) = RefusedSomewhere config request error
+
+-- each worker has one reply to each request of its script, in order, which fits
+abbrev pub EachReply : (Asked → Result ℕ KvError → Type 0) → List (List Asked) → List (List (Result ℕ KvError)) → Type 0
+EachReply P scripts replies = AllZip (AllZip P) scripts replies
+
+-- what a watch saw, which began on the empty bucket: all that it is given by some lawful acts, among which are the writes of all replies
+pub record IsWatched (config : Configuration) (scripts : List (List Asked)) (replies : List (List (Result ℕ KvError))) (watch : List (List ℕ) × Options) (seen : List Answer) : Type 0 where
+  pub acts : List Act
+  pub lawful : IsLawful config acts
+  pub all : seen ≡ map reply_to (given config.history [] acts watch.0 watch.1)
+  pub once : EachReply (IsSeen watch.0 watch.1 (given config.history [] acts watch.0 watch.1)) scripts replies
+
+-- a race: one reply for each request, one list of items for each watch, and a last version that has the writes of all replies
+pub record IsRaced (config : Configuration) (scripts : List (List Asked)) (watches : List (List (List ℕ) × Options)) (replies : List (List (Result ℕ KvError))) (seen : List (List Answer)) (version : Stored) : Type 0 where
+  pub same_config : version.config ≡ config
+  pub acts : List Act
+  pub stands : StandsFor acts version
+  pub written : EachReply (IsWritten config acts) scripts replies
+  pub watched : AllZip (IsWatched config scripts replies) watches seen

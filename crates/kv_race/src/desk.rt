@@ -10,14 +10,13 @@ use std::sync::Wait;
 
 /// A bucket that threads share, with what a write waits by.
 #[derive(Drop)]
-pub struct Desk<'a, N: LiveName, R> {
+pub(crate) struct Desk<'a, N: LiveName, R> {
     live: &'a Live<N>,
     rt: &'a R,
 }
 
 impl<'a, N: LiveName, R> Desk<'a, N, R> {
-    /// A worker's place at a bucket that threads share.
-    pub fn new(live: &'a Live<N>, rt: &'a R) -> Desk<'a, N, R> {
+    pub(crate) fn new(live: &'a Live<N>, rt: &'a R) -> Desk<'a, N, R> {
         Desk { live, rt }
     }
 }

@@ -1,14 +1,20 @@
-//! The threads of a race: workers that write to a bucket which threads share, and watchers that follow what is written.
+//! A race: many threads write to one bucket while others watch it, and what each of them saw is told.
 #![tactic(auto)]
 
 mod desk;
+mod ending;
 mod feeding;
 mod gate;
 pub mod laws;
+mod racing;
+mod replies;
+mod report;
+mod threads;
 mod watcher;
 mod worker;
 
-pub use desk::Desk;
 pub use gate::{Gate, NoGate, Who};
+pub use racing::race;
+pub use report::Report;
 pub use watcher::{Follows, collect, follow};
 pub use worker::{Writes, work};

@@ -2,7 +2,7 @@
 //! written, and the same run, made again, goes on.
 
 use kv_keys::KvError;
-use kv_run::{program, replay, replay_bounded};
+use kv_run::{Noted, Whole, program, replay, replay_bounded};
 use kv_store::Config;
 use std::alloc::{AllocError, Global};
 use std::process::Abort;
@@ -14,6 +14,7 @@ mod failing;
 mod hostile;
 mod lines;
 mod long_lines;
+mod races;
 mod reading;
 mod rows;
 mod watching;
@@ -55,7 +56,12 @@ fn replays_once(
 ) -> Result<bool, KvError> {
     let mut reader = script;
     let mut written = paper(alloc)?;
-    match replay(alloc, &mut reader, &mut written, config) {
+    match replay(
+        alloc,
+        &mut Noted::new(&mut reader),
+        &mut Whole::new(&mut written),
+        config,
+    ) {
         Ok(()) => Ok(written.as_slice() == text && reader.is_empty()),
         Err(KvError::OutOfMemory) if is_front(&written, text) => Err(KvError::OutOfMemory),
         Err(_) => Ok(false),

@@ -6,14 +6,14 @@ use Rattle.kv_run.specs.Lines.{lines_of, but_last, texts}
 use Rattle.kv_run.specs.Reading.{Reading, beginning, step, said_by, after_bytes, said, ended, line_ended}
 
 -- the line goes before the first of the lines
-abbrev onto : List ℕ → List (List ℕ) → List (List ℕ)
+abbrev pub onto : List ℕ → List (List ℕ) → List (List ℕ)
 onto line [] = line ∷ []
 onto line (first ∷ lines) = (line ++ first) ∷ lines
 
 onto-nil : (lines : List (List ℕ)) (first : List ℕ) (rest : List (List ℕ)) → lines ≡ first ∷ rest → onto [] lines ≡ lines
 onto-nil lines first rest e = rw e refl
 
-onto-onto_first : (line : List ℕ) (byte : ℕ) (lines : List (List ℕ)) → onto line (onto_first byte lines) ≡ onto (line ++ byte ∷ []) lines
+pub onto-onto_first : (line : List ℕ) (byte : ℕ) (lines : List (List ℕ)) → onto line (onto_first byte lines) ≡ onto (line ++ byte ∷ []) lines
 onto-onto_first line byte [] = refl
 onto-onto_first line byte (first ∷ lines) = ap (λ whole. whole ∷ lines) (sym (append_assoc line (byte ∷ []) first))
 
@@ -27,13 +27,13 @@ lines_of-first (byte ∷ bytes) = at_byte (byte == 10) (lines_of-first bytes)
     at_byte true h = ([], lines_of bytes, refl)
     at_byte false h = (byte ∷ h.0, h.1, ap (onto_first byte) h.2)
 
-lines_of-onto : (bytes : List ℕ) → onto [] (lines_of bytes) ≡ lines_of bytes
+pub lines_of-onto : (bytes : List ℕ) → onto [] (lines_of bytes) ≡ lines_of bytes
 lines_of-onto bytes = let found = lines_of-first bytes in onto-nil (lines_of bytes) found.0 found.1 found.2
 
-lines_of-feed : (byte : ℕ) (bytes : List ℕ) → (byte == 10) ≡ true → lines_of (byte ∷ bytes) ≡ [] ∷ lines_of bytes
+pub lines_of-feed : (byte : ℕ) (bytes : List ℕ) → (byte == 10) ≡ true → lines_of (byte ∷ bytes) ≡ [] ∷ lines_of bytes
 lines_of-feed byte bytes h = rw h refl
 
-lines_of-inside : (byte : ℕ) (bytes : List ℕ) → (byte == 10) ≡ false → lines_of (byte ∷ bytes) ≡ onto_first byte (lines_of bytes)
+pub lines_of-inside : (byte : ℕ) (bytes : List ℕ) → (byte == 10) ≡ false → lines_of (byte ∷ bytes) ≡ onto_first byte (lines_of bytes)
 lines_of-inside byte bytes h = rw h refl
 
 module _ {S : Type 0} (limit : ℕ) (text : S → List ℕ → List ℕ) (next : S → List ℕ → S)

@@ -38,7 +38,7 @@ ends_run {X} (WatchBehind watch) outcome fault legal = absurd fault
 ends_run {X} (Lagged floor) outcome fault legal = absurd fault
 
 -- a refusal is want of memory, or the one that the rules give
-by_cause : {X : Type 0} (e : KvError) (outcome : Result X KvError) → Refuses e outcome → ((e ≡ OutOfMemory) × IsOk outcome) ⊎ (outcome ≡ Err e)
+pub by_cause : {X : Type 0} (e : KvError) (outcome : Result X KvError) → Refuses e outcome → ((e ≡ OutOfMemory) × IsOk outcome) ⊎ (outcome ≡ Err e)
 by_cause {X} OutOfMemory outcome h = inl (refl, h)
 by_cause {X} BadBucket outcome h = inr h
 by_cause {X} BadConfig outcome h = inr h
@@ -61,7 +61,7 @@ by_cause {X} BadFloor outcome h = inr h
 by_cause {X} (WatchBehind watch) outcome h = inr h
 by_cause {X} (Lagged floor) outcome h = inr h
 
-error_of : {X : Type 0} → KvError → Result X KvError → KvError
+unfoldable pub error_of : {X : Type 0} → KvError → Result X KvError → KvError
 error_of {X} d (Ok x) = d
 error_of {X} d (Err e) = e
 

@@ -1,5 +1,5 @@
 -- What the options of a command line say.
-use Rattle.std.proofs.Common.{◌≡◌, ◌^◌, ◌&&◌, ℕ, Bool, true, false, List, [], ◌∷◌, Option, Some, None, Result, Ok, Err, refl, ap, nat_lt, length, lt-ltb, ltb-true, option_map}
+use Rattle.std.proofs.Common.{◌≡◌, ◌^◌, ◌&&◌, ℕ, Bool, true, false, List, [], ◌∷◌, Option, Some, None, option_and_then, Result, Ok, Err, refl, ap, nat_lt, length, lt-ltb, ltb-true, option_map}
 use Rattle.std.specs.Borrow.{Bor}
 use Rattle.std.specs.Char.{digit_value}
 use Rattle.std.specs.List.{list_all}
@@ -11,7 +11,7 @@ use Rattle.clap.specs.Faults.{is_simple_and_free}
 use Rattle.clap.specs.Matches.{ReadsOne}
 use Rattle.clap.specs.Simple.{is_simple}
 use Rattle.clap.specs.Walk.{Text}
-use Rattle.kv_run.specs.Arguments.{number_or, program_app}
+use Rattle.kv_run.specs.Arguments.{number_of, number_or, program_app}
 
 pub program_is_simple : is_simple program_app ≡ true
 program_is_simple = refl
@@ -62,3 +62,30 @@ pub option_number : {E : Type 0} {gives : List ℕ → Result ℕ E → Type 0} 
     → unwrap_or found default ≡ option_map_or (number_or default) given default
 option_number {E} {gives} default None found none some parses = ap (λ o. unwrap_or o default) (none refl)
 option_number {E} {gives} default (Some text) found none some parses = text_number {E = E} {gives = gives} default text found (some text refl) parses
+
+some_read : (E : Type 0) (text : Text) (n : ℕ) → ParsesUnsigned {E = E} 64 10 text (Ok n) → Some n ≡ number_of text
+some_read E text n h =
+    let ds = without_leading_plus text in
+    rw (lt-ltb 0 (length ds) h.0.0.0, digits_pass ds h.0.0.1, lt-ltb (digits_value 10 ds) (2 ^ 64) h.0.1) (ap Some h.1)
+
+none_read : (E : Type 0) (text : Text) (e : E) → ParsesUnsigned {E = E} 64 10 text (Err e) → None ≡ number_of text
+none_read E text e h = go (is_number (without_leading_plus text)) refl
+  where
+    go : (b : Bool) → is_number (without_leading_plus text) ≡ b → None ≡ number_of text
+    go false t = rw t refl
+    go true t =
+        let outer = both _ _ t in
+        let inner = both _ _ outer.0 in
+        absurd (h ((ltb-true _ _ inner.0, digits_from (without_leading_plus text) inner.1), ltb-true _ _ outer.1))
+
+text_found : {E : Type 0} {gives : List ℕ → Result ℕ E → Type 0} (text : Text) (found : Option ℕ) → ReadsOne gives text found
+    → ((text : Text) (r : Result ℕ E) → gives text r → ParsesUnsigned 64 10 text r) → found ≡ number_of text
+text_found {E} {gives} text (Some n) read parses = some_read E text n (parses text (Ok n) read)
+text_found {E} {gives} text None read parses = none_read E text read.0 (parses text (Err read.0) read.1)
+
+-- the number of an option that has none where it is not given
+pub number_found : {E : Type 0} {gives : List ℕ → Result ℕ E → Type 0} (given : Option Text) (found : Option ℕ) → (given ≡ None → found ≡ None)
+    → ((text : Text) → given ≡ Some text → ReadsOne gives text found) → ((text : Text) (r : Result ℕ E) → gives text r → ParsesUnsigned 64 10 text r)
+    → found ≡ option_and_then number_of given
+number_found {E} {gives} None found none some parses = none refl
+number_found {E} {gives} (Some text) found none some parses = text_found {E = E} {gives = gives} text found (some text refl) parses

@@ -6,7 +6,7 @@ use Rattle.kv_keys.specs.declared.error.KvError.TheVariants.{OutOfMemory, BadBuc
 use Rattle.kv_bucket.specs.State.{State}
 use Rattle.kv_script.specs.Commands.{Meaning, Fails, is_skipped, line_command}
 use Rattle.kv_run.specs.Faults.{IsRefusal}
-use Rattle.kv_run.specs.Text.{Step, line_steps, steps_of}
+use Rattle.kv_run.specs.Text.{line_steps, steps_of}
 
 -- a skipped line makes no call
 pub line_steps-skipped : (state : State) (line : List ℕ) → is_skipped line ≡ true → line_steps state line ≡ []

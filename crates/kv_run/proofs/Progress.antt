@@ -1,5 +1,5 @@
 -- How far a replay has come, for whatever answers its lines.
-use Rattle.std.proofs.Common.{◌≡◌, ℕ, ◌<◌, ◌==◌, Bool, true, false, cond, ◌||◌, List, [], ◌∷◌, ◌++◌, length, take, drop, take-append-drop, append_assoc, append-nil, Option, Result, Ok, Err, refl, sym, ap, subst, ◌∙◌}
+use Rattle.std.proofs.Common.{◌≡◌, ℕ, ◌<◌, ◌==◌, Bool, true, false, cond, ◌||◌, List, [], ◌∷◌, ◌++◌, length, take, append_assoc, append-nil, Option, Result, Ok, Err, refl, sym, ap, subst, ◌∙◌}
 use Rattle.std.specs.Prelude.{OnErr, IsErrOf}
 use Rattle.std.specs.Io.{StartsWith}
 use Rattle.std.specs.Io.KnownBytes.{Appends, Consumes, IsAtEnd, Keeps}
@@ -168,13 +168,9 @@ on_err (Err e) p = p
 pub err_of : {T F : Type 0} {P : Type 0} (r : Result T F) (e : F) → IsErrOf r e → OnErr r P → P
 err_of {T} {F} {P} r e is p = subst (λ (q : Result T F). OnErr q P) is p
 
-or_false : (b : Bool) → (b || false) ≡ b
-or_false true = refl
-or_false false = refl
-
 -- a source that has not ended yet is not asked late
-pub not_late : (late before has_ended began : Bool) → late ≡ (before || has_ended) → (has_ended ≡ false) × (before ≡ began) → late ≡ began
-not_late late before has_ended began is (goes_on, same) = is ∙ ap (λ b. before || b) goes_on ∙ or_false before ∙ same
+pub in_time_still : (late before began : Bool) {has_ended : Bool} → (has_ended ≡ false → late ≡ before) → (has_ended ≡ false) × (before ≡ began) → late ≡ began
+in_time_still late before began is (goes_on, same) = is goes_on ∙ same
 
 -- nor has it ended where it gave some bytes
 pub not_ended : (after before : Bool) (count : ℕ) → after ≡ (before || (count == 0)) → before ≡ false → (count ≡ 0 → ⊥) → after ≡ false

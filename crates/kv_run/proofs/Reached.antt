@@ -1,10 +1,10 @@
 -- How far a replay of a bucket's script has come.
-use Rattle.std.proofs.Common.{◌≡◌, ℕ, List, [], ◌++◌, Option, refl, ◌∙◌}
+use Rattle.std.proofs.Common.{ℕ, List, [], Option}
 use Rattle.std.specs.Io.{StartsWith}
 use Rattle.std.specs.Io.KnownBytes.{Appends, Consumes, IsAtEnd, Keeps}
 use Rattle.kv_bucket.specs.State.{State, empty}
 use Rattle.kv_store.specs.Configuration.{Configuration}
-use Rattle.kv_run.specs.Outcome.{IsWholeLines, Replays, Breaks, Stops, StopsWhole}
+use Rattle.kv_run.specs.Outcome.{Replays, Breaks, Stops, StopsWhole}
 use Rattle.kv_run.specs.Reading.{Reading, beginning, after_bytes, said, ended}
 use Rattle.kv_run.specs.Scripted.{Scripted, Holds}
 use Rattle.kv_run.specs.Text.{line_text, line_next, script_text, whole_text}

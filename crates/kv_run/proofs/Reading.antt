@@ -1,5 +1,5 @@
 -- Of the answers to reads.
-use Rattle.std.proofs.Common.{◌≡◌, ℕ, List, map, Option, Some, None, Result, Ok, Err, refl, sym, ap, ◌∙◌}
+use Rattle.std.proofs.Common.{◌≡◌, ℕ, List, map, Option, Some, None, Err, sym, ap, ◌∙◌}
 use Rattle.std.specs.Borrow.{Bor}
 use Rattle.std.proofs.lemmas.Simd.{map-map}
 use Rattle.std.specs.Option.{ok_or}
@@ -7,7 +7,7 @@ use Rattle.kv_keys.specs.Outcome.{Refuses}
 use Rattle.kv_keys.specs.declared.error.KvError.{KvError}
 use Rattle.kv_keys.specs.declared.error.KvError.TheVariants.{OutOfMemory, BadBucket, BadConfig, BadKey, BadFilter, OptionsClash, ValueTooLarge, Sealed, JournalFull, KeyExists, WrongLastRevision, KeyNotFound, NoSuchWatch, TooManyWatches, NoReader, BadCommand, ReadFault, WriteFault, BadFloor, WatchBehind, Lagged}
 use Rattle.kv_store.specs.Acts.{Write}
-use Rattle.kv_bucket.specs.Answers.{Answer, Entries}
+use Rattle.kv_bucket.specs.Answers.{Entries}
 use Rattle.kv_bucket.specs.State.{or_refused, read_entry}
 use Rattle.kv_script.specs.Answered.{answer_text}
 use Rattle.kv_script.specs.Text.{history_text, refusal_text}

@@ -1,14 +1,17 @@
 -- What a run that ended early did, by the status of its error.
-use Rattle.std.proofs.Common.{◌≡◌, ℕ, List, [], Option, Result, Ok, Err, refl, arith}
+use Rattle.std.proofs.Common.{◌≡◌, ℕ, List, [], Option, Some, None, Result, Ok, Err, refl, arith}
 use Rattle.std.specs.Prelude.{⊤, IfErr}
 use Rattle.std.proofs.KnownBytes.{Consumes-nil, Appends-nil}
 use Rattle.kv_keys.specs.declared.error.KvError.{KvError}
 use Rattle.kv_keys.specs.declared.error.KvError.TheVariants.{OutOfMemory, BadBucket, BadConfig, BadKey, BadFilter, OptionsClash, ValueTooLarge, Sealed, JournalFull, KeyExists, WrongLastRevision, KeyNotFound, NoSuchWatch, TooManyWatches, NoReader, BadCommand, ReadFault, WriteFault, BadFloor, WatchBehind, Lagged}
 use Rattle.kv_run.specs.Outcome.{Breaks, Stops, StopsWhole}
-use Rattle.kv_run.specs.Programs.{status_of}
+use Rattle.kv_run.specs.Programs.{RunStops, status_of}
+use Rattle.kv_run.specs.Races.{RanRace, StopsRace}
 use Rattle.kv_run.specs.Replaying.{Ran}
 use Rattle.kv_run.specs.Text.{script_text, whole_text}
+use Rattle.kv_race.specs.Openings.{may_race}
 use Rattle.kv_run.proofs.Progress.{starts}
+use Rattle.kv_run.proofs.Racing.{stopped_silent}
 use Rattle.kv_run.proofs.Reached.{whole_first}
 use Rattle.kv_store.specs.Configuration.{Configuration, configure}
 
@@ -83,13 +86,42 @@ module _ (config : Configuration) (unread left held holds : Option (List ℕ)) w
   answered_stops (Ok done) ran = tt
   answered_stops (Err e) ran = ran_stops e ran
 
+module _ (config : Configuration) (workers : ℕ) (unread left held holds : Option (List ℕ)) where
+  pub raced_stops : (result : Result ⊤ KvError) → RanRace config workers unread left held holds result → IfErr result (λ e. status_of e ≡ 1 → StopsRace config workers unread left held holds)
+  raced_stops (Ok done) ran = tt
+  raced_stops (Err e) ran = λ _. ran.early
+
+  pub raced_refused : (e : KvError) → RanRace config workers unread left held holds (Err e) → status_of e ≡ 2 → may_race config workers 0 ≡ Err e
+  raced_refused OutOfMemory ran two = absurd (omega (arith, two))
+  raced_refused BadBucket ran two = ran.fault
+  raced_refused BadConfig ran two = ran.fault
+  raced_refused BadKey ran two = absurd ran.fault
+  raced_refused BadFilter ran two = absurd ran.fault
+  raced_refused OptionsClash ran two = absurd ran.fault
+  raced_refused ValueTooLarge ran two = absurd ran.fault
+  raced_refused Sealed ran two = absurd ran.fault
+  raced_refused JournalFull ran two = absurd ran.fault
+  raced_refused KeyExists ran two = absurd ran.fault
+  raced_refused (WrongLastRevision last) ran two = absurd ran.fault
+  raced_refused KeyNotFound ran two = absurd ran.fault
+  raced_refused NoSuchWatch ran two = absurd ran.fault
+  raced_refused TooManyWatches ran two = absurd ran.fault
+  raced_refused NoReader ran two = absurd (omega (arith, two))
+  raced_refused BadCommand ran two = absurd ran.fault
+  raced_refused ReadFault ran two = absurd (omega (arith, two))
+  raced_refused WriteFault ran two = absurd (omega (arith, two))
+  raced_refused BadFloor ran two = absurd ran.fault
+  raced_refused (WatchBehind watch) ran two = absurd ran.fault
+  raced_refused (Lagged floor) ran two = absurd ran.fault
+
 -- where nothing was read, nothing was written
-pub nothing_stops : (config : Configuration) (unread held : Option (List ℕ)) (result : Result ⊤ KvError) → IfErr result (λ e. status_of e ≡ 1 → Stops (script_text config) (whole_text config) unread unread held held)
-nothing_stops config unread held (Ok done) = tt
-nothing_stops config unread held (Err e) = λ _. record {
+pub nothing_stops : (race : Option ℕ) (config : Configuration) (unread held : Option (List ℕ)) (result : Result ⊤ KvError) → IfErr result (λ e. status_of e ≡ 1 → RunStops race config unread unread held held)
+nothing_stops race config unread held (Ok done) = tt
+nothing_stops None config unread held (Err e) = λ _. record {
   input = [];
   read = Consumes-nil unread;
   text = [];
   begins = starts (script_text config []) [] (script_text config []) refl;
   written = Appends-nil held;
 }
+nothing_stops (Some workers) config unread held (Err e) = λ _. stopped_silent config workers unread unread held [] (Consumes-nil unread)

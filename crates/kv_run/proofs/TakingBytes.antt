@@ -3,7 +3,7 @@ use Rattle.std.proofs.Common.{◌≡◌, ◌==◌, ◌<◌, ◌+◌, ℕ, Bool, 
 use Rattle.std.proofs.Math.Seq.{drop-cons}
 use Rattle.kv_bucket.specs.State.{State}
 use Rattle.kv_run.specs.Outcome.{IsWholeLines}
-use Rattle.kv_run.specs.Reading.{Reading, step, said_by, after_bytes, said, ended, line_ended}
+use Rattle.kv_run.specs.Reading.{Reading, step, said_by, after_bytes, said, ended}
 use Rattle.kv_run.specs.Scripted.{Scripted, Holds}
 use Rattle.kv_run.specs.Text.{line_text, line_next}
 use Rattle.kv_run.specs.Written.{AppendsFront}

@@ -1,9 +1,8 @@
 -- Of the text of a line.
-use Rattle.std.proofs.Common.{◌≡◌, ℕ, suc, zero, ◌<◌, ◌≤◌, ◌+◌, ◌-◌, ◌==◌, nat_le, nat_lt, Bool, true, false, cond, codes, decimal, map, List, [], ◌∷◌, ◌++◌, ◌&&◌, length, length-append, length-take-le, take, slice_index, Result, Ok, Err, refl, sym, ap, ◌∙◌, inl, inr, arith}
+use Rattle.std.proofs.Common.{◌≡◌, ℕ, suc, zero, ◌<◌, ◌≤◌, ◌+◌, ◌-◌, nat_le, Bool, true, false, cond, codes, decimal, map, List, [], ◌∷◌, ◌++◌, ◌&&◌, length, length-append, length-take-le, take, Result, Ok, Err, refl, sym, ap, ◌∙◌, inr, arith}
 use Rattle.std.proofs.lemmas.Bool.Decides.{nat_tests}
 use Rattle.std.specs.Io.BufRead.{strip_last, ends_with_byte}
 use Rattle.std.specs.Str.{is_utf8}
-use Rattle.std.specs.List.{flat_map}
 use Rattle.json.specs.Print.{quoted}
 use Rattle.kv_keys.specs.Places.{fnv32_of}
 use Rattle.kv_keys.specs.declared.error.KvError.{KvError}
@@ -132,7 +131,7 @@ line_text-whole s line = steps_text-whole (line_steps s (strip_last 13 line)) (l
 -- ---- a line that is too long
 
 -- at most one byte is dropped
-strip_length : (line : List ℕ) → length line ≤ length (strip_last 13 line) + 1
+pub strip_length : (line : List ℕ) → length line ≤ length (strip_last 13 line) + 1
 strip_length line = by_end (ends_with_byte 13 line)
   where
     by_end : (returns : Bool) → length line ≤ length (cond returns (take (length line - 1) line) line) + 1
@@ -150,12 +149,12 @@ too_long line h = rw (not_le line h) (and_false (is_utf8 line))
     not_le : (line : List ℕ) → 1400000 < length line → nat_le (length line) 1400000 ≡ false
     not_le line h = grind (arith, nat_tests)
 
-long_command : (line : List ℕ) → 1400000 < length line → line_command line ≡ Err BadCommand
+pub long_command : (line : List ℕ) → 1400000 < length line → line_command line ≡ Err BadCommand
 unfolding line_command
 long_command line h = rw (too_long line h) refl
 
 -- the first byte of a longer line is that of its beginning
-skipped_more : (line more : List ℕ) → 0 < length line → is_skipped (line ++ more) ≡ is_skipped line
+pub skipped_more : (line more : List ℕ) → 0 < length line → is_skipped (line ++ more) ≡ is_skipped line
 skipped_more [] more h = absurd (omega arith)
 skipped_more (byte ∷ line) more h = refl
 
@@ -167,7 +166,7 @@ shorter : (n : ℕ) → 1 < n → n - 1 ≡ suc (n - 2)
 shorter n h = omega arith
 
 -- with at least two bytes, a carriage return at the end says nothing of the first
-skipped_strip : (line : List ℕ) → 1 < length line → is_skipped (strip_last 13 line) ≡ is_skipped line
+pub skipped_strip : (line : List ℕ) → 1 < length line → is_skipped (strip_last 13 line) ≡ is_skipped line
 skipped_strip line h = by_end (ends_with_byte 13 line)
   where
     by_end : (returns : Bool) → is_skipped (cond returns (take (length line - 1) line) line) ≡ is_skipped line

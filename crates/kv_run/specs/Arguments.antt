@@ -1,5 +1,5 @@
 -- What the words of a command line ask for: the program's name, and then options with their values.
-use Rattle.std.specs.Prelude.{ℕ, ◌^◌, ◌&&◌, nat_lt, if◌then◌else◌, List, [], ◌∷◌, length, Some, codes, unwrap_or}
+use Rattle.std.specs.Prelude.{ℕ, ◌^◌, ◌&&◌, nat_lt, if◌then◌else◌, List, [], ◌∷◌, length, Option, Some, None, option_and_then, codes, unwrap_or}
 use Rattle.std.specs.Char.{digit_value}
 use Rattle.std.specs.List.{list_all}
 use Rattle.std.specs.Option.{option_map_or}
@@ -22,15 +22,21 @@ abbrev pub number_option : Text → Text → Rule
 number_option name default =
     record (text_option name default) { parser = Some (parsers.Unsigned 0 18446744073709551615) }
 
+-- how many workers race, which has no value where none is given
+abbrev pub race_option : Rule
+race_option =
+    record (new_rule (codes "race")) { long = Some (codes "race"); action = Some Set; value_names = 1; parser = Some (parsers.Unsigned 1 16) }
+
 -- the program, and its options
 abbrev pub program_app : App
 program_app =
-    with_rule (with_rule (with_rule (with_rule (with_rule (new_app (codes "kvbucket"))
+    with_rule (with_rule (with_rule (with_rule (with_rule (with_rule (new_app (codes "kvbucket"))
     (text_option (codes "bucket") (codes "kv")))
     (number_option (codes "history") (codes "1")))
     (number_option (codes "value-limit") (codes "1048576")))
     (number_option (codes "write-limit") (codes "1000000")))
-    (number_option (codes "revision-limit") (codes "4294967295"))
+    (number_option (codes "revision-limit") (codes "4294967295")))
+    race_option
 
 -- why the words are refused, if they are; to ask for help is among the reasons
 abbrev pub faults_of : List Text → Kinds
@@ -42,6 +48,13 @@ number_or default text =
     let digits = without_leading_plus text in
     if nat_lt 0 (length digits) && list_all (λ d. nat_lt (digit_value d) 10) digits && nat_lt (digits_value 10 digits) (2 ^ 64)
     then digits_value 10 digits else default
+
+-- the same, of which another text has none
+abbrev pub number_of : Text → Option ℕ
+number_of text =
+    let digits = without_leading_plus text in
+    if nat_lt 0 (length digits) && list_all (λ d. nat_lt (digit_value d) 10) digits && nat_lt (digits_value 10 digits) (2 ^ 64)
+    then Some (digits_value 10 digits) else None
 
 -- what the options say, by what was given for each, or else is its default
 abbrev pub text_in : Text → Text → List Row → Text
@@ -62,6 +75,22 @@ config_in rows = record {
 -- the configuration that the words ask for
 abbrev pub config_of : List Text → Configuration
 config_of words = config_in (matches_of program_app words)
+
+-- how many workers race over the script, where the words ask for a race
+abbrev pub race_of : List Text → Option ℕ
+race_of words = option_and_then number_of (one_of (codes "race") (matches_of program_app words))
+
+-- what the words ask for: a configuration, and perhaps a race of so many workers
+pub record Wanted : Type 0 where
+  pub config : Configuration
+  pub race : Option ℕ
+
+abbrev pub wanted_of : List Text → Wanted
+wanted_of words = record { config = config_of words; race = race_of words }
+
+-- a configuration alone, with no race
+abbrev pub alone : Configuration → Wanted
+alone config = record { config = config; race = None }
 
 -- the configuration where no option is given
 abbrev pub defaults : Configuration

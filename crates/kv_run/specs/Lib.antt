@@ -1,8 +1,10 @@
 pub mod Arguments
+pub mod Bounds
 pub mod Faults
 pub mod Lines
 pub mod Outcome
 pub mod Programs
+pub mod Races
 pub mod Reading
 pub mod Replaying
 pub mod Scripted

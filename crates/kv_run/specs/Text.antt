@@ -1,5 +1,5 @@
 -- The text of a whole script: each line is read, done on the state that the lines before it left, and answered.
-use Rattle.std.specs.Prelude.{ℕ, suc, zero, Bool, true, false, if◌then◌else◌, List, [], ◌∷◌, ◌++◌, Result, Ok, Err}
+use Rattle.std.specs.Prelude.{ℕ, suc, zero, Bool, true, false, if◌then◌else◌, List, [], ◌∷◌, Result, Ok, Err}
 use Rattle.std.specs.Io.BufRead.{strip_last}
 use Rattle.std.specs.List.{flat_map}
 use Rattle.kv_keys.specs.Places.{fnv32_of}
@@ -7,7 +7,7 @@ use Rattle.kv_keys.specs.declared.error.KvError.{KvError}
 use Rattle.kv_store.specs.Acceptance.{accept}
 use Rattle.kv_store.specs.Configuration.{Configuration}
 use Rattle.kv_bucket.specs.declared.call.Call.TheVariants as calls
-use Rattle.kv_bucket.specs.Answers.{Answer, Revision, Sealed, AnsweredEntry, Entries, Keys, Numbers, Watching, Marker, Empty, Ended, Refused}
+use Rattle.kv_bucket.specs.Answers.{Answer, AnsweredEntry, Marker}
 use Rattle.kv_bucket.specs.State.{State, empty, after, after_write, answer_to, answer_write}
 use Rattle.kv_script.specs.Answered.{answer_text, taken_text, ended_text}
 use Rattle.kv_script.specs.Commands.{Meaning, Write, Get, GetAt, History, Watch, Take, Stop, Status, Seal, Place, is_skipped, line_command}

@@ -1,7 +1,6 @@
 //! The answer to one line.
 
 ghost use Rattle.std.specs.Prelude.{◌≡◌, ◌++◌, ℕ, Ok, OnOk, OnErr, IfErr};
-ghost use Rattle.std.specs.Io.BufRead.{strip_last};
 ghost use Rattle.kv_bucket.specs.Held.{Represents};
 ghost use Rattle.kv_bucket.specs.State.{State};
 ghost use Rattle.kv_keys.specs.declared.error.KvError.TheVariants.{OutOfMemory};
@@ -19,7 +18,7 @@ use crate::watches::{answer_stop, answer_watch};
 use crate::writes::{answer_seal, answer_write};
 use kv_bucket::Bucket;
 use kv_keys::KvError;
-use kv_script::{Command, is_skipped, parse};
+use kv_script::{Command, is_skipped, parse, without_return};
 use std::alloc::Global;
 
 /// Does one command, and appends its answer lines.
@@ -95,15 +94,4 @@ pub(crate) fn answer_whole_line(
     ensures memory { IfErr result (λ e. e ≡ OutOfMemory) }
 {
     answer_line(alloc, bucket, without_return(line), out)
-}
-
-/// The line without the one carriage return at its end.
-fn without_return(line: &[u8]) -> &[u8]
-    ensures { result.now ≡ strip_last 13 line.entry.now }
-{
-    if !line.is_empty() && line[line.len() - 1] == b'\r' {
-        &line[..line.len() - 1]
-    } else {
-        line
-    }
 }

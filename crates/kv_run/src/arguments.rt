@@ -5,7 +5,7 @@ ghost use Rattle.clap.specs.Kinds.{HasKind};
 ghost use Rattle.clap.specs.Simple.{app_of};
 ghost use Rattle.clap.specs.Walk.{rule_of};
 ghost use Rattle.kv_keys.specs.declared.error.KvError.TheVariants.{OutOfMemory};
-ghost use Rattle.kv_run.specs.Arguments.{config_of, faults_of, number_option, program_app, text_option};
+ghost use Rattle.kv_run.specs.Arguments.{faults_of, number_option, program_app, race_option, text_option, wanted_of};
 
 use clap::{Arg, ArgAction, Command, Error, value_parser};
 use kv_keys::KvError;
@@ -21,6 +21,7 @@ pub(crate) struct Arguments<'a> {
     value_limit: u64,
     write_limit: u64,
     revision_limit: u64,
+    race: Option<u64>,
 }
 
 /// An option that takes a text.
@@ -48,6 +49,21 @@ fn number<'a>(alloc: Global, name: &'a str, default: &'a str, help: &'a str) -> 
     ensures local { result.global ≡ false }
 {
     text(alloc, name, "N", default, help).value_parser(value_parser!(u64))
+}
+
+/// The option for a race.
+fn race<'a>(alloc: Global) -> Arg<'a>
+    ensures rule { rule_of result ≡ race_option }
+    ensures local { result.global ≡ false }
+{
+    Arg::new(alloc, "race")
+        .long("race")
+        .action(ArgAction::Set)
+        .value_name("N")
+        .help(
+            "Read the whole script first, deal its writes to N workers that write at once, 1 to 16, and show each watch from its beginning",
+        )
+        .value_parser(value_parser!(u64).range(1..=16))
 }
 
 /// What stands below the options in the help.
@@ -102,20 +118,24 @@ fn command<'a>(alloc: Global) -> Result<Command<'a>, AllocError>
             "revision-limit",
             "4294967295",
             "The last revision, 1 to 4294967295",
-        ))
+        ))?
+        .arg(race(alloc))
 }
 
 impl<'a> Model for Arguments<'a> {
-    ghost use Rattle.kv_store.specs.Configuration.{Configuration};
+    ghost use Rattle.kv_run.specs.Arguments.{Wanted};
 
-    ghost Value = { Configuration };
+    ghost Value = { Wanted };
 
     ghost view = { λ a. record {
-      bucket = a.bucket.now;
-      history = a.history;
-      value_limit = a.value_limit;
-      write_limit = a.write_limit;
-      revision_limit = a.revision_limit;
+      config = record {
+        bucket = a.bucket.now;
+        history = a.history;
+        value_limit = a.value_limit;
+        write_limit = a.write_limit;
+        revision_limit = a.revision_limit;
+      };
+      race = a.race;
     } };
 }
 
@@ -124,7 +144,7 @@ impl<'a> Arguments<'a> {
     pub(crate) fn parse(alloc: Global, words: &'a [String]) -> Result<Arguments<'a>, Error>
         ensures { MatchResult result
             (λ arguments. (faults_of (map string_bytes words.entry.now) ≡ [])
-            × (arguments ≡ config_of (map string_bytes words.entry.now)))
+            × (arguments ≡ wanted_of (map string_bytes words.entry.now)))
             (λ e. HasKind (faults_of (map string_bytes words.entry.now)) e) }
     {
         let matches = command(alloc)?.try_get_matches_from(words)?;
@@ -136,12 +156,20 @@ impl<'a> Arguments<'a> {
             revision_limit: matches
                 .get_one::<u64>("revision-limit")
                 .unwrap_or(4_294_967_295),
+            race: matches.get_one::<u64>("race"),
         })
+    }
+
+    /// How many workers race, where they ask for a race.
+    pub(crate) fn race(&self) -> Option<u64>
+        ensures { result ≡ self.now.race }
+    {
+        self.race
     }
 
     /// The configuration that they ask for. It is not checked here.
     pub(crate) fn config(&self, alloc: Global) -> Result<Config, KvError>
-        ensures ok { IfOk result (λ config. config ≡ self.now) }
+        ensures ok { IfOk result (λ config. config ≡ self.now.config) }
         ensures err { IfErr result (λ e. e ≡ OutOfMemory) }
     {
         Ok(Config {

@@ -23,7 +23,7 @@ use kv_store::Config;
 use std::alloc::Global;
 
 /// How many bytes are asked for at a time.
-const BUFFER_BYTES: usize = 65_536;
+pub(crate) const BUFFER_BYTES: usize = 65_536;
 
 /// Writes the answers to the lines that these bytes end. Where memory runs out, those that were made before are written.
 fn answer_bytes<K: Sink>(
@@ -105,7 +105,7 @@ fn answer_lines<S: Source, K: Sink>(
 }
 
 /// So many bytes to read into.
-fn new_buffer(alloc: Global, bytes: usize) -> Result<Vec<u8>, KvError>
+pub(crate) fn new_buffer(alloc: Global, bytes: usize) -> Result<Vec<u8>, KvError>
     ensures ok { IfOk result (λ buffer. length buffer.items ≡ bytes) }
     ensures err { IfErr result (λ e. e ≡ OutOfMemory) }
 {

@@ -3,36 +3,77 @@
 ghost use Rattle.std.specs.Prelude.{◌≡◌, ◌≢◌, ◌≤◌, ◌⊎◌, [], map, string_bytes, Err, OnOk, IfErr};
 ghost use Rattle.clap.specs.Kinds.{IsAmong};
 ghost use Rattle.clap.specs.Values.{kind_of};
-ghost use Rattle.kv_run.specs.Arguments.{config_of, faults_of};
-ghost use Rattle.kv_run.specs.Outcome.{Replays, Stops};
-ghost use Rattle.kv_run.specs.Programs.{status_of, IsRefused};
-ghost use Rattle.kv_run.specs.Text.{script_text, whole_text};
-ghost use Rattle.kv_store.specs.Configuration.{configure};
+ghost use Rattle.kv_run.specs.Arguments.{config_of, faults_of, race_of, wanted_of};
+ghost use Rattle.kv_run.specs.Faults.{IsBadConfiguration};
+ghost use Rattle.kv_run.specs.Programs.{checked, status_of, IsRefused, RunStops, Runs};
+ghost use Rattle.kv_run.specs.Races.{RanRace};
+ghost use Rattle.kv_run.specs.Replaying.{Ran};
 
 use crate::arguments::Arguments;
-use crate::streams::replay;
+use crate::reader::Noted;
+use crate::sink::Whole;
+use crate::streams::{replay, replay_race};
 use clap::Error;
 use clap::error::ErrorKind;
 use kv_keys::KvError;
+use kv_store::Config;
 use std::alloc::Global;
 use std::io::{Read, Write};
+use std::sync::Wait;
+use std::thread::Threads;
 
-/// Runs the script of the reader under the arguments.
-fn run<R: Read, W: Write>(
+/// Replays from a reader of std into a writer of std.
+fn replay_noted<R: Read, W: Write>(
+    alloc: Global,
+    reader: &mut R,
+    writer: &mut W,
+    config: &Config,
+) -> Result<(), KvError>
+    ensures ran { Ran config.now (R.remaining reader.old) (R.remaining reader.new) (W.contents writer.old) (W.contents writer.new) result }
+    ensures refused { IfErr result (λ e. IsBadConfiguration e → (reader.new ≡ reader.old) × (writer.new ≡ writer.old)) }
+{
+    let mut source = Noted::new(reader);
+    let mut sink = Whole::new(writer);
+    replay(alloc, &mut source, &mut sink, config)
+}
+
+/// Races over the script of a reader of std, into a writer of std.
+fn race_noted<T: Threads + Wait + Sync, R: Read, W: Write>(
+    rt: &T,
+    alloc: Global,
+    reader: &mut R,
+    writer: &mut W,
+    config: &Config,
+    workers: usize,
+) -> Result<(), KvError>
+    ensures ran { RanRace config.now workers (R.remaining reader.old) (R.remaining reader.new) (W.contents writer.old) (W.contents writer.new) result }
+    ensures refused { IfErr result (λ e. IsBadConfiguration e → (reader.new ≡ reader.old) × (writer.new ≡ writer.old)) }
+{
+    let mut source = Noted::new(reader);
+    let mut sink = Whole::new(writer);
+    replay_race(rt, alloc, &mut source, &mut sink, config, workers)
+}
+
+/// Runs the script of the reader under the arguments, or a race over it.
+fn run<T: Threads + Wait + Sync, R: Read, W: Write>(
+    rt: &T,
     alloc: Global,
     arguments: &Arguments<'_>,
     reader: &mut R,
     writer: &mut W,
 ) -> Result<(), KvError>
-    ensures ok { OnOk result (Replays (script_text arguments.now) (whole_text arguments.now)
+    ensures ok { OnOk result (Runs arguments.now.race arguments.now.config
         (R.remaining reader.old) (R.remaining reader.new) (W.contents writer.old) (W.contents writer.new)) }
-    ensures stopped { IfErr result (λ e. status_of e ≡ 1 → Stops (script_text arguments.now) (whole_text arguments.now)
+    ensures stopped { IfErr result (λ e. status_of e ≡ 1 → RunStops arguments.now.race arguments.now.config
         (R.remaining reader.old) (R.remaining reader.new) (W.contents writer.old) (W.contents writer.new)) }
-    ensures refused { IfErr result (λ e. status_of e ≡ 2 → (configure arguments.now ≡ Err e)
+    ensures refused { IfErr result (λ e. status_of e ≡ 2 → (checked arguments.now.race arguments.now.config ≡ Err e)
         × ((reader.new ≡ reader.old) × (writer.new ≡ writer.old))) }
 {
     let config = arguments.config(alloc)?;
-    replay(alloc, reader, writer, &config)
+    match arguments.race() {
+        Some(workers) => race_noted(rt, alloc, reader, writer, &config, workers as usize),
+        None => replay_noted(alloc, reader, writer, &config),
+    }
 }
 
 /// Names on `faults` the refusal that ended the run, and answers its status.
@@ -70,7 +111,11 @@ fn refuse<W: Write, F: Write>(error: &Error, writer: &mut W, faults: &mut F) -> 
 /// The status is 0 where the script was run to its end, or help was shown; 1 where the run ended for want of memory or
 /// as a device failed; 2 for a fault in the arguments or a configuration that is not legal. What went wrong is told on
 /// `faults`; that this fails changes no status.
-pub fn program<R: Read, W: Write, F: Write>(
+///
+/// With the option for a race the script is read to its end first, and workers race over it: their threads are those of
+/// `rt`.
+pub fn program<T: Threads + Wait + Sync, R: Read, W: Write, F: Write>(
+    rt: &T,
     alloc: Global,
     words: &[String],
     reader: &mut R,
@@ -82,18 +127,18 @@ pub fn program<R: Read, W: Write, F: Write>(
     ensures done { result ≡ 0 →
         (IsAmong ErrorKind.DisplayHelp (faults_of (map string_bytes words.now)) × (reader.new ≡ reader.old))
         ⊎ ((faults_of (map string_bytes words.now) ≡ [])
-        × Replays (script_text (config_of (map string_bytes words.now))) (whole_text (config_of (map string_bytes words.now)))
+        × Runs (race_of (map string_bytes words.now)) (config_of (map string_bytes words.now))
         (R.remaining reader.old) (R.remaining reader.new) (W.contents writer.old) (W.contents writer.new)) }
     // A beginning of the text was written; or nothing was read.
     ensures stopped { result ≡ 1 → (reader.new ≡ reader.old)
-        ⊎ Stops (script_text (config_of (map string_bytes words.now))) (whole_text (config_of (map string_bytes words.now)))
+        ⊎ RunStops (race_of (map string_bytes words.now)) (config_of (map string_bytes words.now))
         (R.remaining reader.old) (R.remaining reader.new) (W.contents writer.old) (W.contents writer.new) }
     // The words are refused, or the configuration that they ask for is; then nothing was read or written.
-    ensures refused { result ≡ 2 → IsRefused (faults_of (map string_bytes words.now)) (config_of (map string_bytes words.now))
+    ensures refused { result ≡ 2 → IsRefused (faults_of (map string_bytes words.now)) (wanted_of (map string_bytes words.now))
         × ((reader.new ≡ reader.old) × (writer.new ≡ writer.old)) }
 {
     match Arguments::parse(alloc, words) {
-        Ok(arguments) => match run(alloc, &arguments, reader, writer) {
+        Ok(arguments) => match run(rt, alloc, &arguments, reader, writer) {
             Ok(()) => 0,
             Err(error) => fail(error, faults),
         },

@@ -1,6 +1,7 @@
 //! Reads the lines of a script as commands.
 
 ghost use Rattle.std.specs.Prelude.{◌≡◌};
+ghost use Rattle.std.specs.Io.BufRead.{strip_last};
 ghost use Rattle.std.specs.List.{list_all};
 ghost use Rattle.kv_keys.specs.Grammar.{is_present};
 ghost use Rattle.kv_script.specs.Commands.{Gives, texts, is_skipped, named_command, words_command, present_words_command, line_command};
@@ -20,6 +21,17 @@ pub fn is_skipped(line: &[u8]) -> bool
     match line.first() {
         Some(byte) => *byte == b'#',
         None => true,
+    }
+}
+
+/// A line as it was read, without its line feed and without the one carriage return before that.
+pub fn without_return(line: &[u8]) -> &[u8]
+    ensures { result.now ≡ strip_last 13 line.entry.now }
+{
+    if !line.is_empty() && line[line.len() - 1] == b'\r' {
+        &line[..line.len() - 1]
+    } else {
+        line
     }
 }
 

@@ -23,7 +23,7 @@ pub use answers::{
 };
 pub use command::Command;
 pub use entries::{append_entry, append_history, append_keys};
-pub use grammar::{is_skipped, parse};
+pub use grammar::{is_skipped, parse, without_return};
 pub use refusals::{append_refusal, append_worker_refusal};
 pub use status::{append_place, append_status};
 pub use taken::append_taken_entry;

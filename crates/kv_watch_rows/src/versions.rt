@@ -2,7 +2,7 @@
 //! is as it was, and the same call, made again, goes on.
 
 use kv_keys::{Key, KvError};
-use kv_store::{Config, Op, Request, Status, Version};
+use kv_store::{Config, Op, Request, Status, Version, Write};
 use std::alloc::Global;
 use std::process::Abort;
 use std::test::Fail;
@@ -82,25 +82,38 @@ fn key(alloc: Global, text: &str) -> Result<Key, KvError> {
     }
 }
 
+fn bytes(alloc: Global, value: &str) -> Result<Vec<u8>, KvError> {
+    Ok(Vec::from_slice(alloc, value.as_bytes())?)
+}
+
+fn put(alloc: Global, key: Key, value: &str) -> Result<Request, KvError> {
+    let value = bytes(alloc, value)?;
+    Ok(Request::Put { key, value })
+}
+
+fn create(alloc: Global, key: Key, value: &str) -> Result<Request, KvError> {
+    let value = bytes(alloc, value)?;
+    Ok(Request::Create { key, value })
+}
+
+fn update(alloc: Global, key: Key, value: &str, last: u64) -> Result<Request, KvError> {
+    let value = bytes(alloc, value)?;
+    Ok(Request::Update { key, value, last })
+}
+
+fn request_of(alloc: Global, key: Key, ask: Ask) -> Result<Request, KvError> {
+    match ask {
+        Ask::Put(value) => put(alloc, key, value),
+        Ask::Create(value) => create(alloc, key, value),
+        Ask::Update(value, last) => update(alloc, key, value, last),
+        Ask::Delete(last) => Ok(Request::Delete { key, last }),
+        Ask::Purge(last) => Ok(Request::Purge { key, last }),
+    }
+}
+
 fn request_once(alloc: Global, text: &str, ask: Ask) -> Result<Request, KvError> {
     let key = Key::parse(alloc, text)?;
-    Ok(match ask {
-        Ask::Put(value) => Request::Put {
-            key,
-            value: Vec::from_slice(alloc, value.as_bytes())?,
-        },
-        Ask::Create(value) => Request::Create {
-            key,
-            value: Vec::from_slice(alloc, value.as_bytes())?,
-        },
-        Ask::Update(value, last) => Request::Update {
-            key,
-            value: Vec::from_slice(alloc, value.as_bytes())?,
-            last,
-        },
-        Ask::Delete(last) => Request::Delete { key, last },
-        Ask::Purge(last) => Request::Purge { key, last },
-    })
+    request_of(alloc, key, ask)
 }
 
 fn request(alloc: Global, text: &str, ask: Ask) -> Result<Request, KvError> {
@@ -122,6 +135,52 @@ fn empty(alloc: Global, config: &Config) -> Result<Version, KvError> {
         Err(KvError::OutOfMemory) => Version::empty(alloc, config),
         version => version,
     }
+}
+
+// A new bucket with the defaults.
+fn kv(alloc: Global) -> Result<Version, KvError> {
+    let config = named(alloc, "kv")?;
+    empty(alloc, &config)
+}
+
+fn keep(config: &mut Config, history: u64) {
+    config.history = history;
+}
+
+// A new bucket that keeps so many entries of each key.
+fn keeping(alloc: Global, history: u64) -> Result<Version, KvError> {
+    let mut config = named(alloc, "kv")?;
+    keep(&mut config, history);
+    empty(alloc, &config)
+}
+
+// The latest entry of a key.
+fn latest<'a>(version: &'a Version, key: &Key) -> Result<&'a Write, KvError> {
+    version.get(key)
+}
+
+fn last_revision(version: &Version, key: &Key) -> u64 {
+    version.last_revision(key)
+}
+
+fn newest(version: &Version) -> u64 {
+    version.revision()
+}
+
+fn numbers(version: &Version) -> Status {
+    version.status()
+}
+
+fn tell_the_same(
+    rt: &impl Abort,
+    alloc: Global,
+    first: &Version,
+    second: &Version,
+) -> Result<(), KvError> {
+    let first = look(alloc, first)?;
+    let second = look(alloc, second)?;
+    assert!(rt; first == second);
+    Ok(())
 }
 
 // The next version. A refusal leaves this one as it was.

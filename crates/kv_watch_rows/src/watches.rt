@@ -47,9 +47,13 @@ fn mark<'a>(op: Op, key: &'a str) -> Deed<'a> {
     Deed { op, key, value: "" }
 }
 
+fn keep(config: &mut Config, history: u64) {
+    config.history = history;
+}
+
 fn empty_once(alloc: Global, history: u64) -> Result<Version, KvError> {
     let mut config = Config::named(alloc, "kv")?;
-    config.history = history;
+    keep(&mut config, history);
     Version::empty(alloc, &config)
 }
 
@@ -95,10 +99,15 @@ fn write_all(alloc: Global, version: Version, deeds: &[Deed<'_>]) -> Result<Vers
     Ok(version)
 }
 
+// A bucket with these writes that keeps so many entries of each key.
+fn kept(alloc: Global, history: u64, deeds: &[Deed<'_>]) -> Result<Version, KvError> {
+    let version = empty(alloc, history)?;
+    write_all(alloc, version, deeds)
+}
+
 // A bucket with these writes that keeps one entry of each key.
 fn written(alloc: Global, deeds: &[Deed<'_>]) -> Result<Version, KvError> {
-    let version = empty(alloc, 1)?;
-    write_all(alloc, version, deeds)
+    kept(alloc, 1, deeds)
 }
 
 fn filters(alloc: Global, text: &str) -> Result<Filters, KvError> {

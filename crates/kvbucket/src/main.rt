@@ -30,7 +30,7 @@ fn main(rt: HostRuntime) -> ExitCode {
         Ok(words) => {
             let mut reader = rt.reader();
             let mut writer = rt.stdout();
-            program(alloc, &words, &mut reader, &mut writer, &mut faults)
+            program(&rt, alloc, &words, &mut reader, &mut writer, &mut faults)
         }
         Err(error) => unread(&error, &mut faults),
     };

@@ -2,14 +2,19 @@
 
 use super::*;
 use kv_keys::KvError;
-use kv_run::replay;
+use kv_run::{Noted, Whole, replay};
 use kv_store::Config;
 
 fn run_script(rt: &impl Abort, alloc: Global) -> Result<(), KvError> {
     let config = Config::named(alloc, "settings")?;
     let mut script: &[u8] = b"put app.port ODA=\nget app.port\nput app..port ODA=\n";
     let mut answers: Vec<u8> = Vec::new(alloc);
-    replay(alloc, &mut script, &mut answers, &config)?;
+    replay(
+        alloc,
+        &mut Noted::new(&mut script),
+        &mut Whole::new(&mut answers),
+        &config,
+    )?;
 
     let text = concat!(
         "{\"revision\":1}\n",

@@ -1,6 +1,8 @@
 //! The program: its arguments, its status and what it tells of faults.
 
 use super::*;
+use std::sync::Wait;
+use std::thread::Threads;
 
 fn words_once(alloc: Global, arguments: &[&str]) -> Result<Vec<String>, AllocError> {
     let mut words = Vec::new(alloc);
@@ -11,7 +13,7 @@ fn words_once(alloc: Global, arguments: &[&str]) -> Result<Vec<String>, AllocErr
     Ok(words)
 }
 
-fn words(alloc: Global, arguments: &[&str]) -> Result<Vec<String>, AllocError> {
+pub(super) fn words(alloc: Global, arguments: &[&str]) -> Result<Vec<String>, AllocError> {
     match words_once(alloc, arguments) {
         Err(AllocError) => words_once(alloc, arguments),
         words => words,
@@ -20,17 +22,22 @@ fn words(alloc: Global, arguments: &[&str]) -> Result<Vec<String>, AllocError> {
 
 // What the program came to.
 #[derive(Drop)]
-struct Done {
-    status: u8,
-    written: Vec<u8>,
-    faults: Vec<u8>,
+pub(super) struct Done {
+    pub(super) status: u8,
+    pub(super) written: Vec<u8>,
+    pub(super) faults: Vec<u8>,
 }
 
-fn run_once(alloc: Global, words: &[String], script: &[u8]) -> Result<Done, AllocError> {
+pub(super) fn run_once<T: Threads + Wait + Sync>(
+    rt: &T,
+    alloc: Global,
+    words: &[String],
+    script: &[u8],
+) -> Result<Done, AllocError> {
     let mut reader = script;
     let mut written = paper(alloc)?;
     let mut faults = paper(alloc)?;
-    let status = program(alloc, words, &mut reader, &mut written, &mut faults);
+    let status = program(rt, alloc, words, &mut reader, &mut written, &mut faults);
     Ok(Done {
         status,
         written,
@@ -39,16 +46,17 @@ fn run_once(alloc: Global, words: &[String], script: &[u8]) -> Result<Done, Allo
 }
 
 // Runs the program, and runs it again where it ended for want of memory and whole lines of the text were written.
-fn run_program(
+fn run_program<T: Threads + Wait + Sync>(
+    rt: &T,
     alloc: Global,
     arguments: &[&str],
     script: &str,
     text: &[u8],
 ) -> Result<Done, AllocError> {
     let words = words(alloc, arguments)?;
-    let first = run_once(alloc, &words, script.as_bytes())?;
+    let first = run_once(rt, alloc, &words, script.as_bytes())?;
     if first.status == 1 && wants_memory(&first, text) {
-        return run_once(alloc, &words, script.as_bytes());
+        return run_once(rt, alloc, &words, script.as_bytes());
     }
     Ok(first)
 }
@@ -58,8 +66,14 @@ fn wants_memory(done: &Done, text: &[u8]) -> bool {
 }
 
 // Whether the program writes this text and answers 0.
-fn runs(alloc: Global, arguments: &[&str], script: &str, text: &str) -> Result<bool, AllocError> {
-    let done = run_program(alloc, arguments, script, text.as_bytes())?;
+fn runs<T: Threads + Wait + Sync>(
+    rt: &T,
+    alloc: Global,
+    arguments: &[&str],
+    script: &str,
+    text: &str,
+) -> Result<bool, AllocError> {
+    let done = run_program(rt, alloc, arguments, script, text.as_bytes())?;
     let is_written = done.written.as_slice() == text.as_bytes();
     Ok(done.status == 0 && is_written && done.faults.is_empty())
 }
@@ -70,12 +84,17 @@ fn is_refused(done: &Done, fault: &str) -> bool {
 
 // Whether the program refuses these arguments by a status of 2, writes nothing, and tells this. The text of a fault may
 // be shorter where memory was refused while it was made, so a run that told another is made again.
-fn refuses(alloc: Global, arguments: &[&str], fault: &str) -> Result<bool, AllocError> {
-    let first = run_program(alloc, arguments, "put a -\n", b"")?;
+pub(super) fn refuses<T: Threads + Wait + Sync>(
+    rt: &T,
+    alloc: Global,
+    arguments: &[&str],
+    fault: &str,
+) -> Result<bool, AllocError> {
+    let first = run_program(rt, alloc, arguments, "put a -\n", b"")?;
     if is_refused(&first, fault) {
         return Ok(true);
     }
-    let second = run_program(alloc, arguments, "put a -\n", b"")?;
+    let second = run_program(rt, alloc, arguments, "put a -\n", b"")?;
     Ok(is_refused(&second, fault))
 }
 
@@ -83,14 +102,16 @@ fn refuses(alloc: Global, arguments: &[&str], fault: &str) -> Result<bool, Alloc
 fn names_that_are_none(rt: HostRuntime) -> Result<(), Fail> {
     assert!(rt;
         refuses(
+            &rt,
             rt.alloc(),
             &["--bucket", "my.bucket"],
             "kvbucket: BadBucket\n"
         )?
     );
-    assert!(rt; refuses(rt.alloc(), &["--bucket", ""], "kvbucket: BadBucket\n")?);
+    assert!(rt; refuses(&rt, rt.alloc(), &["--bucket", ""], "kvbucket: BadBucket\n")?);
     assert!(rt;
         refuses(
+            &rt,
             rt.alloc(),
             &["--bucket", "", "--history", "0"],
             "kvbucket: BadBucket\n"
@@ -101,11 +122,33 @@ fn names_that_are_none(rt: HostRuntime) -> Result<(), Fail> {
 
 #[test]
 fn numbers_outside_their_limits(rt: HostRuntime) -> Result<(), Fail> {
-    assert!(rt; refuses(rt.alloc(), &["--history", "65"], "kvbucket: BadConfig\n")?);
-    assert!(rt; refuses(rt.alloc(), &["--history", "0"], "kvbucket: BadConfig\n")?);
-    assert!(rt; refuses(rt.alloc(), &["--write-limit", "0"], "kvbucket: BadConfig\n")?);
     assert!(rt;
         refuses(
+            &rt,
+            rt.alloc(),
+            &["--history", "65"],
+            "kvbucket: BadConfig\n"
+        )?
+    );
+    assert!(rt;
+        refuses(
+            &rt,
+            rt.alloc(),
+            &["--history", "0"],
+            "kvbucket: BadConfig\n"
+        )?
+    );
+    assert!(rt;
+        refuses(
+            &rt,
+            rt.alloc(),
+            &["--write-limit", "0"],
+            "kvbucket: BadConfig\n"
+        )?
+    );
+    assert!(rt;
+        refuses(
+            &rt,
             rt.alloc(),
             &["--value-limit", "1048577"],
             "kvbucket: BadConfig\n"
@@ -113,6 +156,7 @@ fn numbers_outside_their_limits(rt: HostRuntime) -> Result<(), Fail> {
     );
     assert!(rt;
         refuses(
+            &rt,
             rt.alloc(),
             &["--revision-limit", "0"],
             "kvbucket: BadConfig\n"
@@ -125,6 +169,7 @@ fn numbers_outside_their_limits(rt: HostRuntime) -> Result<(), Fail> {
 fn arguments_that_are_none(rt: HostRuntime) -> Result<(), Fail> {
     assert!(rt;
         refuses(
+            &rt,
             rt.alloc(),
             &["--history", "x"],
             "error: invalid value 'x' for '--history <N>'"
@@ -132,6 +177,7 @@ fn arguments_that_are_none(rt: HostRuntime) -> Result<(), Fail> {
     );
     assert!(rt;
         refuses(
+            &rt,
             rt.alloc(),
             &["--colour"],
             "error: unexpected argument '--colour' found"
@@ -140,15 +186,15 @@ fn arguments_that_are_none(rt: HostRuntime) -> Result<(), Fail> {
     Ok(())
 }
 
-fn shows_help(alloc: Global) -> Result<bool, AllocError> {
-    let done = run_program(alloc, &["--help"], "put a -\n", b"")?;
+fn shows_help<T: Threads + Wait + Sync>(rt: &T, alloc: Global) -> Result<bool, AllocError> {
+    let done = run_program(rt, alloc, &["--help"], "put a -\n", b"")?;
     let is_shown = done.written.starts_with(b"Runs a script of commands");
     Ok(done.status == 0 && is_shown && done.faults.is_empty())
 }
 
 #[test]
 fn help(rt: HostRuntime) -> Result<(), Fail> {
-    assert!(rt; shows_help(rt.alloc())? || shows_help(rt.alloc())?);
+    assert!(rt; shows_help(&rt, rt.alloc())? || shows_help(&rt, rt.alloc())?);
     Ok(())
 }
 
@@ -167,7 +213,7 @@ fn history_of_two(rt: HostRuntime) -> Result<(), Fail> {
         {\"key\":\"k\",\"op\":\"PUT\",\"revision\":3,\"size\":1,\"value\":\"Mw==\",\"watch\":1}\n\
         {\"marker\":true,\"watch\":1}\n\
         {\"empty\":true,\"watch\":1}\n";
-    assert!(rt; runs(rt.alloc(), &["--history", "2"], script, text)?);
+    assert!(rt; runs(&rt, rt.alloc(), &["--history", "2"], script, text)?);
     Ok(())
 }
 
@@ -181,6 +227,7 @@ fn other_arguments(rt: HostRuntime) -> Result<(), Fail> {
         {\"bucket\":\"b-1_B\",\"history\":1,\"last\":2,\"sealed\":false,\"stored\":2,\"values\":1,\"watches\":0}\n";
     assert!(rt;
         runs(
+            &rt,
             rt.alloc(),
             &["--bucket=b-1_B", "--value-limit=1", "--write-limit=2"],
             script,
@@ -189,6 +236,7 @@ fn other_arguments(rt: HostRuntime) -> Result<(), Fail> {
     );
     assert!(rt;
         runs(
+            &rt,
             rt.alloc(),
             &["--bucket=b-1_B", "--value-limit=1", "--revision-limit=2"],
             script,

@@ -82,7 +82,9 @@ fn replayed_once(alloc: Global, config: &Config, given: Given<'_>) -> Result<Ran
         most: given.write_most,
         calls_left: given.write_calls,
     };
-    let answer = replay_bounded(alloc, &mut reader, &mut writer, config, given.calls);
+    let mut source = Noted::new(&mut reader);
+    let mut sink = Whole::new(&mut writer);
+    let answer = replay_bounded(alloc, &mut source, &mut sink, config, given.calls);
     Ok(Ran {
         answer,
         written: writer.bytes,

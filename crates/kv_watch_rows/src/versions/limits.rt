@@ -2,6 +2,12 @@
 
 use super::*;
 
+fn with_limits(config: &mut Config, value_limit: u64, write_limit: u64, revision_limit: u64) {
+    config.value_limit = value_limit;
+    config.write_limit = write_limit;
+    config.revision_limit = revision_limit;
+}
+
 fn limited(
     alloc: Global,
     value_limit: u64,
@@ -9,9 +15,7 @@ fn limited(
     revision_limit: u64,
 ) -> Result<Version, KvError> {
     let mut config = named(alloc, "kv")?;
-    config.value_limit = value_limit;
-    config.write_limit = write_limit;
-    config.revision_limit = revision_limit;
+    with_limits(&mut config, value_limit, write_limit, revision_limit);
     empty(alloc, &config)
 }
 
@@ -42,7 +46,7 @@ fn write_limit(rt: HostRuntime) -> Result<(), Fail> {
         ("n", Ask::Purge(None), Err(KvError::JournalFull)),
     ];
     let version = run(&rt, rt.alloc(), full(&rt, rt.alloc())?, &steps)?;
-    assert_eq!(rt; version.revision(), 2);
+    assert_eq!(rt; newest(&version), 2);
     Ok(())
 }
 
@@ -88,7 +92,7 @@ fn first_refusal_of_a_sealed_bucket(rt: HostRuntime) -> Result<(), Fail> {
 fn a_seal_of_a_sealed_bucket(rt: HostRuntime) -> Result<(), Fail> {
     let once = sealed(&rt, rt.alloc(), &full(&rt, rt.alloc())?)?;
     let twice = sealed(&rt, rt.alloc(), &once)?;
-    assert!(rt; look(rt.alloc(), &once)? == look(rt.alloc(), &twice)?);
+    tell_the_same(&rt, rt.alloc(), &once, &twice)?;
     let status = Status {
         history: 1,
         last: 2,
@@ -96,7 +100,7 @@ fn a_seal_of_a_sealed_bucket(rt: HostRuntime) -> Result<(), Fail> {
         stored: 2,
         values: 2,
     };
-    assert_eq!(rt; twice.status(), status);
+    assert_eq!(rt; numbers(&twice), status);
     Ok(())
 }
 
@@ -120,13 +124,35 @@ fn large(alloc: Global, size: usize) -> Result<Request, KvError> {
     }
 }
 
+// The version after a put of a value of so many bytes.
+fn put_of(
+    rt: &impl Abort,
+    alloc: Global,
+    version: &Version,
+    size: usize,
+) -> Result<Version, KvError> {
+    let request = large(alloc, size)?;
+    apply(rt, alloc, version, &request)
+}
+
+fn size_at(alloc: Global, version: &Version, text: &str) -> Result<usize, KvError> {
+    let key = key(alloc, text)?;
+    let write = latest(version, &key)?;
+    Ok(write.value().len())
+}
+
+#[test]
+fn too_large_a_value(rt: HostRuntime) -> Result<(), Fail> {
+    let first = kv(rt.alloc())?;
+    let refused = put_of(&rt, rt.alloc(), &first, 1_048_577);
+    assert_eq!(rt; refused.err(), Some(KvError::ValueTooLarge));
+    Ok(())
+}
+
 #[test]
 fn largest_value(rt: HostRuntime) -> Result<(), Fail> {
-    let first = empty(rt.alloc(), &named(rt.alloc(), "kv")?)?;
-    let refused = apply(&rt, rt.alloc(), &first, &large(rt.alloc(), 1_048_577)?);
-    assert_eq!(rt; refused.err(), Some(KvError::ValueTooLarge));
-    let second = apply(&rt, rt.alloc(), &first, &large(rt.alloc(), 1_048_576)?)?;
-    let a = key(rt.alloc(), "a")?;
-    assert_eq!(rt; second.get(&a)?.value().len(), 1_048_576);
+    let first = kv(rt.alloc())?;
+    let second = put_of(&rt, rt.alloc(), &first, 1_048_576)?;
+    assert_eq!(rt; size_at(rt.alloc(), &second, "a"), Ok(1_048_576));
     Ok(())
 }

@@ -1,19 +1,12 @@
 //! Keys and histories that are read back. Each test also passes where any one request for memory is refused: the same
 //! call, made again, answers.
 
-use super::{Ask, key, named, request};
+use super::{Ask, keeping, key, request};
 use kv_keys::{Filter, Filters, Key, KvError};
 use kv_store::{Op, Request, Selection, Version, Write};
 use std::alloc::{AllocError, Global};
 use std::process::Abort;
 use std::test::Fail;
-
-// A new bucket that keeps so many entries of each key.
-fn empty(alloc: Global, history: u64) -> Result<Version, KvError> {
-    let mut config = named(alloc, "kv")?;
-    config.history = history;
-    super::empty(alloc, &config)
-}
 
 fn asked(op: Op) -> Ask {
     match op {
@@ -37,19 +30,23 @@ fn written(alloc: Global, version: &Version, op: Op, text: &str) -> Result<Versi
 }
 
 fn all_written(alloc: Global, history: u64, writes: &[(Op, &str)]) -> Result<Version, KvError> {
-    let mut version = empty(alloc, history)?;
+    let mut version = keeping(alloc, history)?;
     for (op, text) in writes {
         version = written(alloc, &version, *op, text)?;
     }
     Ok(version)
 }
 
+fn push_key(text: &mut String, key: &Key) -> Result<(), AllocError> {
+    text.push_str(key.as_str())?;
+    text.push(' ')
+}
+
 // The keys, each with a space behind it.
 fn text_of(alloc: Global, keys: &[&Key]) -> Result<String, AllocError> {
     let mut text = String::new(alloc);
     for key in keys {
-        text.push_str(key.as_str())?;
-        text.push(' ')?;
+        push_key(&mut text, key)?;
     }
     Ok(text)
 }

@@ -2,7 +2,7 @@
 
 use super::*;
 use kv_keys::{Filter, Filters, Place};
-use kv_store::{Rev, Wanted, Write};
+use kv_store::{Rev, Wanted};
 
 // A bucket that keeps two entries of each key, with a put, an update and a delete of `a`, and a put of `b`.
 fn small(rt: &impl Abort, alloc: Global) -> Result<Version, KvError> {
@@ -17,21 +17,37 @@ fn small(rt: &impl Abort, alloc: Global) -> Result<Version, KvError> {
     run(rt, alloc, empty(alloc, &config)?, &steps)
 }
 
-#[test]
-fn configuration_with_the_defaults(rt: HostRuntime) -> Result<(), Fail> {
-    let config = named(rt.alloc(), "my.bucket")?;
+fn has_the_defaults(rt: &impl Abort, config: &Config) {
     assert_eq!(rt; config.bucket.as_str(), "my.bucket");
     assert_eq!(rt; config.history, 1);
     assert_eq!(rt; config.value_limit, 1_048_576);
     assert_eq!(rt; config.write_limit, 1_000_000);
     assert_eq!(rt; config.revision_limit, 4_294_967_295);
+}
+
+#[test]
+fn configuration_with_the_defaults(rt: HostRuntime) -> Result<(), Fail> {
+    let config = named(rt.alloc(), "my.bucket")?;
+    has_the_defaults(&rt, &config);
     Ok(())
 }
 
+fn text_asked(request: &Request) -> &str {
+    request.key().as_str()
+}
+
+fn op_asked(request: &Request) -> Op {
+    request.op()
+}
+
+fn value_asked(request: &Request) -> &[u8] {
+    request.value()
+}
+
 fn asks_for(rt: &impl Abort, request: &Request, text: &str, op: Op, value: &[u8]) {
-    assert_eq!(rt; request.key().as_str(), text);
-    assert_eq!(rt; request.op(), op);
-    assert_eq!(rt; request.value(), value);
+    assert_eq!(rt; text_asked(request), text);
+    assert_eq!(rt; op_asked(request), op);
+    assert_eq!(rt; value_asked(request), value);
 }
 
 #[test]
@@ -64,15 +80,40 @@ fn revisions_as_keys(rt: HostRuntime) {
     assert!(rt; rev < Rev::new(4_294_967_295));
 }
 
+fn text_of(write: &Write) -> &str {
+    write.key().as_str()
+}
+
+fn op_of(write: &Write) -> Op {
+    write.op()
+}
+
+fn value_of(write: &Write) -> &[u8] {
+    write.value()
+}
+
+fn revision_of(write: &Write) -> u64 {
+    write.revision()
+}
+
+// The write is the put of the empty value to `b`.
+fn puts_b(rt: &impl Abort, write: &Write) {
+    assert_eq!(rt; text_of(write), "b");
+    assert_eq!(rt; op_of(write), Op::Put);
+    assert_eq!(rt; value_of(write), b"".as_slice());
+    assert_eq!(rt; revision_of(write), 3);
+}
+
+fn has_put_of_b(rt: &impl Abort, alloc: Global, version: &Version) -> Result<(), KvError> {
+    let b = key(alloc, "b")?;
+    puts_b(rt, latest(version, &b)?);
+    Ok(())
+}
+
 #[test]
 fn parts_of_a_write(rt: HostRuntime) -> Result<(), Fail> {
     let version = small(&rt, rt.alloc())?;
-    let b = key(rt.alloc(), "b")?;
-    let write = version.get(&b)?;
-    assert_eq!(rt; write.key().as_str(), "b");
-    assert_eq!(rt; write.op(), Op::Put);
-    assert_eq!(rt; write.value(), b"".as_slice());
-    assert_eq!(rt; write.revision(), 3);
+    has_put_of_b(&rt, rt.alloc(), &version)?;
     Ok(())
 }
 
@@ -120,29 +161,69 @@ fn writes_by_revision(rt: HostRuntime) -> Result<(), Fail> {
     Ok(())
 }
 
-#[test]
-fn revisions_by_key(rt: HostRuntime) -> Result<(), Fail> {
-    let version = small(&rt, rt.alloc())?;
-    let a = key(rt.alloc(), "a")?;
-    let n = key(rt.alloc(), "n")?;
-    assert_eq!(rt; version.kept_at(&a), Some([2, 4].as_slice()));
-    assert_eq!(rt; version.kept_at(&n), None);
-    assert_eq!(rt; version.last_revision(&a), 4);
-    assert_eq!(rt; version.last_revision(&n), 0);
+fn kept_at<'a>(version: &'a Version, key: &Key) -> Option<&'a [u64]> {
+    version.kept_at(key)
+}
+
+// The revisions of the retained entries of a key, and the last of them.
+fn has_kept(
+    rt: &impl Abort,
+    alloc: Global,
+    version: &Version,
+    text: &str,
+    kept: Option<&[u64]>,
+    last: u64,
+) -> Result<(), KvError> {
+    let key = key(alloc, text)?;
+    assert_eq!(rt; kept_at(version, &key), kept);
+    assert_eq!(rt; last_revision(version, &key), last);
     Ok(())
 }
 
 #[test]
-fn the_two_tries(rt: HostRuntime) -> Result<(), Fail> {
+fn revisions_by_key(rt: HostRuntime) -> Result<(), Fail> {
+    let version = small(&rt, rt.alloc())?;
+    has_kept(&rt, rt.alloc(), &version, "a", Some(&[2, 4]), 4)?;
+    has_kept(&rt, rt.alloc(), &version, "n", None, 0)?;
+    Ok(())
+}
+
+fn keys_in_trie(version: &Version) -> u64 {
+    version.by_key().len()
+}
+
+fn kept_in_trie(version: &Version, key: &Key) -> Option<usize> {
+    match version.by_key().get(key) {
+        Some(revisions) => Some(revisions.len()),
+        None => None,
+    }
+}
+
+fn writes_in_trie(version: &Version) -> u64 {
+    version.by_revision().len()
+}
+
+fn op_in_trie(version: &Version, revision: u32) -> Option<Op> {
+    match version.by_revision().get(&Rev::new(revision)) {
+        Some(write) => Some(write.op()),
+        None => None,
+    }
+}
+
+#[test]
+fn the_trie_by_key(rt: HostRuntime) -> Result<(), Fail> {
     let version = small(&rt, rt.alloc())?;
     let a = key(rt.alloc(), "a")?;
-    assert_eq!(rt; version.by_key().len(), 2);
-    assert_eq!(rt; version.by_key().get(&a).map(Vec::len), Some(2));
-    assert_eq!(rt; version.by_revision().len(), 4);
-    assert_eq!(rt;
-        version.by_revision().get(&Rev::new(4)).map(Write::op),
-        Some(Op::Delete)
-    );
+    assert_eq!(rt; keys_in_trie(&version), 2);
+    assert_eq!(rt; kept_in_trie(&version, &a), Some(2));
+    Ok(())
+}
+
+#[test]
+fn the_trie_by_revision(rt: HostRuntime) -> Result<(), Fail> {
+    let version = small(&rt, rt.alloc())?;
+    assert_eq!(rt; writes_in_trie(&version), 4);
+    assert_eq!(rt; op_in_trie(&version, 4), Some(Op::Delete));
     Ok(())
 }
 

@@ -2,8 +2,12 @@
 
 use super::*;
 
-fn kv(alloc: Global) -> Result<Version, KvError> {
-    empty(alloc, &named(alloc, "kv")?)
+// Whether the latest entry of the key has this value.
+fn has_value(version: &Version, key: &Key, value: &[u8]) -> bool {
+    match latest(version, key) {
+        Ok(write) => write.value() == value,
+        Err(_) => false,
+    }
 }
 
 #[test]
@@ -18,7 +22,7 @@ fn create_after_marker(rt: HostRuntime) -> Result<(), Fail> {
     ];
     let version = run(&rt, rt.alloc(), kv(rt.alloc())?, &steps)?;
     let a = key(rt.alloc(), "a")?;
-    assert_eq!(rt; version.get(&a)?.value(), b"4".as_slice());
+    assert!(rt; has_value(&version, &a, b"4"));
     Ok(())
 }
 
@@ -44,7 +48,7 @@ fn compare_and_set(rt: HostRuntime) -> Result<(), Fail> {
     ];
     let version = run(&rt, rt.alloc(), kv(rt.alloc())?, &steps)?;
     let k = key(rt.alloc(), "k")?;
-    assert_eq!(rt; version.last_revision(&k), 5);
+    assert_eq!(rt; last_revision(&version, &k), 5);
     Ok(())
 }
 
@@ -69,8 +73,13 @@ fn largest_last_revision(rt: HostRuntime) -> Result<(), Fail> {
         ),
     ];
     let version = run(&rt, rt.alloc(), kv(rt.alloc())?, &steps)?;
-    assert_eq!(rt; version.revision(), 1);
+    assert_eq!(rt; newest(&version), 1);
     Ok(())
+}
+
+fn has_ops(sight: &Sight, ops: &[Op]) -> bool {
+    let ops = ops.iter().copied();
+    sight.entries.iter().map(|entry| entry.op).eq(ops)
 }
 
 #[test]
@@ -83,16 +92,9 @@ fn markers_of_keys_that_never_were(rt: HostRuntime) -> Result<(), Fail> {
     ];
     let version = run(&rt, rt.alloc(), kv(rt.alloc())?, &steps)?;
     let sight = look(rt.alloc(), &version)?;
-    let ops = sight.entries.iter().map(|entry| entry.op);
-    assert!(rt; ops.eq([Op::Delete, Op::Purge, Op::Delete, Op::Purge]));
-    assert_eq!(rt; version.status().values, 4);
+    assert!(rt; has_ops(&sight, &[Op::Delete, Op::Purge, Op::Delete, Op::Purge]));
+    assert_eq!(rt; numbers(&version).values, 4);
     Ok(())
-}
-
-fn keeping_two(alloc: Global) -> Result<Version, KvError> {
-    let mut config = named(alloc, "kv")?;
-    config.history = 2;
-    empty(alloc, &config)
 }
 
 // Whether the entry of the key with the revision is retained and has this value.
@@ -101,6 +103,23 @@ fn has_value_at(version: &Version, key: &Key, revision: u64, value: &[u8]) -> bo
         Ok(write) => write.value() == value,
         Err(_) => false,
     }
+}
+
+fn has_latest(version: &Version, key: &Key) -> bool {
+    latest(version, key).is_ok()
+}
+
+fn has_at(version: &Version, key: &Key, revision: u64) -> bool {
+    version.get_at(key, revision).is_ok()
+}
+
+// Of the revisions of the key, from 2 to 5, the third alone has a value that is retained.
+fn has_third_alone(rt: &impl Abort, version: &Version, key: &Key) {
+    assert!(rt; !has_latest(version, key));
+    assert!(rt; !has_at(version, key, 2));
+    assert!(rt; has_value_at(version, key, 3, b"3"));
+    assert!(rt; !has_at(version, key, 4));
+    assert!(rt; !has_at(version, key, 5));
 }
 
 #[test]
@@ -112,12 +131,8 @@ fn get_at_a_revision(rt: HostRuntime) -> Result<(), Fail> {
         ("k", Ask::Delete(None), Ok(4)),
         ("n", Ask::Put("5"), Ok(5)),
     ];
-    let version = run(&rt, rt.alloc(), keeping_two(rt.alloc())?, &steps)?;
+    let version = run(&rt, rt.alloc(), keeping(rt.alloc(), 2)?, &steps)?;
     let k = key(rt.alloc(), "k")?;
-    assert!(rt; version.get(&k).is_err());
-    assert!(rt; version.get_at(&k, 2).is_err());
-    assert!(rt; has_value_at(&version, &k, 3, b"3"));
-    assert!(rt; version.get_at(&k, 4).is_err());
-    assert!(rt; version.get_at(&k, 5).is_err());
+    has_third_alone(&rt, &version, &k);
     Ok(())
 }

@@ -2,7 +2,7 @@
 
 use super::*;
 
-// Four versions that were made of one another.
+// Versions that were made of one another.
 #[derive(Drop)]
 struct Versions {
     empty: Version,
@@ -19,9 +19,13 @@ fn snapshot(version: &Version) -> Result<Version, KvError> {
     }
 }
 
-fn four_versions(rt: &impl Abort, alloc: Global) -> Result<Versions, KvError> {
-    let empty = empty(alloc, &named(alloc, "kv")?)?;
-    let put = written(rt, alloc, &empty, "a", Ask::Put("1"))?;
+// What comes after the first two.
+fn later(
+    rt: &impl Abort,
+    alloc: Global,
+    empty: Version,
+    put: Version,
+) -> Result<Versions, KvError> {
     let snapshot = snapshot(&put)?;
     let deleted = written(rt, alloc, &put, "a", Ask::Delete(None))?;
     let sealed = sealed(rt, alloc, &deleted)?;
@@ -34,6 +38,12 @@ fn four_versions(rt: &impl Abort, alloc: Global) -> Result<Versions, KvError> {
     })
 }
 
+fn four_versions(rt: &impl Abort, alloc: Global) -> Result<Versions, KvError> {
+    let empty = kv(alloc)?;
+    let written = written(rt, alloc, &empty, "a", Ask::Put("1"))?;
+    later(rt, alloc, empty, written)
+}
+
 fn status(last: u64, values: u64, sealed: bool) -> Status {
     Status {
         history: 1,
@@ -44,16 +54,19 @@ fn status(last: u64, values: u64, sealed: bool) -> Status {
     }
 }
 
-fn has_at(rt: &impl Abort, alloc: Global, version: &Version, revision: u64) -> Result<(), KvError> {
+// The revision of the latest entry of `a`.
+fn revision_of_a(alloc: Global, version: &Version) -> Result<u64, KvError> {
     let a = key(alloc, "a")?;
-    assert_eq!(rt; version.get(&a)?.revision(), revision);
-    Ok(())
+    let write = latest(version, &a)?;
+    Ok(write.revision())
 }
 
-fn has_none(rt: &impl Abort, alloc: Global, version: &Version) -> Result<(), KvError> {
-    let a = key(alloc, "a")?;
-    assert_eq!(rt; version.get(&a).err(), Some(KvError::KeyNotFound));
-    Ok(())
+fn has_at(rt: &impl Abort, alloc: Global, version: &Version, revision: u64) {
+    assert_eq!(rt; revision_of_a(alloc, version), Ok(revision));
+}
+
+fn has_none(rt: &impl Abort, alloc: Global, version: &Version) {
+    assert_eq!(rt; revision_of_a(alloc, version), Err(KvError::KeyNotFound));
 }
 
 fn is_sealed(rt: &impl Abort, version: &Version, sealed: bool) {
@@ -63,16 +76,16 @@ fn is_sealed(rt: &impl Abort, version: &Version, sealed: bool) {
 #[test]
 fn four_versions_side_by_side(rt: HostRuntime) -> Result<(), Fail> {
     let versions = four_versions(&rt, rt.alloc())?;
-    has_none(&rt, rt.alloc(), &versions.empty)?;
-    has_at(&rt, rt.alloc(), &versions.snapshot, 1)?;
-    has_none(&rt, rt.alloc(), &versions.deleted)?;
+    has_none(&rt, rt.alloc(), &versions.empty);
+    has_at(&rt, rt.alloc(), &versions.snapshot, 1);
+    has_none(&rt, rt.alloc(), &versions.deleted);
     is_sealed(&rt, &versions.sealed, true);
     is_sealed(&rt, &versions.deleted, false);
     Ok(())
 }
 
 fn has_numbers(rt: &impl Abort, version: &Version, numbers: Status) {
-    assert_eq!(rt; version.status(), numbers);
+    assert_eq!(rt; super::numbers(version), numbers);
 }
 
 #[test]
@@ -86,12 +99,16 @@ fn numbers_side_by_side(rt: HostRuntime) -> Result<(), Fail> {
     Ok(())
 }
 
+// How many entries are seen in the version.
+fn entries(alloc: Global, version: &Version) -> Result<usize, KvError> {
+    let sight = look(alloc, version)?;
+    Ok(sight.entries.len())
+}
+
 #[test]
 fn a_snapshot_tells_the_same(rt: HostRuntime) -> Result<(), Fail> {
     let versions = four_versions(&rt, rt.alloc())?;
-    let first = look(rt.alloc(), &versions.written)?;
-    let second = look(rt.alloc(), &versions.snapshot)?;
-    assert!(rt; first == second);
-    assert_eq!(rt; first.entries.len(), 1);
+    tell_the_same(&rt, rt.alloc(), &versions.written, &versions.snapshot)?;
+    assert_eq!(rt; entries(rt.alloc(), &versions.written), Ok(1));
     Ok(())
 }

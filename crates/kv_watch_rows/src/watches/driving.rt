@@ -15,12 +15,17 @@ pub(super) struct Row<'a> {
     pub(super) live: &'a [Event],
 }
 
+fn write_of(version: &Version, revision: u64) -> Result<&Write, KvError> {
+    match version.write_at(revision) {
+        Some(write) => Ok(write),
+        None => Err(KvError::KeyNotFound),
+    }
+}
+
 fn stored(alloc: Global, version: &Version) -> Result<Vec<&Write>, KvError> {
     let mut writes = Vec::new(alloc);
     for place in 0..version.revision() {
-        let Some(write) = version.write_at(place + 1) else {
-            return Err(KvError::KeyNotFound);
-        };
+        let write = write_of(version, place + 1)?;
         writes.push(write)?;
     }
     Ok(writes)
@@ -156,8 +161,7 @@ fn hands_out_later(
 }
 
 fn before(alloc: Global, row: Row<'_>) -> Result<Version, KvError> {
-    let version = empty(alloc, row.history)?;
-    write_all(alloc, version, row.before)
+    kept(alloc, row.history, row.before)
 }
 
 fn after(alloc: Global, base: &Version, row: Row<'_>) -> Result<Version, KvError> {

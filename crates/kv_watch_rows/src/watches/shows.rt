@@ -19,12 +19,24 @@ struct Parts<'a> {
     value: Option<&'a [u8]>,
 }
 
+fn has_name(rt: &impl Abort, entry: &Shown<'_>, key: &str, op: Op) {
+    assert_eq!(rt; entry.key().as_str(), key);
+    assert_eq!(rt; entry.op(), op);
+}
+
+fn has_numbers(rt: &impl Abort, entry: &Shown<'_>, revision: u64, size: u64) {
+    assert_eq!(rt; entry.revision(), revision);
+    assert_eq!(rt; entry.size(), size);
+}
+
+fn has_value(rt: &impl Abort, entry: &Shown<'_>, value: Option<&[u8]>) {
+    assert_eq!(rt; entry.value(), value);
+}
+
 fn has_parts(rt: &impl Abort, entry: &Shown<'_>, parts: Parts<'_>) {
-    assert_eq!(rt; entry.key().as_str(), parts.key);
-    assert_eq!(rt; entry.op(), parts.op);
-    assert_eq!(rt; entry.revision(), parts.revision);
-    assert_eq!(rt; entry.size(), parts.size);
-    assert_eq!(rt; entry.value(), parts.value);
+    has_name(rt, entry, parts.key, parts.op);
+    has_numbers(rt, entry, parts.revision, parts.size);
+    has_value(rt, entry, parts.value);
 }
 
 fn shows(rt: &impl Abort, taken: &Taken<'_>, parts: Parts<'_>) {

@@ -1,6 +1,6 @@
 use Rattle.std.proofs.Common.{◌≡◌, Some, None, sym, ap, ◌∙◌}
 use Rattle.std.specs.Option.{option_copied}
-use Rattle.kv_store.specs.Acts.{Write, Wrote}
+use Rattle.kv_store.specs.Acts.{Wrote}
 use Rattle.kv_store.specs.Stored.{write_at}
 use Rattle.kv_bucket.proofs.Keeping.{last_written}
 use Rattle.kv_bucket.proofs.keeper.last_deed.Goals as goal

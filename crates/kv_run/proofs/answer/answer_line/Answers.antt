@@ -1,6 +1,5 @@
-use Rattle.std.proofs.Common.{◌++◌, Ok, Err, append-nil, sym, ap, ◌∙◌}
+use Rattle.std.proofs.Common.{◌++◌, Err, append-nil, sym, ap, ◌∙◌}
 use Rattle.std.proofs.lemmas.Result.{on_ok_weaker, on_err_weaker}
-use Rattle.kv_script.specs.Commands.{meaning_of}
 use Rattle.kv_run.proofs.Parsing.{line_steps-skipped, line_steps-read, on_ok_both, refused_by}
 use Rattle.kv_run.proofs.Taking.{between_at_once, ends_at_once, read_take}
 use Rattle.kv_run.proofs.answer.answer_line.Goals as goal

@@ -1,5 +1,4 @@
 use Rattle.std.proofs.lemmas.Result.{on_err_weaker}
-use Rattle.std.specs.Io.BufRead.{strip_last}
 use Rattle.kv_run.proofs.Taking.{early_front}
 use Rattle.kv_run.proofs.answer.answer_whole_line.Goals as goal
 

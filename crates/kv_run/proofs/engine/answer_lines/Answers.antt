@@ -1,6 +1,6 @@
 use Rattle.std.proofs.Common.{◌<◌, length, arith, rules}
 use Rattle.std.proofs.lemmas.Result.{on_ok_weaker}
-use Rattle.kv_run.proofs.Progress.{err_of, not_ended, not_late}
+use Rattle.kv_run.proofs.Progress.{in_time_still, not_ended}
 use Rattle.kv_run.proofs.Reached.{reached_more, reached_end, reached_fault, stopped_in_bytes, stopped_at_end, whole_in_bytes, whole_at_end}
 use Rattle.kv_run.proofs.engine.answer_lines.Goals as goal
 
@@ -40,7 +40,7 @@ reads-preserved g c = record {
   in_time = λ begins.
       let so_far = c.reads.invariant.in_time begins in (
         not_ended _ _ _ c.in_ok-count.ensures.ended so_far.0 c.if-count-eq0.false,
-        not_late _ _ _ _ c.in_ok-count.ensures.late so_far,
+        in_time_still _ _ _ c.in_ok-count.ensures.late so_far,
       );
   reached = λ config holding.
       let so_far = c.reads.invariant.reached config holding in
@@ -62,10 +62,10 @@ returns-in_err-answer_bytes-clause-memory g c = λ fault config holding.
     whole_in_bytes config _ _ _ _ _ so_far _ _ _ c.in_ok-count.ensures.bytes.0 (c.in_err-answer_bytes.ensures.memory (search rules) _ so_far.is_after)
 
 pub returns-in_err-count-clause-in_time : goal.returns-in_err-count-clause-in_time
-returns-in_err-count-clause-in_time g c = λ begins. not_late _ _ _ _ c.in_err-count.ensures.late (c.reads.invariant.in_time begins)
+returns-in_err-count-clause-in_time g c = λ begins. in_time_still _ _ _ c.in_err-count.ensures.late (c.reads.invariant.in_time begins)
 
 pub returns-then-count-eq0-clause-in_time : goal.returns-then-count-eq0-clause-in_time
-returns-then-count-eq0-clause-in_time g c = λ begins. not_late _ _ _ _ c.in_ok-count.ensures.late (c.reads.invariant.in_time begins)
+returns-then-count-eq0-clause-in_time g c = λ begins. in_time_still _ _ _ c.in_ok-count.ensures.late (c.reads.invariant.in_time begins)
 
 pub returns-in_err-answer_bytes-clause-in_time : goal.returns-in_err-answer_bytes-clause-in_time
-returns-in_err-answer_bytes-clause-in_time g c = λ begins. not_late _ _ _ _ c.in_ok-count.ensures.late (c.reads.invariant.in_time begins)
+returns-in_err-answer_bytes-clause-in_time g c = λ begins. in_time_still _ _ _ c.in_ok-count.ensures.late (c.reads.invariant.in_time begins)

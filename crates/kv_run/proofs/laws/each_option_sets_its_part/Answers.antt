@@ -21,3 +21,7 @@ returns-clause-write_limit c = λ program value. refl
 pub returns-clause-revision_limit : goal.returns-clause-revision_limit
 unfolding clap_on_literals
 returns-clause-revision_limit c = λ program value. refl
+
+pub returns-clause-race : goal.returns-clause-race
+unfolding clap_on_literals
+returns-clause-race c = λ program value. refl

@@ -1,7 +1,4 @@
-use Rattle.std.proofs.Common.{◌<◌, ◌≤◌, ℕ, true, false, sym, ◌∙◌, subst, arith, rules}
-use Rattle.kv_bucket.specs.Held.{Represents}
-use Rattle.kv_bucket.specs.State.{State}
-use Rattle.kv_run.specs.Text.{takes}
+use Rattle.std.proofs.Common.{sym, ◌∙◌, arith}
 use Rattle.kv_run.proofs.Progress.{on_err}
 use Rattle.kv_run.proofs.Taking.{took_one, took_last, took_part, took_all}
 use Rattle.kv_run.proofs.takes.answer_takes.Goals as goal

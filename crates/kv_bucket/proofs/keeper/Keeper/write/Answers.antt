@@ -1,5 +1,5 @@
-use Rattle.std.proofs.Common.{rules, ◌≡◌, ◌++◌, ◌∷◌, [], List, Some, subst, sym, ap, ◌∙◌}
-use Rattle.kv_store.specs.Acts.{Act, Wrote, Write}
+use Rattle.std.proofs.Common.{rules, ◌≡◌, ◌++◌, ◌∷◌, [], Some, subst, sym, ap, ◌∙◌}
+use Rattle.kv_store.specs.Acts.{Act, Wrote}
 use Rattle.kv_store.specs.Requests.{asked}
 use Rattle.kv_store.specs.Standing.{StandsFor}
 use Rattle.kv_bucket.specs.declared.call.Call.TheVariants as calls

@@ -6,8 +6,8 @@ use Rattle.clap.specs.Matches.{found_of, one_text}
 use Rattle.clap.specs.Simple.{is_simple, matches_of}
 use Rattle.clap.specs.Walk.{Row, Text, rows_of, first_of, one_of}
 use Rattle.clap.proofs.WalkLemmas.{first_value-rows, one_text-rows}
-use Rattle.kv_run.specs.Arguments.{number_in, program_app, text_in}
-use Rattle.kv_run.proofs.Options.{option_number, program_is_free, program_is_simple, unwrap_text}
+use Rattle.kv_run.specs.Arguments.{number_in, program_app, race_of, text_in}
+use Rattle.kv_run.proofs.Options.{number_found, option_number, program_is_free, program_is_simple, unwrap_text}
 use Rattle.kv_run.proofs.arguments.Arguments.parse.Goals as goal
 
 pub returns : goal.returns
@@ -32,7 +32,13 @@ returns c =
     (λ none. c.get_one-3.ensures.none (read (codes "write-limit") ∙ none)) (λ text some. c.get_one-3.ensures.value text (read (codes "write-limit") ∙ some)) (λ _ _ parsed. parsed.0) in
     let revision_limit : c.unwrap_or-5.result ≡ number_in (codes "revision-limit") 4294967295 given =
     c.unwrap_or-5.ensures ∙ option_number {gives = reader.ghosts.from_str_gives} 4294967295 _ c.get_one-4.result
-    (λ none. c.get_one-4.ensures.none (read (codes "revision-limit") ∙ none)) (λ text some. c.get_one-4.ensures.value text (read (codes "revision-limit") ∙ some)) (λ _ _ parsed. parsed.0) in (
+    (λ none. c.get_one-4.ensures.none (read (codes "revision-limit") ∙ none)) (λ text some. c.get_one-4.ensures.value text (read (codes "revision-limit") ∙ some)) (λ _ _ parsed. parsed.0) in
+    let race : c.get_one-5.result ≡ race_of words =
+    number_found {gives = reader.ghosts.from_str_gives} _ c.get_one-5.result
+    (λ none. c.get_one-5.ensures.none (read (codes "race") ∙ none)) (λ text some. c.get_one-5.ensures.value text (read (codes "race") ∙ some)) (λ _ _ parsed. parsed.0) in (
       ap (λ a. fault_of a words) (sym app) ∙ c.in_ok-matches.ensures.kinds (ap is_simple_and_free app ∙ program_is_free),
-      λ i. record { bucket = bucket i; history = history i; value_limit = value_limit i; write_limit = write_limit i; revision_limit = revision_limit i },
+      λ i. record {
+        config = record { bucket = bucket i; history = history i; value_limit = value_limit i; write_limit = write_limit i; revision_limit = revision_limit i };
+        race = race i;
+      },
     )

@@ -1,0 +1,137 @@
+//! What an opening refuses, and what it begins and ends with.
+
+use super::*;
+
+// The refusal of an opening, if any.
+fn refused_once(
+    alloc: Global,
+    name: &str,
+    numbers: (u64, u64, u64),
+    readers: usize,
+) -> Option<KvError> {
+    match opened_once(alloc, name, numbers, readers) {
+        Ok(_) => None,
+        Err(error) => Some(error),
+    }
+}
+
+fn opened_once(
+    alloc: Global,
+    name: &str,
+    numbers: (u64, u64, u64),
+    readers: usize,
+) -> Result<Opened, KvError> {
+    let mut config = Config::named(alloc, name)?;
+    config.history = numbers.0;
+    config.value_limit = numbers.1;
+    config.write_limit = numbers.2;
+    Live::open(alloc, &config, readers)
+}
+
+fn refused(alloc: Global, name: &str, numbers: (u64, u64, u64), readers: usize) -> Option<KvError> {
+    match refused_once(alloc, name, numbers, readers) {
+        Some(KvError::OutOfMemory) => refused_once(alloc, name, numbers, readers),
+        refusal => refusal,
+    }
+}
+
+const LEGAL: (u64, u64, u64) = (1, 1_048_576, 1_000_000);
+
+#[test]
+fn names_are_refused_first(rt: HostRuntime) -> Result<(), Fail> {
+    let bad = Some(KvError::BadBucket);
+    let longest = "0123456789012345678901234567890123456789012345678901234567890123";
+    let longer = "01234567890123456789012345678901234567890123456789012345678901234";
+    assert_eq!(rt; refused(rt.alloc(), "my.bucket", LEGAL, 2), bad);
+    assert_eq!(rt; refused(rt.alloc(), "", LEGAL, 2), bad);
+    assert_eq!(rt; refused(rt.alloc(), longer, LEGAL, 2), bad);
+    assert_eq!(rt; refused(rt.alloc(), "", (0, 0, 0), 0), bad);
+    assert_eq!(rt; refused(rt.alloc(), longest, LEGAL, 2), None);
+    Ok(())
+}
+
+#[test]
+fn numbers_are_refused_before_readers(rt: HostRuntime) -> Result<(), Fail> {
+    let bad = Some(KvError::BadConfig);
+    let limit = LEGAL.1;
+    assert_eq!(rt; refused(rt.alloc(), "kv", (0, limit, 1), 2), bad);
+    assert_eq!(rt; refused(rt.alloc(), "kv", (65, limit, 1), 2), bad);
+    assert_eq!(rt; refused(rt.alloc(), "kv", (1, limit, 0), 2), bad);
+    assert_eq!(rt; refused(rt.alloc(), "kv", (1, limit + 1, 1), 2), bad);
+    assert_eq!(rt; refused(rt.alloc(), "kv", (0, limit, 1), 33), bad);
+    Ok(())
+}
+
+#[test]
+fn one_to_thirty_two_readers(rt: HostRuntime) -> Result<(), Fail> {
+    let none = Some(KvError::NoReader);
+    assert_eq!(rt; refused(rt.alloc(), "kv", LEGAL, 0), none);
+    assert_eq!(rt; refused(rt.alloc(), "kv", LEGAL, 33), none);
+    assert_eq!(rt; refused(rt.alloc(), "kv", LEGAL, 1), None);
+    run(&rt, rt.alloc(), Row::ManyReaders)?;
+    Ok(())
+}
+
+// There are so many readers, and each sees the empty bucket.
+pub(super) fn all_read<N: LiveName, R: Abort>(
+    rt: &R,
+    readers: Vec<Reader<N>>,
+    count: usize,
+) -> Result<(), KvError> {
+    assert_eq!(rt; readers.len(), count);
+    for reader in readers {
+        sees_nothing(rt, reader)?;
+    }
+    Ok(())
+}
+
+fn sees_nothing<N: LiveName, R: Abort>(rt: &R, reader: Reader<N>) -> Result<(), KvError> {
+    let mut reader = reader;
+    let version = read(&mut reader)?;
+    assert_eq!(rt; version.revision(), 0);
+    assert!(rt; !version.sealed());
+    Ok(())
+}
+
+#[test]
+fn the_lock_begins_with_the_opening(rt: HostRuntime) -> Result<(), Fail> {
+    run(&rt, rt.alloc(), Row::Beginning)?;
+    Ok(())
+}
+
+pub(super) fn beginning<N: LiveName, R: Wait + Abort>(
+    rt: &R,
+    live: &Live<N>,
+) -> Result<(), KvError> {
+    let empty = Status {
+        history: 1,
+        last: 0,
+        sealed: false,
+        stored: 0,
+        values: 0,
+    };
+    assert_eq!(rt; look(rt, live), (empty, 0));
+    let keeper = live.lock(rt);
+    assert_eq!(rt; keeper.bucket().version().bucket(), "kv");
+    Ok(())
+}
+
+#[test]
+fn a_close_ends_no_reader(rt: HostRuntime) -> Result<(), Fail> {
+    run(&rt, rt.alloc(), Row::Closed)?;
+    Ok(())
+}
+
+// A reader of a bucket that was closed is let in or refused, and is a reader all the same.
+pub(super) fn after_close<N: LiveName, R: Abort>(
+    rt: &R,
+    readers: Vec<Reader<N>>,
+) -> Result<(), KvError> {
+    let (first, _) = two(readers)?;
+    let mut first = first;
+    match read(&mut first) {
+        Ok(version) => assert_eq!(rt; version.revision(), 0),
+        Err(error) => assert_eq!(rt; error, KvError::NoReader),
+    }
+    Ok(())
+}

@@ -1,0 +1,19 @@
+use Rattle.std.proofs.Common.{◌≡◌, inr, cond, ap, ◌∙◌}
+use Rattle.std.proofs.lemmas.Result.{IfOk-weaker, err_from_is_err_and}
+use Rattle.kv_keys.specs.declared.error.KvError.TheVariants.{OutOfMemory, BadFilter}
+use Rattle.kv_race.specs.Telling.{HasLast}
+use Rattle.kv_race.proofs.Ended.{last_told}
+use Rattle.kv_race.proofs.Opened.{every_key}
+use Rattle.kv_race.proofs.racing.version_of.Goals as goal
+
+pub returns-in_err-filters-clause-err : goal.returns-in_err-filters-clause-err
+returns-in_err-filters-clause-err g c =
+    let p = err_from_is_err_and c.from_residual.result c.from_residual.ensures.1 in
+    let none : c.in_err-filters.field-0.0 ≡ OutOfMemory = c.in_err-filters.ensures.err ∙ ap (λ b. cond b OutOfMemory BadFilter) every_key in
+    rw (p.1, p.2) (inr none)
+
+pub returns-clause-ok : goal.returns-clause-ok
+returns-clause-ok g c =
+    let config = g.N.LiveName.opening.config in
+    let feed = c.hear_all.new.feed in
+    IfOk-weaker c.last_version.result _ (HasLast config _) (λ version all. last_told config _ feed.reader.told feed.reader.seen version all c.hear_all.ensures.told) c.last_version.ensures.ok

@@ -1,0 +1,81 @@
+//! The end of a race, when all its threads have ended.
+
+ghost use Rattle.std.specs.Prelude.{◌≡◌, IfOk, IfErr, map, take};
+ghost use Rattle.kv_keys.specs.declared.error.KvError.TheVariants.{OutOfMemory};
+ghost use Rattle.kv_store.specs.Acts.{IsPrefix};
+ghost use Rattle.kv_history.specs.Feeding.{given_by};
+ghost use Rattle.kv_history.specs.Known.{IsUnread};
+ghost use Rattle.kv_race.specs.Telling.{Begin, BeginAll, HasAll, HasHeard, HasLast, IsEnded};
+ghost use Rattle.kv_race.specs.Watching.{Are};
+
+use crate::threads::Watched;
+use crate::watcher::collect;
+use kv_bucket::{Feed, LiveName, Receipt, Reply};
+use kv_keys::KvError;
+use kv_store::Version;
+use std::alloc::Global;
+
+/// What a worker was answered, in order.
+pub(crate) type Answers<N> = Vec<Result<(u64, Receipt<N>), KvError>>;
+
+// Takes in the receipt of an answer, if it has one.
+#[tactic(auto, using(crate::proofs::Hearing::heard_nothing))]
+fn hear_one<N: LiveName>(feed: &mut Feed<N>, answer: &Result<(u64, Receipt<N>), KvError>)
+    ensures heard { HasHeard feed.old feed.new }
+    ensures told { IfOk answer.now (λ told. IsPrefix told.1 feed.new.reader.told) }
+{
+    if let Ok((_, receipt)) = answer {
+        feed.learn(receipt);
+    }
+}
+
+// Takes in the receipts of a worker.
+#[tactic(auto, using(crate::proofs::Hearing::heard_nothing, crate::proofs::Hearing::heard_more, crate::proofs::Hearing::begin_next))]
+fn hear<N: LiveName>(feed: &mut Feed<N>, answers: &Answers<N>)
+    ensures heard { HasHeard feed.old feed.new }
+    ensures told { Begin feed.new.reader.told answers.now.items }
+{
+    for n in 0..answers.len() {
+        hear_one(feed, &answers[n]);
+    }
+}
+
+/// Takes in the receipts of all workers.
+#[tactic(auto, using(crate::proofs::Hearing::heard_nothing, crate::proofs::Hearing::heard_more, crate::proofs::Hearing::begin_all_next))]
+pub(crate) fn hear_all<N: LiveName>(feed: &mut Feed<N>, answers: &[Answers<N>])
+    ensures heard { HasHeard feed.old feed.new }
+    ensures told { BeginAll feed.new.reader.told (map (λ some. some.items) answers.now) }
+{
+    for n in 0..answers.len() {
+        hear(feed, &answers[n]);
+    }
+}
+
+/// Ends a feed that has taken in all receipts: its reader's version has their writes.
+pub(crate) fn last_version<N: LiveName>(feed: Feed<N>) -> Result<Version, KvError>
+    ensures ok { IfOk result (λ version. HasAll N.opening.config feed.reader.told feed.reader.seen version) }
+    ensures err { IfErr result IsUnread }
+{
+    let (mut reader, _) = feed.stop();
+    reader.version()
+}
+
+/// Ends a watch: it takes in all receipts, goes on once more, and hands out all that is left.
+#[tactic(auto, using(crate::proofs::Ended::ended, crate::proofs::Ended::last_of))]
+pub(crate) fn end_watch<N: LiveName>(
+    alloc: Global,
+    watched: Watched<N>,
+    answers: &[Answers<N>],
+) -> Result<(Version, Vec<Reply>), KvError>
+    ensures last { IfOk result (λ ended. HasLast N.opening.config (map (λ some. some.items) answers.now) ended.0) }
+    ensures all { IfOk result (λ ended. IsEnded N.opening.config (map (λ some. some.items) answers.now) watched.feed watched.seen.items ended.1.items) }
+    ensures err { IfErr result IsUnread }
+{
+    let Watched { mut feed, mut seen } = watched;
+    hear_all(&mut feed, answers);
+    let _ = feed.handed();
+    feed.refresh()?;
+    collect(alloc, &mut feed, &mut seen)?;
+    let version = last_version(feed)?;
+    Ok((version, seen))
+}

@@ -1,0 +1,67 @@
+//! A race of as many workers and watches as there may be.
+
+use super::*;
+
+const KEYS: [&str; 10] = [
+    "a", "b", "a.b", "a.c", "a.b.c", "b.c", "c", "c.a", "c.b.a", "d",
+];
+
+const FILTERS: [&str; 8] = [">", "a.>", "*", "a.*", "*.b", "b,c.>", "d", "a.b.c"];
+
+const OPTIONS: [Options; 4] = [
+    LATEST,
+    Options {
+        start: Start::History,
+        ignore_deletes: false,
+        headers_only: true,
+    },
+    Options {
+        start: Start::Updates,
+        ignore_deletes: true,
+        headers_only: false,
+    },
+    Options {
+        start: Start::From(5),
+        ignore_deletes: true,
+        headers_only: true,
+    },
+];
+
+// A watch by each of the filters with each of the options.
+fn all_watches(alloc: Global) -> Result<Vec<(Filters, Options)>, KvError> {
+    let mut watches = Vec::new(alloc);
+    for options in OPTIONS {
+        push_watches(alloc, &mut watches, options)?;
+    }
+    Ok(watches)
+}
+
+fn push_watches(
+    alloc: Global,
+    watches: &mut Vec<(Filters, Options)>,
+    options: Options,
+) -> Result<(), KvError> {
+    for text in FILTERS {
+        push_watch(alloc, watches, text, options)?;
+    }
+    Ok(())
+}
+
+// The wrong body of this name would answer a version without the writes, and the watches saw more than it gives.
+#[test]
+fn race_last_is_empty(rt: HostRuntime) -> Result<(), Fail> {
+    run(&rt, rt.alloc(), Row::Audit)?;
+    Ok(())
+}
+
+pub(super) fn audit<R: Threads + Wait + Abort + Sync>(
+    rt: &R,
+    alloc: Global,
+) -> Result<(), KvError> {
+    let scripts = scripts_of(alloc, 16, &KEYS)?;
+    let watches = all_watches(alloc)?;
+    let report = raced(rt, alloc, &scripts, &watches, &NoGate)?;
+    assert_eq!(rt; watches.len(), 32);
+    assert_eq!(rt; answers_each_once(rt, alloc, &report)?, 160);
+    all_saw_what_is_given(rt, alloc, &watches, &report)
+}

@@ -1,0 +1,143 @@
+//! Races whose threads wait for each other: on one thread they would wait until the limit.
+
+use super::*;
+use std::hint::spin_loop;
+use std::sync::atomic::{AtomicBool, Ordering};
+
+// The most looks at a flag.
+const MOST_TURNS: u64 = 100_000_000;
+
+fn raise(flag: &AtomicBool) {
+    flag.store(true, Ordering::SeqCst);
+}
+
+fn is_raised(flag: &AtomicBool) -> bool {
+    flag.load(Ordering::SeqCst)
+}
+
+// Waits for a flag, and raises the other where the limit is met.
+fn wait_for(flag: &AtomicBool, late: &AtomicBool) {
+    for _ in 0..MOST_TURNS {
+        if is_raised(flag) {
+            return;
+        }
+        spin_loop();
+    }
+    raise(late);
+}
+
+// Two workers and a watcher each wait, before their first step, until all three have come to it.
+#[derive(Drop)]
+struct Meeting {
+    first: AtomicBool,
+    second: AtomicBool,
+    watcher: AtomicBool,
+    late: AtomicBool,
+}
+
+fn no_meeting_yet() -> Meeting {
+    Meeting {
+        first: AtomicBool::new(false),
+        second: AtomicBool::new(false),
+        watcher: AtomicBool::new(false),
+        late: AtomicBool::new(false),
+    }
+}
+
+fn come(meeting: &Meeting, who: Who) {
+    match who {
+        Who::Worker(0) => raise(&meeting.first),
+        Who::Worker(_) => raise(&meeting.second),
+        Who::Watcher(_) => raise(&meeting.watcher),
+    }
+}
+
+fn meet(meeting: &Meeting) {
+    wait_for(&meeting.first, &meeting.late);
+    wait_for(&meeting.second, &meeting.late);
+    wait_for(&meeting.watcher, &meeting.late);
+}
+
+impl Gate for Meeting {
+    fn before(&self, who: Who, n: u64) {
+        if n == 0 {
+            come(self, who);
+            meet(self);
+        }
+    }
+
+    fn after(&self, _who: Who, _n: u64) {}
+}
+
+// The wrong body of this name would meet the limit: its second worker would begin when the first has ended.
+#[test]
+fn race_on_one_thread(rt: HostRuntime) -> Result<(), Fail> {
+    run(&rt, rt.alloc(), Row::Meeting)?;
+    Ok(())
+}
+
+pub(super) fn all_meet<R: Threads + Wait + Abort + Sync>(
+    rt: &R,
+    alloc: Global,
+) -> Result<(), KvError> {
+    let scripts = scripts_of(alloc, 2, &["a"])?;
+    let watches = watches_of(alloc, &[">"])?;
+    let gate = no_meeting_yet();
+    let report = raced(rt, alloc, &scripts, &watches, &gate)?;
+    assert!(rt; !is_raised(&gate.late));
+    assert_eq!(rt; answers_each_once(rt, alloc, &report)?, 2);
+    all_saw_what_is_given(rt, alloc, &watches, &report)
+}
+
+// The watcher's second round waits for the worker's first write, and the second write for the end of that round.
+#[derive(Drop)]
+struct Between {
+    written: AtomicBool,
+    looked: AtomicBool,
+    late: AtomicBool,
+}
+
+fn nothing_between_yet() -> Between {
+    Between {
+        written: AtomicBool::new(false),
+        looked: AtomicBool::new(false),
+        late: AtomicBool::new(false),
+    }
+}
+
+impl Gate for Between {
+    fn before(&self, who: Who, n: u64) {
+        match (who, n) {
+            (Who::Watcher(_), 1) => wait_for(&self.written, &self.late),
+            (Who::Worker(_), 1) => wait_for(&self.looked, &self.late),
+            _ => {}
+        }
+    }
+
+    fn after(&self, who: Who, n: u64) {
+        match (who, n) {
+            (Who::Worker(_), 0) => raise(&self.written),
+            (Who::Watcher(_), 1) => raise(&self.looked),
+            _ => {}
+        }
+    }
+}
+
+#[test]
+fn a_round_between_two_writes(rt: HostRuntime) -> Result<(), Fail> {
+    run(&rt, rt.alloc(), Row::Between)?;
+    Ok(())
+}
+
+pub(super) fn round_between<R: Threads + Wait + Abort + Sync>(
+    rt: &R,
+    alloc: Global,
+) -> Result<(), KvError> {
+    let scripts = scripts_of(alloc, 1, &["a", "b"])?;
+    let watches = watches_of(alloc, &[">"])?;
+    let gate = nothing_between_yet();
+    let report = raced(rt, alloc, &scripts, &watches, &gate)?;
+    assert!(rt; !is_raised(&gate.late));
+    assert_eq!(rt; answers_each_once(rt, alloc, &report)?, 2);
+    all_saw_what_is_given(rt, alloc, &watches, &report)
+}

@@ -1,0 +1,3 @@
+pub mod Dealing
+pub mod Planning
+pub mod Reporting

@@ -1,0 +1,41 @@
+use Rattle.std.proofs.Common.{◌≡◌, ◌<◌, ◌++◌, [], length, ap, sym, arith, ◌∙◌}
+use Rattle.std.proofs.KnownBytes.{Consumes-trans}
+use Rattle.kv_race_script.specs.Planning.{after_line, nothing}
+use Rattle.kv_run.specs.Races.{no_text}
+use Rattle.kv_run.specs.Reading.{after_bytes, beginning}
+use Rattle.kv_run.specs.declared.script.TheConstants.{KEPT_BYTES}
+use Rattle.kv_run.proofs.Plans.{plan_of-read, plan_on, read_on}
+use Rattle.kv_run.proofs.Progress.{in_time_still, not_ended, on_err}
+use Rattle.kv_run.proofs.race.reading.read_lines.Goals as goal
+
+pub returns-then-count-eq0-clause-ok : goal.returns-then-count-eq0-clause-ok
+returns-then-count-eq0-clause-ok g c =
+    let so_far = c.reads.invariant.reached in
+    let input = so_far.0 in
+    let nothing_more = rw c.if-count-eq0.true at c.in_ok-count.ensures.bytes.0 in
+    let room : 0 < length c.read.new.buffer = omega arith in
+    let plan = c.plan.ensures ∙ ap (λ r. r.state) c.in_ok-end_line.ensures.ok ∙ ap (λ r. after_line r.state r.line) so_far.1.1 ∙ plan_of-read input in
+    (input, (read_on _ _ _ input so_far.1.0 nothing_more, (c.in_ok-count.ensures.bytes.1 c.if-count-eq0.true room, plan)))
+
+pub reads-preserved : goal.reads-preserved
+reads-preserved g c = record {
+  same = g.met.S.Source.goes_on_later _ _ _ c.reads.invariant.same c.in_ok-count.ensures.same;
+  in_time = λ begins.
+      let so_far = c.reads.invariant.in_time begins in (
+        not_ended _ _ _ c.in_ok-count.ensures.ended so_far.0 c.if-count-eq0.false,
+        in_time_still _ _ _ c.in_ok-count.ensures.late so_far,
+      );
+  reached =
+      let so_far = c.reads.invariant.reached in (
+        so_far.0 ++ _,
+        (
+          Consumes-trans _ _ _ so_far.0 _ so_far.1.0 c.in_ok-count.ensures.bytes.0,
+          plan_on _ _ so_far.0 _ so_far.1.1 c.in_ok-take_bytes.ensures.ok,
+        ),
+      );
+}
+
+pub returns-in_err-take_bytes-clause-part : goal.returns-in_err-take_bytes-clause-part
+returns-in_err-take_bytes-clause-part g c =
+    let so_far = c.reads.invariant.reached in
+    on_err c.from_residual-in_err-take_bytes.result (so_far.0 ++ _, Consumes-trans _ _ _ so_far.0 _ so_far.1.0 c.in_ok-count.ensures.bytes.0)

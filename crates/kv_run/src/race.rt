@@ -1,0 +1,85 @@
+//! A race of many workers over one script.
+
+ghost use Rattle.std.specs.Prelude.{◌≡◌, ◌<◌, Ok, OnOk, IfErr, IsErrOf, MatchResult, true, false};
+ghost use Rattle.kv_keys.specs.Outcome.{Refuses};
+ghost use Rattle.kv_keys.specs.declared.error.KvError.TheVariants.{BadBucket, BadConfig};
+ghost use Rattle.kv_race.specs.Openings.{may_race};
+ghost use Rattle.kv_run.specs.Faults.{IsBadConfiguration};
+ghost use Rattle.kv_run.specs.Races.{RanRace};
+
+use crate::race::reading::read_plan;
+use crate::race::writing::write_report;
+use crate::sink::Sink;
+use crate::source::Source;
+use kv_keys::KvError;
+use kv_race::{NoGate, race};
+use kv_race_script::deal;
+use kv_store::{Config, Version};
+use std::alloc::Global;
+use std::sync::Wait;
+use std::thread::Threads;
+
+mod notes;
+mod reading;
+mod writing;
+
+/// The most workers of a race.
+const MOST_WORKERS: usize = 16;
+
+// Why there is no race for this number of workers: the configuration is refused first.
+fn refusal_of(opened: Result<Version, KvError>) -> KvError
+    ensures { MatchResult opened (λ _. result ≡ BadConfig) (λ e. (e ≡ BadBucket → result ≡ BadBucket) × ((e ≡ BadBucket → ⊥) → result ≡ BadConfig)) }
+{
+    match opened {
+        Err(KvError::BadBucket) => KvError::BadBucket,
+        _ => KvError::BadConfig,
+    }
+}
+
+/// Checks the configuration, and then the number of workers.
+fn check(alloc: Global, config: &Config, workers: usize) -> Result<(), KvError>
+    ensures ok { OnOk result ((may_race config.now workers 0 ≡ Ok config.now) × (0 < workers)) }
+    ensures refused { IfErr result (λ e. Refuses e (may_race config.now workers 0)) }
+{
+    let opened = Version::empty(alloc, config);
+    if workers == 0 || workers > MOST_WORKERS {
+        return Err(refusal_of(opened));
+    }
+    opened?;
+    Ok(())
+}
+
+/// Reads the script of a source to its end, races 1 to 16 workers over it on a new bucket, and writes what they were
+/// answered and what each watch handed out to a sink.
+///
+/// The script has writes, which are dealt to the workers in turn, and at most 32 watches. Other lines are refused: the
+/// answers to them come first. Then come the replies, worker by worker, and then the items, watch by watch. Nothing is
+/// written before all was read. The configuration is refused before anything is read, and so is the number of workers
+/// (BadConfig).
+pub fn race_script<R: Threads + Wait + Sync, S: Source, K: Sink>(
+    rt: &R,
+    alloc: Global,
+    source: &mut S,
+    sink: &mut K,
+    config: &Config,
+    workers: usize,
+) -> Result<(), KvError>
+    ensures same_source { S.goes_on source.old source.new }
+    ensures same_sink { K.goes_on sink.old sink.new }
+    ensures ran { RanRace config.now workers (S.left source.old) (S.left source.new) (K.held sink.old) (K.held sink.new) result }
+    // The source is not asked after its end.
+    ensures in_time { S.has_ended source.old ≡ false → S.was_asked_late source.new ≡ S.was_asked_late source.old }
+    // A fault of a device comes only where that device failed.
+    ensures read_fault { IsErrOf result KvError.ReadFault → S.has_failed source.new ≡ true }
+    ensures write_fault { IsErrOf result KvError.WriteFault → K.has_failed sink.new ≡ true }
+    // Where the configuration is refused, nothing was read or written.
+    ensures refused { IfErr result (λ e. IsBadConfiguration e → (source.new ≡ source.old) × (sink.new ≡ sink.old)) }
+{
+    check(alloc, config, workers)?;
+    let plan = read_plan(alloc, source)?;
+    let (refused, requests, watches) = plan.parts();
+    let scripts = deal(alloc, requests, workers)?;
+    sink.write(&refused)?;
+    let report = race(rt, alloc, config, &scripts, &watches, &NoGate)?;
+    write_report(alloc, &report, sink)
+}

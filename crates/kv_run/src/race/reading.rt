@@ -1,0 +1,55 @@
+//! Reads a script for a race.
+
+ghost use Rattle.std.specs.Prelude.{◌≡◌, ◌<◌, ◌⊎◌, ℕ, List, length, true, false, IfOk, IfErr, IsErrOf, OnErr};
+ghost use Rattle.std.specs.Io.KnownBytes.{Consumes, IsAtEnd};
+ghost use Rattle.kv_keys.specs.declared.error.KvError.TheVariants.{OutOfMemory, ReadFault};
+ghost use Rattle.kv_race_script.specs.Planning.{nothing};
+ghost use Rattle.kv_run.specs.Races.{plan_of};
+ghost use Rattle.kv_run.specs.Reading.{beginning};
+
+use crate::engine::{BUFFER_BYTES, new_buffer};
+use crate::race::notes::Notes;
+use crate::source::Source;
+use kv_keys::KvError;
+use kv_race_script::Plan;
+use std::alloc::Global;
+
+/// Reads the source to its end.
+fn read_lines<S: Source>(
+    mut notes: Notes,
+    alloc: Global,
+    buffer: &mut [u8],
+    source: &mut S,
+) -> Result<Plan, KvError>
+    requires room { 0 < length buffer.old }
+    requires begins { notes ≡ beginning nothing }
+    ensures same { S.goes_on source.old source.new }
+    ensures in_time { S.has_ended source.old ≡ false → S.was_asked_late source.new ≡ S.was_asked_late source.old }
+    ensures ok { IfOk result (λ plan. (input : List ℕ) × (Consumes (S.left source.old) (S.left source.new) input × (IsAtEnd (S.left source.new) × (plan ≡ plan_of input)))) }
+    ensures part { OnErr result ((input : List ℕ) × Consumes (S.left source.old) (S.left source.new) input) }
+    ensures read_fault { IsErrOf result KvError.ReadFault → S.has_failed source.new ≡ true }
+    ensures fault { IfErr result (λ e. (e ≡ OutOfMemory) ⊎ (e ≡ ReadFault)) }
+{
+    'reads: loop {
+        let count = source.read(buffer)?;
+        if count == 0 {
+            notes.end_line(alloc)?;
+            return Ok(notes.plan());
+        }
+        notes.take_bytes(alloc, &buffer[..count])?;
+    }
+}
+
+/// Reads a script to its end, and answers what its lines ask for.
+pub(crate) fn read_plan<S: Source>(alloc: Global, source: &mut S) -> Result<Plan, KvError>
+    ensures same { S.goes_on source.old source.new }
+    ensures in_time { S.has_ended source.old ≡ false → S.was_asked_late source.new ≡ S.was_asked_late source.old }
+    ensures ok { IfOk result (λ plan. (input : List ℕ) × (Consumes (S.left source.old) (S.left source.new) input × (IsAtEnd (S.left source.new) × (plan ≡ plan_of input)))) }
+    ensures part { OnErr result ((input : List ℕ) × Consumes (S.left source.old) (S.left source.new) input) }
+    ensures read_fault { IsErrOf result KvError.ReadFault → S.has_failed source.new ≡ true }
+    ensures fault { IfErr result (λ e. (e ≡ OutOfMemory) ⊎ (e ≡ ReadFault)) }
+{
+    let notes = Notes::new(alloc);
+    let mut buffer = new_buffer(alloc, BUFFER_BYTES)?;
+    read_lines(notes, alloc, &mut buffer, source)
+}
