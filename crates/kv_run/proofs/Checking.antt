@@ -1,6 +1,6 @@
 -- Why there is no race: the configuration first, then the number of workers.
 use Rattle.std.proofs.Common.{◌≡◌, ◌&&◌, ℕ, nat_le, Bool, true, false, cond, Result, Ok, Err, true≢false, refl, sym, subst, ap, inl, inr}
-use Rattle.std.specs.Prelude.{IsOk, IsErr, IfOk, IfErr, MatchResult}
+use Rattle.std.specs.Prelude.{IsErr, IfOk, IfErr, MatchResult}
 use Rattle.kv_keys.specs.Outcome.{Refuses}
 use Rattle.kv_keys.specs.declared.error.KvError.{KvError}
 use Rattle.kv_keys.specs.declared.error.KvError.TheVariants.{OutOfMemory, BadBucket, BadConfig}

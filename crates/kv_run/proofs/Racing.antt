@@ -1,8 +1,7 @@
 -- What a race over a script did, by where it ended.
 use Rattle.std.proofs.Common.{◌≡◌, ◌⊎◌, ◌&&◌, ℕ, nat_le, Bool, true, false, true≢false, cond, List, [], ◌++◌, take, drop, take-append-drop, append_assoc, append-nil, Option, Result, Ok, Err, refl, sym, ap, subst, ◌∙◌, inl, inr}
-use Rattle.std.specs.Prelude.{⊤, IsOk, IsErr, IfErr, IfOk, OnOk, OnErr, IsErrOf}
+use Rattle.std.specs.Prelude.{⊤, IsOk, IsErr, IfErr, IsErrOf}
 use Rattle.std.specs.Result.{IsErrAnd}
-use Rattle.std.specs.Io.{StartsWith}
 use Rattle.std.specs.Io.KnownBytes.{Appends, Consumes, IsAtEnd}
 use Rattle.std.proofs.KnownBytes.{Appends-nil, Appends-trans}
 use Rattle.kv_keys.specs.Outcome.{Refuses}

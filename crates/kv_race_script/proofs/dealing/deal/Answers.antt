@@ -1,4 +1,4 @@
-use Rattle.std.proofs.Common.{rules, ◌≡◌, ◌<◌, ◌%◌, ◌++◌, ◌∷◌, [], length, map, Vec, Global, get_or, ◌+◌, refl, sym, ap, subst, arith, ◌∙◌, append_assoc}
+use Rattle.std.proofs.Common.{rules, ◌≡◌, ◌<◌, ◌%◌, ◌++◌, ◌∷◌, [], length, map, Vec, Global, get_or, ◌+◌, refl, sym, ap, arith, ◌∙◌, append_assoc}
 use Rattle.std.proofs.Math.Nat.{mod-lt}
 use Rattle.std.proofs.lemmas.List.{get_or-map, length-append, length-map, map-append}
 use Rattle.std.specs.Vec.Iter.{into_iter_items}

@@ -1,4 +1,4 @@
-use Rattle.std.proofs.Common.{◌≡◌, ◌-◌, [], map, replicate}
+use Rattle.std.proofs.Common.{◌≡◌, [], map, replicate}
 use Rattle.kv_store.specs.Requests.{asked}
 use Rattle.kv_race_script.proofs.dealing.no_requests.Given as goal
 

@@ -1,4 +1,4 @@
-use Rattle.std.proofs.Common.{◌≡◌, List, [], ℕ, Ok, refl, sym, subst, ap, inl, inr, length, map, Result, Vec, Global, ◌∙◌}
+use Rattle.std.proofs.Common.{◌≡◌, [], refl, sym, subst, ap, inl, inr, length, map, Result, Vec, Global, ◌∙◌}
 use Rattle.std.specs.Prelude.{⊤, IsOk, IfErr}
 use Rattle.std.proofs.lemmas.Result.{IfErr-weaker, on_err_weaker, on_ok_weaker}
 use Rattle.std.proofs.KnownBytes.{Consumes-nil}

@@ -1,9 +1,6 @@
-use Rattle.std.proofs.Common.{◌≡◌, ◌<◌, ◌++◌, [], length, ap, sym, arith, ◌∙◌}
+use Rattle.std.proofs.Common.{◌<◌, ◌++◌, length, ap, arith, ◌∙◌}
 use Rattle.std.proofs.KnownBytes.{Consumes-trans}
-use Rattle.kv_race_script.specs.Planning.{after_line, nothing}
-use Rattle.kv_run.specs.Races.{no_text}
-use Rattle.kv_run.specs.Reading.{after_bytes, beginning}
-use Rattle.kv_run.specs.declared.script.TheConstants.{KEPT_BYTES}
+use Rattle.kv_race_script.specs.Planning.{after_line}
 use Rattle.kv_run.proofs.Plans.{plan_of-read, plan_on, read_on}
 use Rattle.kv_run.proofs.Progress.{in_time_still, not_ended, on_err}
 use Rattle.kv_run.proofs.race.reading.read_lines.Goals as goal

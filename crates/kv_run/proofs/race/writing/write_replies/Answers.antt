@@ -1,4 +1,4 @@
-use Rattle.std.proofs.Common.{◌≡◌, ◌+◌, ◌<◌, ◌++◌, ℕ, List, [], length, map, take, get_or, ap, sym, subst, arith, rules, ◌∙◌}
+use Rattle.std.proofs.Common.{◌≡◌, ◌+◌, ◌<◌, [], length, map, get_or, ap, sym, arith, rules, ◌∙◌}
 use Rattle.std.proofs.lemmas.List.{get_or-map, length-map}
 use Rattle.kv_race_script.specs.Reporting.{replies_text}
 use Rattle.kv_run.proofs.Progress.{on_err}
