@@ -5,7 +5,7 @@ use Rattle.kv_keys.specs.Outcome.{Refuses}
 use Rattle.kv_keys.specs.declared.error.KvError.{KvError}
 use Rattle.kv_keys.specs.declared.error.KvError.TheVariants.{OutOfMemory, BadBucket, BadConfig}
 use Rattle.kv_race.specs.Openings.{then_race}
-use Rattle.kv_run.proofs.Ending.{by_cause, error_of}
+use Rattle.kv_replay.proofs.Ending.{by_cause, error_of}
 use Rattle.kv_store.specs.Configuration.{Configuration, IsLegal, configure}
 
 -- what a configuration comes to, by what is wrong with it

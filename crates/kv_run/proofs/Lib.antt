@@ -1,17 +1,6 @@
-pub mod ByteByByte
 pub mod Checking
-pub mod Ending
 pub mod Options
-pub mod Parsing
 pub mod Plans
-pub mod Progress
-pub mod Putting
 pub mod Racing
-pub mod Reached
-pub mod Reading
 pub mod Reporting
 pub mod Statuses
-pub mod Taking
-pub mod TakingBytes
-pub mod Texts
-pub mod WholeLines

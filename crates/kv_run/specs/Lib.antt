@@ -1,13 +1,3 @@
 pub mod Arguments
-pub mod Bounds
-pub mod Faults
-pub mod Lines
-pub mod Outcome
 pub mod Programs
 pub mod Races
-pub mod Reading
-pub mod Replaying
-pub mod Scripted
-pub mod Steps
-pub mod Text
-pub mod Written

@@ -10,7 +10,7 @@ use Rattle.kv_race.specs.Racing.{IsRaced}
 use Rattle.kv_race_script.specs.Dealing.{dealt}
 use Rattle.kv_race_script.specs.Planning.{Planned, planned}
 use Rattle.kv_race_script.specs.Reporting.{report_text}
-use Rattle.kv_run.specs.Lines.{lines_of}
+use Rattle.kv_replay.specs.Lines.{lines_of}
 use Rattle.kv_store.specs.Configuration.{Configuration}
 use Rattle.kv_store.specs.Stored.{Stored}
 

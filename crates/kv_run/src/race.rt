@@ -1,19 +1,19 @@
 //! A race of many workers over one script.
 
-ghost use Rattle.std.specs.Prelude.{◌≡◌, ◌<◌, Ok, OnOk, IfErr, IsErrOf, MatchResult, true, false};
+ghost use Rattle.std.specs.Prelude.{◌≡◌, ◌<◌, ◌+◌, ◌≤◌, Ok, OnOk, IfErr, IsErrOf, MatchResult, true, false};
 ghost use Rattle.kv_keys.specs.Outcome.{Refuses};
 ghost use Rattle.kv_keys.specs.declared.error.KvError.TheVariants.{BadBucket, BadConfig};
 ghost use Rattle.kv_race.specs.Openings.{may_race};
-ghost use Rattle.kv_run.specs.Faults.{IsBadConfiguration};
+ghost use Rattle.kv_replay.specs.Faults.{IsBadConfiguration};
+ghost use Rattle.kv_replay.specs.declared.streams.TheConstants.{READ_CALLS};
 ghost use Rattle.kv_run.specs.Races.{RanRace};
 
 use crate::race::reading::read_plan;
 use crate::race::writing::write_report;
-use crate::sink::Sink;
-use crate::source::Source;
 use kv_keys::KvError;
 use kv_race::{NoGate, race};
 use kv_race_script::deal;
+use kv_replay::{Bounded, READ_CALLS, Reader, Sink, Source};
 use kv_store::{Config, Version};
 use std::alloc::Global;
 use std::sync::Wait;
@@ -82,4 +82,29 @@ pub fn race_script<R: Threads + Wait + Sync, S: Source, K: Sink>(
     sink.write(&refused)?;
     let report = race(rt, alloc, config, &scripts, &watches, &NoGate)?;
     write_report(alloc, &report, sink)
+}
+
+/// Reads the script of a reader to its end, races 1 to 16 workers over it on a new bucket, and writes what they were
+/// answered and what each watch handed out, as [`race_script`] does.
+///
+/// The reader has to give the end of its input within 1,099,511,627,776 calls, else the answer is ReadFault.
+pub fn replay_race<T: Threads + Wait + Sync, R: Reader, K: Sink>(
+    rt: &T,
+    alloc: Global,
+    reader: &mut R,
+    sink: &mut K,
+    config: &Config,
+    workers: usize,
+) -> Result<(), KvError>
+    ensures same_reader { R.goes_on reader.old reader.new }
+    ensures same_sink { K.goes_on sink.old sink.new }
+    ensures ran { RanRace config.now workers (R.left reader.old) (R.left reader.new) (K.held sink.old) (K.held sink.new) result }
+    ensures in_time { R.has_ended reader.old ≡ false → R.was_asked_late reader.new ≡ R.was_asked_late reader.old }
+    ensures at_most { R.asked reader.new ≤ R.asked reader.old + READ_CALLS }
+    ensures read_fault { IsErrOf result KvError.ReadFault → R.has_failed reader.new ≡ false → R.asked reader.new ≡ R.asked reader.old + READ_CALLS }
+    ensures write_fault { IsErrOf result KvError.WriteFault → K.has_failed sink.new ≡ true }
+    ensures refused { IfErr result (λ e. IsBadConfiguration e → (reader.new ≡ reader.old) × (sink.new ≡ sink.old)) }
+{
+    let mut source = Bounded::new(reader, READ_CALLS);
+    race_script(rt, alloc, &mut source, sink, config, workers)
 }

@@ -4,18 +4,17 @@ ghost use Rattle.std.specs.Prelude.{◌≡◌, ◌≢◌, ◌≤◌, ◌⊎◌, 
 ghost use Rattle.clap.specs.Kinds.{IsAmong};
 ghost use Rattle.clap.specs.Values.{kind_of};
 ghost use Rattle.kv_run.specs.Arguments.{config_of, faults_of, race_of, wanted_of};
-ghost use Rattle.kv_run.specs.Faults.{IsBadConfiguration};
+ghost use Rattle.kv_replay.specs.Faults.{IsBadConfiguration};
 ghost use Rattle.kv_run.specs.Programs.{checked, status_of, IsRefused, RunStops, Runs};
 ghost use Rattle.kv_run.specs.Races.{RanRace};
-ghost use Rattle.kv_run.specs.Replaying.{Ran};
+ghost use Rattle.kv_replay.specs.Replaying.{Ran};
 
 use crate::arguments::Arguments;
-use crate::reader::Noted;
-use crate::sink::Whole;
-use crate::streams::{replay, replay_race};
+use crate::race::replay_race;
 use clap::Error;
 use clap::error::ErrorKind;
 use kv_keys::KvError;
+use kv_replay::{Noted, Whole, replay};
 use kv_store::Config;
 use std::alloc::Global;
 use std::io::{Read, Write};

@@ -5,13 +5,12 @@ ghost use Rattle.std.specs.Io.KnownBytes.{Consumes, IsAtEnd};
 ghost use Rattle.kv_keys.specs.declared.error.KvError.TheVariants.{OutOfMemory, ReadFault};
 ghost use Rattle.kv_race_script.specs.Planning.{nothing};
 ghost use Rattle.kv_run.specs.Races.{plan_of};
-ghost use Rattle.kv_run.specs.Reading.{beginning};
+ghost use Rattle.kv_replay.specs.Reading.{beginning};
 
-use crate::engine::{BUFFER_BYTES, new_buffer};
 use crate::race::notes::Notes;
-use crate::source::Source;
 use kv_keys::KvError;
 use kv_race_script::Plan;
+use kv_replay::{BUFFER_BYTES, Source, new_buffer};
 use std::alloc::Global;
 
 /// Reads the source to its end.

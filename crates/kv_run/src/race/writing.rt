@@ -4,14 +4,14 @@ ghost use Rattle.std.specs.Prelude.{◌≡◌, true, map, OnOk, OnErr, IfErr, Is
 ghost use Rattle.std.specs.Io.KnownBytes.{Appends};
 ghost use Rattle.kv_bucket.specs.Answers.{answer_of};
 ghost use Rattle.kv_race_script.specs.Reporting.{numbered, replies_text, report_text, seen_text};
-ghost use Rattle.kv_run.specs.Faults.{IsWriteOrMemory};
-ghost use Rattle.kv_run.specs.Written.{Puts};
+ghost use Rattle.kv_replay.specs.Faults.{IsWriteOrMemory};
+ghost use Rattle.kv_replay.specs.Written.{Puts};
 
-use crate::sink::Sink;
 use kv_bucket::Reply;
 use kv_keys::KvError;
 use kv_race::Report;
 use kv_race_script::{append_replies, append_seen};
+use kv_replay::Sink;
 use std::alloc::Global;
 
 /// Writes the replies, worker by worker.

@@ -2,8 +2,8 @@ use Rattle.std.proofs.Common.{◌≡◌, ℕ, List, false}
 use Rattle.std.specs.Io.KnownBytes.{Consumes}
 use Rattle.kv_race_script.specs.Planning.{after_line, nothing}
 use Rattle.kv_run.specs.Races.{no_text}
-use Rattle.kv_run.specs.Reading.{after_bytes, beginning}
-use Rattle.kv_run.specs.declared.script.TheConstants.{KEPT_BYTES}
+use Rattle.kv_replay.specs.Reading.{after_bytes, beginning}
+use Rattle.kv_replay.specs.declared.script.TheConstants.{KEPT_BYTES}
 use Rattle.kv_run.proofs.race.reading.read_lines.Given as goal
 
 -- the source is the same, and the input so far was read

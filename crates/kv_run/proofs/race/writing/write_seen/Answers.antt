@@ -2,7 +2,7 @@ use Rattle.std.proofs.Common.{◌≡◌, ◌+◌, ◌<◌, [], length, map, get_
 use Rattle.std.proofs.lemmas.List.{get_or-map, length-map}
 use Rattle.kv_bucket.specs.Answers.{answer_of}
 use Rattle.kv_race_script.specs.Reporting.{seen_text}
-use Rattle.kv_run.proofs.Progress.{on_err}
+use Rattle.kv_replay.proofs.Progress.{on_err}
 use Rattle.kv_run.proofs.Reporting.{text_made, told_more, told_part}
 use Rattle.kv_run.proofs.race.writing.write_seen.Goals as goal
 

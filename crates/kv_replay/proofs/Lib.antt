@@ -1,0 +1,11 @@
+pub mod ByteByByte
+pub mod Ending
+pub mod Parsing
+pub mod Progress
+pub mod Putting
+pub mod Reached
+pub mod Reading
+pub mod Taking
+pub mod TakingBytes
+pub mod Texts
+pub mod WholeLines

@@ -1,0 +1,10 @@
+pub mod Bounds
+pub mod Faults
+pub mod Lines
+pub mod Outcome
+pub mod Reading
+pub mod Replaying
+pub mod Scripted
+pub mod Steps
+pub mod Text
+pub mod Written
