@@ -105,6 +105,38 @@ fn sixty_four_watches(rt: HostRuntime) -> Result<(), Fail> {
     Ok(())
 }
 
+fn answers(
+    rt: &impl Abort,
+    bucket: &mut Bucket,
+    request: &Request,
+    expected: Result<u64, KvError>,
+) {
+    assert_eq!(rt; write(rt, bucket, request), expected);
+}
+
+fn puts_as(
+    rt: &impl Abort,
+    alloc: Global,
+    bucket: &mut Bucket,
+    key: &str,
+    expected: Result<u64, KvError>,
+) -> Result<(), KvError> {
+    let request = put(alloc, key, "")?;
+    answers(rt, bucket, &request, expected);
+    Ok(())
+}
+
+fn has_status(rt: &impl Abort, bucket: &Bucket, expected: Status) {
+    assert_eq!(rt; bucket.version().status(), expected);
+}
+
+// Its two writes, and no more.
+fn fills(rt: &impl Abort, alloc: Global, bucket: &mut Bucket) -> Result<(), KvError> {
+    puts_as(rt, alloc, bucket, "a", Ok(1))?;
+    puts_as(rt, alloc, bucket, "b", Ok(2))?;
+    puts_as(rt, alloc, bucket, "c", Err(KvError::JournalFull))
+}
+
 #[test]
 fn write_limit_and_seal(rt: HostRuntime) -> Result<(), Fail> {
     let limits = Limits {
@@ -113,14 +145,9 @@ fn write_limit_and_seal(rt: HostRuntime) -> Result<(), Fail> {
         ..LARGEST
     };
     let mut bucket = open(rt.alloc(), "kv", limits)?;
-    let first = put(rt.alloc(), "a", "")?;
-    let second = put(rt.alloc(), "b", "")?;
-    let third = put(rt.alloc(), "c", "")?;
-    assert_eq!(rt; write(&rt, &mut bucket, &first)?, 1);
-    assert_eq!(rt; write(&rt, &mut bucket, &second)?, 2);
-    assert_eq!(rt; write(&rt, &mut bucket, &third), Err(KvError::JournalFull));
+    fills(&rt, rt.alloc(), &mut bucket)?;
     seal(&rt, &mut bucket)?;
-    assert_eq!(rt; write(&rt, &mut bucket, &third), Err(KvError::Sealed));
+    puts_as(&rt, rt.alloc(), &mut bucket, "c", Err(KvError::Sealed))?;
     let status = Status {
         history: 1,
         last: 2,
@@ -128,7 +155,7 @@ fn write_limit_and_seal(rt: HostRuntime) -> Result<(), Fail> {
         stored: 2,
         values: 2,
     };
-    assert_eq!(rt; bucket.version().status(), status);
+    has_status(&rt, &bucket, status);
     Ok(())
 }
 

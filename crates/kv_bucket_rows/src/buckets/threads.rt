@@ -24,16 +24,10 @@ mod told;
 enum Row {
     Beginning,
     ManyReaders,
-    InitialOfItsMoment,
-    InitialThroughWrite,
-    WatchNumbers,
-    WriteLimitAndSeal,
     Closed,
-    HeldGuard,
-    StopsInEachPhase,
-    GuardKeptByAWriter,
-    ToldWrite,
-    ToldTwice,
+    Lock(lock::Row),
+    Feeds(feeds::Row),
+    Told(told::Row),
 }
 
 impl Row {
@@ -46,7 +40,7 @@ impl Row {
 
     fn write_limit(self) -> u64 {
         match self {
-            Row::WriteLimitAndSeal => 2,
+            Row::Lock(lock::Row::WriteLimitAndSeal) => 2,
             _ => 1_000_000,
         }
     }
@@ -99,16 +93,10 @@ fn run_over<N: LiveName + Send + Sync, R: Threads + Wait + Abort + Sync>(
     match row {
         Row::Beginning => opening::beginning(rt, live),
         Row::ManyReaders => opening::all_read(rt, readers, 32),
-        Row::InitialOfItsMoment => lock::initial_on_guards(rt, alloc, live),
-        Row::InitialThroughWrite => lock::initial_through_write(rt, alloc, live),
-        Row::WatchNumbers => lock::numbers(rt, alloc, live),
-        Row::WriteLimitAndSeal => lock::limit_and_seal(rt, alloc, live),
         Row::Closed => Ok(()),
-        Row::HeldGuard => feeds::held_guard(rt, alloc, live, readers),
-        Row::StopsInEachPhase => feeds::stops(rt, alloc, live, readers),
-        Row::GuardKeptByAWriter => feeds::kept_guard(rt, alloc, live, readers),
-        Row::ToldWrite => told::told_write(rt, alloc, live, readers),
-        Row::ToldTwice => told::told_twice(rt, alloc, live, readers),
+        Row::Lock(row) => lock::run_row(rt, alloc, live, row),
+        Row::Feeds(row) => feeds::run_row(rt, alloc, live, readers, row),
+        Row::Told(row) => told::run_row(rt, alloc, live, readers, row),
     }
 }
 

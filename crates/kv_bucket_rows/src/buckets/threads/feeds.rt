@@ -3,14 +3,36 @@
 use super::*;
 use kv_bucket::{Keeper, Key};
 
+// What two readers do while another thread has the lock.
+#[derive(Clone, Copy)]
+pub(super) enum Row {
+    HeldGuard,
+    StopsInEachPhase,
+    GuardKeptByAWriter,
+}
+
+pub(super) fn run_row<N: LiveName + Send + Sync, R: Threads + Wait + Abort + Sync>(
+    rt: &R,
+    alloc: Global,
+    live: &Live<N>,
+    readers: Vec<Reader<N>>,
+    row: Row,
+) -> Result<(), KvError> {
+    match row {
+        Row::HeldGuard => held_guard(rt, alloc, live, readers),
+        Row::StopsInEachPhase => stops(rt, alloc, live, readers),
+        Row::GuardKeptByAWriter => kept_guard(rt, alloc, live, readers),
+    }
+}
+
 // The wrong body of this name would wait here for ever: the guard is given back only after the feed is done.
 #[test]
 fn feed_takes_the_lock(rt: HostRuntime) -> Result<(), Fail> {
-    run(&rt, rt.alloc(), Row::HeldGuard)?;
+    run(&rt, rt.alloc(), super::Row::Feeds(Row::HeldGuard))?;
     Ok(())
 }
 
-pub(super) fn held_guard<N: LiveName + Send + Sync, R: Threads + Wait + Abort + Sync>(
+fn held_guard<N: LiveName + Send + Sync, R: Threads + Wait + Abort + Sync>(
     rt: &R,
     alloc: Global,
     live: &Live<N>,
@@ -99,7 +121,7 @@ fn seal_then_write<N: LiveName, R: Wait + Abort>(
 
 #[test]
 fn stops_in_each_phase(rt: HostRuntime) -> Result<(), Fail> {
-    run(&rt, rt.alloc(), Row::StopsInEachPhase)?;
+    run(&rt, rt.alloc(), super::Row::Feeds(Row::StopsInEachPhase))?;
     Ok(())
 }
 
@@ -145,7 +167,7 @@ fn deletes_at<N: LiveName, R: Wait + Abort>(
     Ok(())
 }
 
-pub(super) fn stops<N: LiveName + Send + Sync, R: Threads + Wait + Abort + Sync>(
+fn stops<N: LiveName + Send + Sync, R: Threads + Wait + Abort + Sync>(
     rt: &R,
     alloc: Global,
     live: &Live<N>,
@@ -189,11 +211,11 @@ fn has_handed<N: LiveName, R: Abort>(rt: &R, feed: &Feed<N>, handed: u64) {
 
 #[test]
 fn a_writer_keeps_its_guard(rt: HostRuntime) -> Result<(), Fail> {
-    run(&rt, rt.alloc(), Row::GuardKeptByAWriter)?;
+    run(&rt, rt.alloc(), super::Row::Feeds(Row::GuardKeptByAWriter))?;
     Ok(())
 }
 
-pub(super) fn kept_guard<N: LiveName + Send + Sync, R: Threads + Wait + Abort + Sync>(
+fn kept_guard<N: LiveName + Send + Sync, R: Threads + Wait + Abort + Sync>(
     rt: &R,
     alloc: Global,
     live: &Live<N>,

@@ -2,6 +2,29 @@
 
 use super::*;
 
+// What each line does on a guard of its own.
+#[derive(Clone, Copy)]
+pub(super) enum Row {
+    InitialOfItsMoment,
+    InitialThroughWrite,
+    WatchNumbers,
+    WriteLimitAndSeal,
+}
+
+pub(super) fn run_row<N: LiveName, R: Wait + Abort>(
+    rt: &R,
+    alloc: Global,
+    live: &Live<N>,
+    row: Row,
+) -> Result<(), KvError> {
+    match row {
+        Row::InitialOfItsMoment => initial_on_guards(rt, alloc, live),
+        Row::InitialThroughWrite => initial_through_write(rt, alloc, live),
+        Row::WatchNumbers => numbers(rt, alloc, live),
+        Row::WriteLimitAndSeal => limit_and_seal(rt, alloc, live),
+    }
+}
+
 fn write_on_one_guard<N: LiveName, R: Wait>(
     rt: &R,
     live: &Live<N>,
@@ -130,11 +153,11 @@ fn taken_on_guards<N: LiveName, R: Wait + Abort>(rt: &R, live: &Live<N>) {
 // The wrong body of this name would lose a watch between two guards.
 #[test]
 fn lock_resets_watches(rt: HostRuntime) -> Result<(), Fail> {
-    run(&rt, rt.alloc(), Row::InitialOfItsMoment)?;
+    run(&rt, rt.alloc(), super::Row::Lock(Row::InitialOfItsMoment))?;
     Ok(())
 }
 
-pub(super) fn initial_on_guards<N: LiveName, R: Wait + Abort>(
+fn initial_on_guards<N: LiveName, R: Wait + Abort>(
     rt: &R,
     alloc: Global,
     live: &Live<N>,
@@ -152,11 +175,11 @@ pub(super) fn initial_on_guards<N: LiveName, R: Wait + Abort>(
 // The wrong body of this name would answer a number without a write.
 #[test]
 fn live_write_writes_nothing(rt: HostRuntime) -> Result<(), Fail> {
-    run(&rt, rt.alloc(), Row::InitialThroughWrite)?;
+    run(&rt, rt.alloc(), super::Row::Lock(Row::InitialThroughWrite))?;
     Ok(())
 }
 
-pub(super) fn initial_through_write<N: LiveName, R: Wait + Abort>(
+fn initial_through_write<N: LiveName, R: Wait + Abort>(
     rt: &R,
     alloc: Global,
     live: &Live<N>,
@@ -172,11 +195,11 @@ pub(super) fn initial_through_write<N: LiveName, R: Wait + Abort>(
 
 #[test]
 fn watch_numbers_on_guards(rt: HostRuntime) -> Result<(), Fail> {
-    run(&rt, rt.alloc(), Row::WatchNumbers)?;
+    run(&rt, rt.alloc(), super::Row::Lock(Row::WatchNumbers))?;
     Ok(())
 }
 
-pub(super) fn numbers<N: LiveName, R: Wait + Abort>(
+fn numbers<N: LiveName, R: Wait + Abort>(
     rt: &R,
     alloc: Global,
     live: &Live<N>,
@@ -203,11 +226,11 @@ fn knows_no_watch<N: LiveName, R: Wait + Abort>(rt: &R, live: &Live<N>, number: 
 
 #[test]
 fn write_limit_and_seal_on_a_live_bucket(rt: HostRuntime) -> Result<(), Fail> {
-    run(&rt, rt.alloc(), Row::WriteLimitAndSeal)?;
+    run(&rt, rt.alloc(), super::Row::Lock(Row::WriteLimitAndSeal))?;
     Ok(())
 }
 
-pub(super) fn limit_and_seal<N: LiveName, R: Wait + Abort>(
+fn limit_and_seal<N: LiveName, R: Wait + Abort>(
     rt: &R,
     alloc: Global,
     live: &Live<N>,

@@ -3,6 +3,26 @@
 use super::*;
 use kv_bucket::Receipt;
 
+// What is told.
+#[derive(Clone, Copy)]
+pub(super) enum Row {
+    ToldWrite,
+    ToldTwice,
+}
+
+pub(super) fn run_row<N: LiveName + Send + Sync, R: Threads + Wait + Abort + Sync>(
+    rt: &R,
+    alloc: Global,
+    live: &Live<N>,
+    readers: Vec<Reader<N>>,
+    row: Row,
+) -> Result<(), KvError> {
+    match row {
+        Row::ToldWrite => told_write(rt, alloc, live, readers),
+        Row::ToldTwice => told_twice(rt, alloc, live, readers),
+    }
+}
+
 fn write_told_once<N: LiveName, R: Wait>(
     rt: &R,
     live: &Live<N>,
@@ -46,11 +66,11 @@ fn told_at<N: LiveName, R: Wait + Abort>(
 
 #[test]
 fn told_write_is_handed_out(rt: HostRuntime) -> Result<(), Fail> {
-    run(&rt, rt.alloc(), Row::ToldWrite)?;
+    run(&rt, rt.alloc(), super::Row::Told(Row::ToldWrite))?;
     Ok(())
 }
 
-pub(super) fn told_write<N: LiveName + Send + Sync, R: Threads + Wait + Abort + Sync>(
+fn told_write<N: LiveName + Send + Sync, R: Threads + Wait + Abort + Sync>(
     rt: &R,
     alloc: Global,
     live: &Live<N>,
@@ -95,12 +115,12 @@ fn reader_sees<N: LiveName, R: Abort>(
 
 #[test]
 fn receipts_in_any_order(rt: HostRuntime) -> Result<(), Fail> {
-    run(&rt, rt.alloc(), Row::ToldTwice)?;
+    run(&rt, rt.alloc(), super::Row::Told(Row::ToldTwice))?;
     Ok(())
 }
 
 // Each receipt is shown to two readers: a reader that learns an older one after a newer one knows no less.
-pub(super) fn told_twice<N: LiveName + Send + Sync, R: Threads + Wait + Abort + Sync>(
+fn told_twice<N: LiveName + Send + Sync, R: Threads + Wait + Abort + Sync>(
     rt: &R,
     alloc: Global,
     live: &Live<N>,
