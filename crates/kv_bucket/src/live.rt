@@ -94,7 +94,7 @@ impl Opened {
             blank,
             readers,
         } = self;
-        let publisher: Publisher<N> = Publisher::new(alloc, blank, &bucket.version, readers)?;
+        let publisher: Publisher<N> = Publisher::new(rt, alloc, blank, &bucket.version, readers)?;
         match publisher.readers(readers) {
             Ok(readers) => {
                 let live = Live {

@@ -1,24 +1,23 @@
--- The exchange that adds a note keeps the rule.
+-- The exchange that adds an act keeps the rule.
 use Rattle.std.proofs.Common.{◌≡◌, ℕ, ◌+◌, ◌<◌, ◌==◌, Bool, true, false, List, [], ◌∷◌, ◌++◌, length, refl, ap, sym, subst, arith, inl, length-append, None}
 use Rattle.std.proofs.lemmas.List.{append-nil}
 use Rattle.std.proofs.lemmas.Bool.Decides.{nat_tests}
-use Rattle.kv_store.specs.Acts.{IsPrefix}
+use Rattle.kv_store.specs.Acts.{Act, IsPrefix}
 use prog.Atomic.{either}
 use Rattle.logbook.specs.Pages.{Cell, cell, keeps, no_nib, step, Moves, Goes}
-use Rattle.kv_history.specs.declared.history.Note.{Note}
 use Rattle.kv_history.specs.Rules.{IsKept, Adding}
 use Rattle.kv_history.proofs.Prefixes.{prefix_whole}
 
-abbrev pub shown : List Note → List Note
+abbrev pub shown : List Act → List Act
 shown log = []
 
-abbrev pub moved : List Note → List Note → ℕ → Type 0
+abbrev pub moved : List Act → List Act → ℕ → Type 0
 moved xs ys n = Unit {0}
 
-abbrev Adds : List Note → Note → ℕ → List Cell → List Note → Type 0
+abbrev Adds : List Act → Act → ℕ → List Cell → List Act → Type 0
 Adds v e old = Goes IsKept shown moved 0 (v, (no_nib, None)) (λ n. either (n == old) (old + 1) n) (Adding (step 0 old (old + 1) e) (v, (no_nib, None)))
 
-adds_goes : (log v : List Note) (e : Note) (old : ℕ) → length v ≡ old → IsPrefix v log → (b : Bool) → (length log == old) ≡ b → Adds v e old ((length log, true) ∷ (0, true) ∷ []) log
+adds_goes : (log v : List Act) (e : Act) (old : ℕ) → length v ≡ old → IsPrefix v log → (b : Bool) → (length log == old) ≡ b → Adds v e old ((length log, true) ∷ (0, true) ∷ []) log
 adds_goes log v e old len pre true is =
     let here : length log ≡ old = grind (arith, nat_tests) in
     let same : v ≡ log = prefix_whole v log pre (omega arith) in
@@ -43,8 +42,8 @@ adds_goes log v e old len pre false is =
       rw is (ap length all),
     )
 
--- whatever the book is, the exchange adds the note to all that was seen, or finds that the history is longer
-pub adds_moves : (v : List Note) (e : Note) (old : ℕ) → length v ≡ old
+-- whatever the book is, the exchange adds the act to all that was seen, or finds that the history is longer
+pub adds_moves : (v : List Act) (e : Act) (old : ℕ) → length v ≡ old
     → Moves IsKept shown moved 0 (v, (no_nib, None)) (λ n. either (n == old) (old + 1) n) (Adding (step 0 old (old + 1) e) (v, (no_nib, None)))
 adds_moves v e old len cs log kept pre away =
     let P : List Cell → Type 0 = λ c. (0 < length c) × ((cell c 0).1 ≡ true) × Adds v e old c log in

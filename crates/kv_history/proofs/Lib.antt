@@ -1,7 +1,6 @@
 pub mod Adding
 pub mod Feeds
 pub mod Follow
-pub mod Notes
 pub mod Once
 pub mod Owing
 pub mod Prefixes

@@ -5,13 +5,12 @@ use Rattle.kv_store.specs.Configuration.{Configuration}
 use Rattle.kv_watch.specs.declared.options.Options.{Options}
 use Rattle.kv_watch.specs.Following.{Following, InPlace}
 use Rattle.kv_history.specs.Feeding.{Feeding}
-use Rattle.kv_history.specs.History.{offered_of}
 use Rattle.kv_history.specs.Known.{Known}
 use Rattle.kv_history.specs.Shelves.{Shelved}
 
 -- the acts that a shelf's version stands for
 abbrev pub acts_on : Shelved → List Act
-acts_on shelf = offered_of shelf.glimpse.sight.log
+acts_on shelf = shelf.glimpse.sight.log
 
 -- the cursor of a feed is in place for the version of its opening and the one that it went on to, under this configuration; its reader has seen what it went on to
 pub record IsFed (config : Configuration) (reader : Known) (base current : Shelved) (cursor : Following) : Type 0 where

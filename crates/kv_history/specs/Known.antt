@@ -1,5 +1,5 @@
 -- What a contract sees of a reader.
-use Rattle.std.specs.Prelude.{◌≡◌, List, [], Option, Some, None, ◌⊎◌}
+use Rattle.std.specs.Prelude.{◌≡◌, List, ◌⊎◌}
 use Rattle.kv_keys.specs.declared.error.KvError.{KvError}
 use Rattle.kv_keys.specs.declared.error.KvError.TheVariants.{NoReader, OutOfMemory}
 use Rattle.kv_store.specs.Acts.{Act}
@@ -8,10 +8,6 @@ use Rattle.kv_store.specs.Acts.{Act}
 pub record Known : Type 0 where
   pub seen : List Act
   pub told : List Act
-
-abbrev pub seen_from : {S : Type 0} → Option S → (S → List Act) → List Act
-seen_from (Some seat) seen = seen seat
-seen_from None seen = []
 
 -- why nothing was read: the store lets no reader enter, or memory was refused
 abbrev pub IsUnread : KvError → Type 0

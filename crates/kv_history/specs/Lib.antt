@@ -1,7 +1,6 @@
 pub mod Deeds
 pub mod Fed
 pub mod Feeding
-pub mod History
 pub mod Known
 pub mod Lent
 pub mod Openings

@@ -1,10 +1,9 @@
 //! The two copies of what is published, and the end of them that publishes.
 
-ghost use Rattle.std.specs.Prelude.{◌≡◌, ◌<◌, ◌^◌, [], MatchResult};
+ghost use Rattle.std.specs.Prelude.{◌≡◌, ◌<◌, ◌^◌, [], IfSome, MatchResult};
 ghost use Rattle.left_right.specs.Sides.{view};
 ghost use Rattle.kv_keys.specs.declared.error.KvError.TheVariants.{OutOfMemory, NoReader};
 ghost use Rattle.kv_store.specs.Acts.{IsPrefix};
-ghost use Rattle.kv_history.specs.History.{offered_of};
 ghost use Rattle.kv_history.specs.Shelves.{IsOf};
 
 use crate::history::LiveName;
@@ -27,35 +26,41 @@ impl<N: LiveName> Model for Copies<N> {
     ghost use Rattle.std.specs.Prelude.{List};
     ghost use Rattle.std.specs.Mem.{manually_drop_value};
     ghost use Rattle.kv_store.specs.Acts.{Act};
-    ghost use Rattle.kv_history.specs.History.{offered_of};
 
     ghost Value = { List Act };
 
-    ghost view = { λ p. offered_of (manually_drop_value p.writer).desk.shown.value.glimpse.sight.log };
+    ghost view = { λ p. (manually_drop_value p.writer).desk.shown.value.glimpse.sight.log };
 }
 
 impl<N: LiveName> Copies<N> {
     fn of(writer: Writer<Shelf, Shelf, View, Published<N>>) -> Copies<N>
-        ensures { result ≡ offered_of writer.desk.shown.value.glimpse.sight.log }
+        ensures { result ≡ writer.desk.shown.value.glimpse.sight.log }
     {
         // `close` and `publish` take it out again.
         let writer = unsafe { ManuallyDrop::new_unchecked(writer) };
         Copies { writer }
     }
 
-    /// Two copies that are alike, with room for so many readers.
-    pub fn new(
+    /// Two copies that are alike, with room for so many readers. The third shelf is the first that is pending: it makes the
+    /// room in which all later ones find a place.
+    pub fn new<R: Wait>(
+        rt: &R,
         alloc: Global,
         first: Shelf,
         second: Shelf,
+        third: Shelf,
         readers: usize,
     ) -> Result<Copies<N>, KvError>
         requires of { IsOf N.opening first }
         requires alike { (first.glimpse.sight ≡ second.glimpse.sight) × (first.version.config ≡ second.version.config) }
         requires readers { (0 < readers) × (readers < 2 ^ 32) }
-        ensures { MatchResult result (λ p. p ≡ offered_of first.glimpse.sight.log) (λ e. e ≡ OutOfMemory) }
+        ensures { MatchResult result (λ p. p ≡ first.glimpse.sight.log) (λ e. e ≡ OutOfMemory) }
     {
-        let writer = Writer::new(alloc, first, second, readers)?;
+        let mut writer = Writer::new(alloc, first, second, readers)?;
+        if writer.append(third).is_err() {
+            Copies::<N>::of(writer).close(rt);
+            return Err(KvError::OutOfMemory);
+        }
         Ok(Copies::of(writer))
     }
 
@@ -70,20 +75,27 @@ impl<N: LiveName> Copies<N> {
     }
 
     /// Publishes a shelf. What is pending is replaced by it. It waits for those that read the other copy.
-    pub fn publish<R: Wait>(self, rt: &R, shelf: Shelf) -> (Copies<N>, Result<(), KvError>)
+    ///
+    /// Where it is refused the copies have ended. It never is: there is room for what is pending since the beginning, and no
+    /// version is shared as often as can be counted.
+    pub fn publish<R: Wait>(self, rt: &R, shelf: Shelf) -> Option<Copies<N>>
         requires of { IsOf N.opening shelf }
-        requires grows { IsPrefix self (offered_of shelf.glimpse.sight.log) }
-        ensures { MatchResult result.1 (λ _. result.0 ≡ offered_of shelf.glimpse.sight.log) (λ e. (result.0 ≡ self) × (e ≡ OutOfMemory)) }
+        requires grows { IsPrefix self shelf.glimpse.sight.log }
+        ensures { IfSome result (λ p. p ≡ shelf.glimpse.sight.log) }
     {
         let Copies { writer } = self;
         let mut writer = ManuallyDrop::into_inner(writer);
         if writer.append(shelf).is_err() {
-            return (Copies::of(writer), Err(KvError::OutOfMemory));
+            Copies::<N>::of(writer).close(rt);
+            return None;
         }
         let (writer, published) = writer.publish_as::<Shows, R>(rt);
         match published {
-            Ok(()) => (Copies::of(writer), Ok(())),
-            Err(_) => (Copies::of(writer), Err(KvError::OutOfMemory)),
+            Ok(()) => Some(Copies::of(writer)),
+            Err(_) => {
+                Copies::<N>::of(writer).close(rt);
+                None
+            }
         }
     }
 

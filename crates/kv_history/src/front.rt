@@ -1,18 +1,18 @@
 //! A beginning of a history that was seen.
-ghost use Rattle.std.specs.Prelude.{◌≡◌, ◌⊎◌, ◌^◌, ◌<◌, ◌++◌, ◌∷◌, [], true, length};
+ghost use Rattle.std.specs.Prelude.{◌≡◌, ◌⊎◌, ◌^◌, ◌<◌, ◌++◌, ◌∷◌, [], true, false, length};
 ghost use Rattle.kv_store.specs.Acts.{IsPrefix};
-ghost use Rattle.kv_history.specs.History.{shown_of, offered_of};
 
-use crate::history::{Adds, Head, LiveName, Note, Noted, Nothing, Sight};
+use crate::deed::Deed;
+use crate::history::{Adds, Head, LiveName, Noted, Nothing, Sight};
 use logbook::Offer;
 use std::marker::{Model, PhantomData};
 
 /// A beginning of some history, with its length.
 #[derive(Drop)]
 pub struct Glimpse {
-    pub notes: u64,
+    pub acts: u64,
     pub sight: Sight,
-    pub ghost counted: { notes ≡ length sight.log },
+    pub ghost counted: { acts ≡ length sight.log },
 }
 
 impl Glimpse {
@@ -21,13 +21,13 @@ impl Glimpse {
         ensures { result.sight ≡ self.now.sight }
     {
         Glimpse {
-            notes: self.notes,
+            acts: self.acts,
             sight: self.sight.again(),
         }
     }
 }
 
-/// A beginning of the history of N. Contracts see it as its notes.
+/// A beginning of the history of N. Contracts see it as its acts.
 #[derive(Drop)]
 pub struct Front<N: LiveName> {
     glimpse: Glimpse,
@@ -35,10 +35,10 @@ pub struct Front<N: LiveName> {
 }
 
 impl<N: LiveName> Model for Front<N> {
-    ghost use Rattle.std.specs.Prelude.{◌≡◌, List, length};
-    ghost use Rattle.kv_history.specs.declared.history.Note.{Note};
+    ghost use Rattle.std.specs.Prelude.{◌≡◌, List};
+    ghost use Rattle.kv_store.specs.Acts.{Act};
 
-    ghost Value = { List Note };
+    ghost Value = { List Act };
 
     ghost view = { λ f. f.glimpse.sight.log };
 
@@ -46,13 +46,24 @@ impl<N: LiveName> Model for Front<N> {
 }
 
 impl<N: LiveName> Front<N> {
+    /// What was glimpsed of the history of N.
+    pub fn of(glimpse: &Glimpse) -> Front<N>
+        requires { glimpse.now.sight.book ≡ N.opening.book }
+        ensures { result ≡ glimpse.now.sight.log }
+    {
+        Front {
+            glimpse: glimpse.again(),
+            of: PhantomData,
+        }
+    }
+
     /// The front that has seen nothing.
     pub fn new(sight: Sight) -> Front<N>
         requires { (sight.log ≡ []) × (sight.book ≡ N.opening.book) }
         ensures { result ≡ [] }
     {
         Front {
-            glimpse: Glimpse { notes: 0, sight },
+            glimpse: Glimpse { acts: 0, sight },
             of: PhantomData,
         }
     }
@@ -60,7 +71,7 @@ impl<N: LiveName> Front<N> {
     pub fn len(&self) -> u64
         ensures { result ≡ length self.now }
     {
-        self.glimpse.notes
+        self.glimpse.acts
     }
 
     /// A copy.
@@ -80,46 +91,44 @@ impl<N: LiveName> Front<N> {
         self.glimpse.again()
     }
 
-    /// The longer of two fronts, which the other begins.
+    /// Whether this front is as long as the other one, or longer. Of two fronts the shorter begins the longer.
+    pub fn covers(&self, other: &Front<N>) -> bool
+        ensures yes { result ≡ true → IsPrefix other.now self.now }
+        ensures no { result ≡ false → IsPrefix self.now other.now }
+    {
+        let mut both = self.glimpse.sight.again();
+        both.learn(&other.glimpse.sight);
+        other.glimpse.acts <= self.glimpse.acts
+    }
+
+    /// The longer of two fronts.
     pub fn longer(&self, other: &Front<N>) -> Front<N>
         ensures one { (result ≡ self.now) ⊎ (result ≡ other.now) }
         ensures this { IsPrefix self.now result }
         ensures that { IsPrefix other.now result }
     {
-        let mut both = self.glimpse.sight.again();
-        both.learn(&other.glimpse.sight);
-        if self.glimpse.notes < other.glimpse.notes {
-            other.again()
-        } else {
+        if self.covers(other) {
             self.again()
+        } else {
+            other.again()
         }
     }
 
-    /// True if what this front knows to be shown begins what the last offer that was glimpsed stands for.
-    pub fn begins(&self, offer: &Glimpse) -> bool
-        requires { offer.now.sight.book ≡ N.opening.book }
-        ensures { result ≡ true → IsPrefix (shown_of self.now) (offered_of offer.now.sight.log) }
-    {
-        let mut both = self.glimpse.sight.again();
-        both.learn(&offer.sight);
-        self.glimpse.notes.saturating_sub(1) <= offer.notes
-    }
-
-    /// Adds a note to all that was seen, and says whether it did. It did not where the history is longer.
-    pub fn add(&mut self, head: &Head<N>, note: Note) -> bool
+    /// Adds an act to all that was seen, and says whether it did. It did not where the history is longer.
+    pub fn add(&mut self, head: &Head<N>, deed: Deed) -> bool
         requires { length self.old < 2 ^ 62 }
-        ensures { result ≡ true → self.new ≡ self.old ++ note ∷ [] }
+        ensures { result ≡ true → self.new ≡ self.old ++ deed ∷ [] }
     {
         let mut sight = self.glimpse.sight.again();
-        let mut offer: Offer<Note, u64, Noted, Nothing> = sight.plain::<Nothing, Note, Adds>(&note);
+        let mut offer: Offer<Deed, u64, Noted, Nothing> = sight.plain::<Nothing, Deed, Adds>(&deed);
         let mut pen = sight.no_pen();
-        let notes = self.glimpse.notes;
+        let acts = self.glimpse.acts;
         let found = head
             .length
-            .compare_exchange::<Adds, Nothing>(notes, notes + 1, &mut sight, &mut offer, &mut pen);
-        let added = found == notes;
-        let notes = if added { notes + 1 } else { found };
-        self.glimpse = Glimpse { notes, sight };
+            .compare_exchange::<Adds, Nothing>(acts, acts + 1, &mut sight, &mut offer, &mut pen);
+        let added = found == acts;
+        let acts = if added { acts + 1 } else { found };
+        self.glimpse = Glimpse { acts, sight };
         added
     }
 }

@@ -1,4 +1,4 @@
-//! The history of an opening: the acts that were offered to its readers, and which of them were shown. It exists in proofs alone, beside one word with its length.
+//! The history of an opening: the acts that were published, in order, and perhaps one more that is about to be. It exists in proofs alone, beside one word with its length.
 
 ghost use Rattle.std.specs.Prelude.{◌≡◌, []};
 ghost use Rattle.kv_history.specs.Rules.{head_of};
@@ -7,17 +7,10 @@ use crate::deed::Deed;
 use logbook::{Gain, Plain, Play, Rule, Seen, Start, Word};
 use std::marker::{Brand, PhantomData};
 
-/// What is noted: that an act is about to be published, and then that it was. The code keeps no list of these.
-#[derive(Drop)]
-pub enum Note {
-    Offered(Deed),
-    Shown,
-}
-
 /// The rule of the history.
 pub struct Noted;
 
-impl Rule<Note, u64> for Noted {
+impl Rule<Deed, u64> for Noted {
     ghost use Rattle.std.specs.Prelude.{[]};
     ghost use base.Fml.{ftrue};
     ghost use Rattle.kv_history.specs.Rules.{IsKept};
@@ -38,28 +31,28 @@ impl Rule<Note, u64> for Noted {
 /// Callers trade nothing.
 pub struct Nothing;
 
-impl Gain<Note, u64> for Nothing {
+impl Gain<Deed, u64> for Nothing {
     ghost use base.Fml.{ftrue};
 
     ghost after = { λ names about answer. ftrue };
 }
 
-/// A step that adds a note.
+/// A step that adds an act.
 pub struct Adds;
 
-impl Play<Note, u64> for Adds {
+impl Play<Deed, u64> for Adds {
     ghost use Rattle.kv_history.specs.Rules.{Adding};
 
     ghost then = { Adding };
 }
 
-/// What a step asks for: the note.
-impl Plain<Note, Note, u64> for Adds {
+/// What a step asks for: the act.
+impl Plain<Deed, Deed, u64> for Adds {
     ghost use Rattle.std.specs.Prelude.{None};
 
-    ghost ask = { λ note. note };
+    ghost ask = { λ act. act };
 
-    ghost state = { λ note. None };
+    ghost state = { λ act. None };
 }
 
 /// Stands for one opening of a bucket, which is its history and its configuration. What has one name has one published list.
@@ -81,10 +74,10 @@ impl LiveName for Brand {
 }
 
 /// What was seen of a history that has no name yet. It has no bytes.
-pub type Sight = Seen<Note, u64, Noted>;
+pub type Sight = Seen<Deed, u64, Noted>;
 
 /// The word with the history's length.
-pub type Length = Word<Note, u64, Noted>;
+pub type Length = Word<Deed, u64, Noted>;
 
 /// An empty history, which has no name yet.
 #[derive(Drop)]

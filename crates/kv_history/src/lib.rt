@@ -19,7 +19,7 @@ pub use copies::Copies;
 pub use deed::Deed;
 pub use feed::Feed;
 pub use front::{Front, Glimpse};
-pub use history::{Blank, Head, LiveName, Note, Sight};
+pub use history::{Blank, Head, LiveName, Sight};
 pub use publisher::Publisher;
 pub use reader::Reader;
 pub use receipt::Receipt;

@@ -4,14 +4,13 @@ ghost use Rattle.std.specs.Prelude.{◌≡◌, ◌<◌, ◌^◌, ◌++◌, ◌�
 ghost use Rattle.kv_keys.specs.declared.error.KvError.TheVariants.{OutOfMemory};
 ghost use Rattle.kv_store.specs.Acts.{writes_of};
 ghost use Rattle.kv_store.specs.Standing.{StandsFor};
-ghost use Rattle.kv_history.specs.History.{shown_of, offered_of};
 ghost use Rattle.kv_history.specs.Known.{IsUnread};
 ghost use Rattle.kv_history.specs.Shelves.{IsOf};
 
 use crate::copies::Copies;
 use crate::deed::Deed;
 use crate::front::Front;
-use crate::history::{Blank, Head, LiveName, Note};
+use crate::history::{Blank, Head, LiveName};
 use crate::reader::Reader;
 use crate::receipt::Receipt;
 use crate::shelf::Shelf;
@@ -22,37 +21,35 @@ use std::marker::Model;
 use std::mem;
 use std::sync::Wait;
 
-// No bucket comes near so many notes: it has two for each act, and one for each act that was refused.
-const MOST_NOTES: u64 = 1 << 61;
+// No bucket comes near so many acts.
+const MOST_ACTS: u64 = 1 << 61;
 
 /// Publishes the acts of the opening N. Contracts see it as the acts that are published. It is not `Drop`: end it by `close`.
 pub struct Publisher<N: LiveName> {
     alloc: Global,
     /// What a reader begins on that has not entered.
     empty: Shelf,
-    /// The whole history, which the next note follows.
+    /// The history of what is published.
     front: Front<N>,
-    /// The history up to the last act that was shown, without the offers that were refused since.
-    last: Front<N>,
     head: Head<N>,
-    /// `None` once a note found the history longer. It never does, since there is one publisher of N.
+    /// `None` once an act could not be published that the history has. That never comes.
     copies: Option<Copies<N>>,
 }
 
 impl<N: LiveName> Model for Publisher<N> {
     ghost use Rattle.std.specs.Prelude.{◌≡◌, List, [], IfSome};
     ghost use Rattle.kv_store.specs.Acts.{Act};
-    ghost use Rattle.kv_history.specs.History.{shown_of};
     ghost use Rattle.kv_history.specs.Shelves.{IsOf};
 
     ghost Value = { List Act };
 
-    ghost view = { λ p. shown_of p.last };
+    ghost view = { λ p. p.front };
 
-    ghost invariant = { λ p. (shown_of p.last ≡ shown_of p.front) × IfSome p.copies (λ c. c ≡ shown_of p.front) × IsOf N.opening p.empty × (p.empty.glimpse.sight.log ≡ []) };
+    ghost invariant = { λ p. IfSome p.copies (λ c. c ≡ p.front) × IsOf N.opening p.empty × (p.empty.glimpse.sight.log ≡ []) };
 }
 
-// Offers an act, publishes the version after it, and notes that it was shown. Where the history is longer than the front, the copies end.
+// Adds an act to the history, and publishes the version after it. All that can be refused is asked for before that: what the
+// history has is published, or nothing more ever is.
 fn show<N: LiveName, R: Wait>(
     rt: &R,
     front: &mut Front<N>,
@@ -61,41 +58,43 @@ fn show<N: LiveName, R: Wait>(
     deed: Deed,
     next: &Version,
 ) -> (Option<Copies<N>>, Result<(), KvError>)
-    requires published { copies ≡ shown_of front.old }
-    requires stands { StandsFor (shown_of front.old ++ deed ∷ []) next.now }
+    requires published { copies ≡ front.old }
+    requires stands { StandsFor (front.old ++ deed ∷ []) next.now }
     requires config { next.now.config ≡ N.opening.config }
-    ensures published { IfSome result.0 (λ c. c ≡ shown_of front.new) }
-    ensures shown { MatchResult result.1 (λ _. shown_of front.new ≡ shown_of front.old ++ deed ∷ []) (λ e. (shown_of front.new ≡ shown_of front.old) × (e ≡ OutOfMemory)) }
+    ensures published { IfSome result.0 (λ c. c ≡ front.new) }
+    ensures shown { MatchResult result.1 (λ _. front.new ≡ front.old ++ deed ∷ []) (λ e. (front.new ≡ front.old) × (e ≡ OutOfMemory)) }
 {
-    let mut later = front.again();
-    if later.len() >= MOST_NOTES || !later.add(head, Note::Offered(deed)) {
-        return (Some(copies), Err(KvError::OutOfMemory));
-    }
-    *front = later.again();
-    let shelf = match shelve(next, &later) {
-        Ok(shelf) => shelf,
+    let version = match next.snapshot() {
+        Ok(version) => version,
         Err(refusal) => return (Some(copies), Err(refusal)),
     };
-    let (copies, published) = copies.publish(rt, shelf);
-    if let Err(refusal) = published {
-        return (Some(copies), Err(refusal));
+    let mut later = front.again();
+    if later.len() >= MOST_ACTS || !later.add(head, deed) {
+        return (Some(copies), Err(KvError::OutOfMemory));
     }
-    if !later.add(head, Note::Shown) {
-        copies.close(rt);
+    let shelf = Shelf::new(version, later.glimpse());
+    let Some(copies) = copies.publish(rt, shelf) else {
         return (None, Err(KvError::OutOfMemory));
-    }
+    };
     *front = later;
     (Some(copies), Ok(()))
 }
 
-// A shelf with a snapshot of the version, under the offer of its last act.
-fn shelve<N: LiveName>(next: &Version, front: &Front<N>) -> Result<Shelf, KvError>
-    requires stands { StandsFor (offered_of front.now) next.now }
-    requires config { next.now.config ≡ N.opening.config }
-    ensures { MatchResult result (λ s. (s.glimpse.sight.log ≡ front.now) × IsOf N.opening s) (λ e. e ≡ OutOfMemory) }
+// The copies of an opening of which this is published.
+fn copies_of<N: LiveName, R: Wait>(
+    rt: &R,
+    alloc: Global,
+    shelf: &Shelf,
+    readers: usize,
+) -> Result<Copies<N>, KvError>
+    requires of { IsOf N.opening shelf.now }
+    requires readers { (0 < readers) × (readers < 2 ^ 32) }
+    ensures { MatchResult result (λ p. p ≡ shelf.now.glimpse.sight.log) (λ e. e ≡ OutOfMemory) }
 {
-    let version = next.snapshot()?;
-    Ok(Shelf::new(version, front.glimpse()))
+    let first = shelf.again()?;
+    let second = shelf.again()?;
+    let third = shelf.again()?;
+    Copies::new(rt, alloc, first, second, third, readers)
 }
 
 // Puts the copies in their place, which is empty. What stands there would end.
@@ -109,7 +108,8 @@ fn put<N: LiveName, R: Wait>(rt: &R, place: &mut Option<Copies<N>>, copies: Opti
 
 impl<N: LiveName> Publisher<N> {
     /// The publisher of an opening of which nothing is published, with room for so many readers.
-    pub fn new(
+    pub fn new<R: Wait>(
+        rt: &R,
         alloc: Global,
         blank: Blank,
         version: &Version,
@@ -123,14 +123,11 @@ impl<N: LiveName> Publisher<N> {
     {
         let Blank { length, sight } = blank;
         let front: Front<N> = Front::new(sight);
-        let empty = shelve(version, &front)?;
-        let first = empty.again()?;
-        let second = empty.again()?;
-        let copies: Copies<N> = Copies::new(alloc, first, second, readers)?;
+        let empty = Shelf::new(version.snapshot()?, front.glimpse());
+        let copies: Copies<N> = copies_of(rt, alloc, &empty, readers)?;
         Ok(Publisher {
             alloc,
             empty,
-            last: front.again(),
             front,
             head: Head::new(length),
             copies: Some(copies),
@@ -148,16 +145,12 @@ impl<N: LiveName> Publisher<N> {
         };
         let Publisher {
             front,
-            last,
             head,
             copies: place,
             ..
         } = self;
         let (copies, shown) = show::<N, R>(rt, front, head, copies, deed, next);
         put(rt, place, copies);
-        if shown.is_ok() {
-            *last = front.again();
-        }
         shown
     }
 
@@ -170,7 +163,7 @@ impl<N: LiveName> Publisher<N> {
         };
         let empty = self.empty.again()?;
         let seat = copies.seat()?;
-        Ok(Reader::new(self.alloc, seat, self.last.again(), empty))
+        Ok(Reader::new(self.alloc, seat, self.front.again(), empty))
     }
 
     /// As many readers.
@@ -193,7 +186,7 @@ impl<N: LiveName> Publisher<N> {
         requires { revision ≡ length (writes_of self.now) }
         ensures { result ≡ self.now }
     {
-        Receipt::new(self.last.again(), revision)
+        Receipt::new(self.front.again(), revision)
     }
 
     /// Ends it. It waits for the readers that are reading.
@@ -202,7 +195,6 @@ impl<N: LiveName> Publisher<N> {
             alloc: _,
             empty: _,
             front: _,
-            last: _,
             head: _,
             copies,
         } = self;

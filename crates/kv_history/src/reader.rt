@@ -1,11 +1,10 @@
 //! Readers, which take no lock and wait for nobody.
 
-ghost use Rattle.std.specs.Prelude.{◌≡◌, ◌⊎◌, IfOk, IfErr, MatchResult, []};
+ghost use Rattle.std.specs.Prelude.{◌≡◌, ◌⊎◌, IfOk, IfErr, MatchResult, [], true, false};
 ghost use Rattle.left_right.specs.Sides.{view};
 ghost use Rattle.kv_keys.specs.declared.error.KvError.TheVariants.{OutOfMemory};
 ghost use Rattle.kv_store.specs.Acts.{IsPrefix};
 ghost use Rattle.kv_store.specs.Standing.{StandsFor};
-ghost use Rattle.kv_history.specs.History.{shown_of, offered_of};
 ghost use Rattle.kv_history.specs.Known.{IsUnread};
 ghost use Rattle.kv_history.specs.Shelves.{IsOf};
 
@@ -25,22 +24,23 @@ use std::marker::Model;
 pub struct Reader<N: LiveName> {
     alloc: Global,
     seat: Option<Seat<Shelf, View, Published<N>>>,
+    /// What it saw last.
+    seen: Front<N>,
     told: Front<N>,
     empty: Shelf,
 }
 
 impl<N: LiveName> Model for Reader<N> {
-    ghost use Rattle.std.specs.Prelude.{◌≡◌, [], IsSome};
+    ghost use Rattle.std.specs.Prelude.{◌≡◌, [], IsSome, IfSome};
     ghost use Rattle.left_right.specs.Sides.{view as view_of};
-    ghost use Rattle.kv_history.specs.History.{shown_of};
-    ghost use Rattle.kv_history.specs.Known.{Known, seen_from};
+    ghost use Rattle.kv_history.specs.Known.{Known};
     ghost use Rattle.kv_history.specs.Shelves.{IsOf};
 
     ghost Value = { Known };
 
-    ghost view = { λ r. record { seen = seen_from r.seat (λ s. (view_of s.place).seen); told = shown_of r.told } };
+    ghost view = { λ r. record { seen = r.seen; told = r.told } };
 
-    ghost invariant = { λ r. IsSome r.seat × IsOf N.opening r.empty × (r.empty.glimpse.sight.log ≡ []) };
+    ghost invariant = { λ r. IsSome r.seat × IfSome r.seat (λ s. (view_of s.place).seen ≡ r.seen) × IsOf N.opening r.empty × (r.empty.glimpse.sight.log ≡ []) };
 }
 
 impl<N: LiveName> Reader<N> {
@@ -50,12 +50,14 @@ impl<N: LiveName> Reader<N> {
         told: Front<N>,
         empty: Shelf,
     ) -> Reader<N>
-        requires { IsOf N.opening empty × (empty.glimpse.sight.log ≡ []) }
-        ensures { (result.seen ≡ (view seat.place).seen) × (result.told ≡ shown_of told) }
+        requires unseen { (view seat.place).seen ≡ [] }
+        requires empty { IsOf N.opening empty × (empty.glimpse.sight.log ≡ []) }
+        ensures { (result.seen ≡ []) × (result.told ≡ told) }
     {
         Reader {
             alloc,
             seat: Some(seat),
+            seen: Front::of(empty.glimpse()),
             told,
             empty,
         }
@@ -76,7 +78,7 @@ impl<N: LiveName> Reader<N> {
     pub(crate) fn shelf(&mut self) -> Result<Shelf, KvError>
         ensures later { IsPrefix self.old.seen self.new.seen }
         ensures told { self.new.told ≡ self.old.told }
-        ensures ok { IfOk result (λ s. (offered_of s.glimpse.sight.log ≡ self.new.seen) × IsOf N.opening s × IsPrefix self.old.told self.new.seen) }
+        ensures ok { IfOk result (λ s. (s.glimpse.sight.log ≡ self.new.seen) × IsOf N.opening s × IsPrefix self.old.told self.new.seen) }
         ensures stands { IfOk result (λ s. StandsFor self.new.seen s.version) }
         ensures err { IfErr result IsUnread }
     {
@@ -86,6 +88,7 @@ impl<N: LiveName> Reader<N> {
         match seat.enter_as::<Sees<N>>() {
             Ok(reading) => {
                 let shelf = shelf_past(&self.told, reading.get());
+                self.seen = Front::of(reading.get().glimpse());
                 self.seat = Some(reading.leave());
                 shelf
             }
@@ -116,16 +119,34 @@ impl<N: LiveName> Reader<N> {
     {
         self.told = self.told.longer(&receipt.front);
     }
+
+    /// Whether it has seen all that the other reader has. What the readers of one opening have seen are beginnings of one
+    /// list: where it has not seen all of that, the other has seen all that it has.
+    pub fn has_seen_all_of(&self, other: &Reader<N>) -> bool
+        ensures yes { result ≡ true → IsPrefix other.now.seen self.now.seen }
+        ensures no { result ≡ false → IsPrefix self.now.seen other.now.seen }
+    {
+        self.seen.covers(&other.seen)
+    }
+
+    /// Whether it has seen what the receipt tells. Where it has not, what it has seen is a beginning of that.
+    pub fn has_seen(&self, receipt: &Receipt<N>) -> bool
+        ensures yes { result ≡ true → IsPrefix receipt.now self.now.seen }
+        ensures no { result ≡ false → IsPrefix self.now.seen receipt.now }
+    {
+        self.seen.covers(&receipt.front)
+    }
 }
 
 // A copy of the shelf, unless it is older than what was told. It never is: what was told was published before.
 fn shelf_past<N: LiveName>(told: &Front<N>, shelf: &Shelf) -> Result<Shelf, KvError>
     requires { IsOf N.opening shelf.now }
-    ensures ok { IfOk result (λ s. (s.glimpse.sight ≡ shelf.now.glimpse.sight) × (s.version.config ≡ shelf.now.version.config) × IsPrefix (shown_of told.now) (offered_of shelf.now.glimpse.sight.log)) }
-    ensures stands { IfOk result (λ s. StandsFor (offered_of shelf.now.glimpse.sight.log) s.version) }
+    ensures ok { IfOk result (λ s. (s.glimpse.sight ≡ shelf.now.glimpse.sight) × (s.version.config ≡ shelf.now.version.config) × IsPrefix told.now shelf.now.glimpse.sight.log) }
+    ensures stands { IfOk result (λ s. StandsFor shelf.now.glimpse.sight.log s.version) }
     ensures err { IfErr result IsUnread }
 {
-    if !told.begins(shelf.glimpse()) {
+    let seen: Front<N> = Front::of(shelf.glimpse());
+    if !seen.covers(told) {
         return Err(KvError::NoReader);
     }
     shelf.again()

@@ -2,7 +2,6 @@
 
 ghost use Rattle.std.specs.Prelude.{◌≡◌, length};
 ghost use Rattle.kv_store.specs.Acts.{writes_of};
-ghost use Rattle.kv_history.specs.History.{shown_of};
 
 use crate::front::Front;
 use crate::history::LiveName;
@@ -18,19 +17,18 @@ pub struct Receipt<N: LiveName> {
 impl<N: LiveName> Model for Receipt<N> {
     ghost use Rattle.std.specs.Prelude.{◌≡◌, List, length};
     ghost use Rattle.kv_store.specs.Acts.{Act, writes_of};
-    ghost use Rattle.kv_history.specs.History.{shown_of};
 
     ghost Value = { List Act };
 
-    ghost view = { λ r. shown_of r.front };
+    ghost view = { λ r. r.front };
 
-    ghost invariant = { λ r. r.revision ≡ length (writes_of (shown_of r.front)) };
+    ghost invariant = { λ r. r.revision ≡ length (writes_of r.front) };
 }
 
 impl<N: LiveName> Receipt<N> {
     pub(crate) fn new(front: Front<N>, revision: u64) -> Receipt<N>
-        requires { revision ≡ length (writes_of (shown_of front)) }
-        ensures { result ≡ shown_of front }
+        requires { revision ≡ length (writes_of front) }
+        ensures { result ≡ front }
     {
         Receipt { front, revision }
     }

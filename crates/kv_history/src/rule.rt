@@ -18,11 +18,10 @@ pub struct Published<N: LiveName> {
 }
 
 impl<N: LiveName> Protocol<Shelf, View> for Published<N> {
-    ghost use Rattle.kv_history.specs.History.{offered_of};
     ghost use Rattle.kv_history.specs.Shelves.{IsOf};
     ghost use Rattle.kv_history.specs.Views.{Follows, newcomer};
 
-    ghost holds = { λ shelf views. IsOf N.opening shelf × Follows (offered_of shelf.glimpse.sight.log) views };
+    ghost holds = { λ shelf views. IsOf N.opening shelf × Follows shelf.glimpse.sight.log views };
 
     ghost first = { newcomer };
 }
@@ -33,11 +32,10 @@ pub struct Sees<N: LiveName> {
 }
 
 impl<N: LiveName> Outcome<Shelf, View> for Sees<N> {
-    ghost use Rattle.kv_history.specs.History.{offered_of};
     ghost use Rattle.kv_history.specs.Shelves.{IsOf};
     ghost use Rattle.kv_history.specs.Views.{Seeing};
 
-    ghost then = { λ v x y w. Seeing v (offered_of y.glimpse.sight.log) w × IsOf N.opening y };
+    ghost then = { λ v x y w. Seeing v y.glimpse.sight.log w × IsOf N.opening y };
 }
 
 /// A step of the writer, which tells it nothing.

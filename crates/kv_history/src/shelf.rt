@@ -3,7 +3,6 @@
 ghost use Rattle.std.specs.Prelude.{◌≡◌, IfOk, IfErr};
 ghost use Rattle.kv_keys.specs.declared.error.KvError.TheVariants.{OutOfMemory};
 ghost use Rattle.kv_store.specs.Standing.{StandsFor};
-ghost use Rattle.kv_history.specs.History.{offered_of};
 
 use crate::front::Glimpse;
 use crate::history::Sight;
@@ -13,7 +12,7 @@ use left_right::Absorb;
 use std::alloc::AllocError;
 use std::marker::Model;
 
-/// A version, and a glimpse of the history: the version stands for the acts of its last offer.
+/// A version, and a glimpse of the history: the version stands for its acts.
 #[derive(Drop)]
 pub struct Shelf {
     version: Version,
@@ -22,19 +21,18 @@ pub struct Shelf {
 
 impl Model for Shelf {
     ghost use Rattle.kv_store.specs.Standing.{StandsFor};
-    ghost use Rattle.kv_history.specs.History.{offered_of};
     ghost use Rattle.kv_history.specs.Shelves.{Shelved};
 
     ghost Value = { Shelved };
 
     ghost view = { λ s. record { version = s.version; glimpse = s.glimpse } };
 
-    ghost invariant = { λ s. StandsFor (offered_of s.glimpse.sight.log) s.version };
+    ghost invariant = { λ s. StandsFor s.glimpse.sight.log s.version };
 }
 
 impl Shelf {
     pub fn new(version: Version, glimpse: Glimpse) -> Shelf
-        requires { StandsFor (offered_of glimpse.sight.log) version }
+        requires { StandsFor glimpse.sight.log version }
         ensures { result ≡ record { version = version; glimpse = glimpse } }
     {
         Shelf { version, glimpse }
@@ -43,7 +41,7 @@ impl Shelf {
     /// Its parts.
     pub fn version(&self) -> &Version
         ensures value { result.now ≡ self.now.version }
-        ensures stands { StandsFor (offered_of self.now.glimpse.sight.log) self.now.version }
+        ensures stands { StandsFor self.now.glimpse.sight.log self.now.version }
     {
         &self.version
     }
@@ -56,7 +54,7 @@ impl Shelf {
 
     pub fn into_version(self) -> Version
         ensures value { result ≡ self.version }
-        ensures stands { StandsFor (offered_of self.glimpse.sight.log) self.version }
+        ensures stands { StandsFor self.glimpse.sight.log self.version }
     {
         let Shelf {
             version,
@@ -68,7 +66,7 @@ impl Shelf {
     /// An equal shelf: one snapshot of the version.
     pub fn again(&self) -> Result<Shelf, KvError>
         ensures ok { IfOk result (λ s. (s.version ≡ self.now.version) × (s.glimpse.sight ≡ self.now.glimpse.sight)) }
-        ensures stands { IfOk result (λ s. StandsFor (offered_of self.now.glimpse.sight.log) s.version) }
+        ensures stands { IfOk result (λ s. StandsFor self.now.glimpse.sight.log s.version) }
         ensures err { IfErr result (λ e. e ≡ OutOfMemory) }
     {
         let version = self.version.snapshot()?;

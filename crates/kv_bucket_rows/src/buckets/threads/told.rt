@@ -8,6 +8,7 @@ use kv_bucket::Receipt;
 pub(super) enum Row {
     ToldWrite,
     ToldTwice,
+    SeenInTurn,
 }
 
 pub(super) fn run_row<N: LiveName + Send + Sync, R: Threads + Wait + Abort + Sync>(
@@ -20,6 +21,7 @@ pub(super) fn run_row<N: LiveName + Send + Sync, R: Threads + Wait + Abort + Syn
     match row {
         Row::ToldWrite => told_write(rt, alloc, live, readers),
         Row::ToldTwice => told_twice(rt, alloc, live, readers),
+        Row::SeenInTurn => seen_in_turn(rt, alloc, live, readers),
     }
 }
 
@@ -133,5 +135,49 @@ fn told_twice<N: LiveName + Send + Sync, R: Threads + Wait + Abort + Sync>(
     reader_sees(rt, first, &older, 2)?;
     let second = reader_sees(rt, second, &older, 2)?;
     reader_sees(rt, second, &newer, 2)?;
+    Ok(())
+}
+
+fn has_seen_as<N: LiveName, R: Abort>(
+    rt: &R,
+    reader: &Reader<N>,
+    receipt: &Receipt<N>,
+    expected: bool,
+) {
+    assert_eq!(rt; reader.has_seen(receipt), expected);
+}
+
+// Whether each of two readers has seen all that the other has.
+fn compare_as<N: LiveName, R: Abort>(
+    rt: &R,
+    first: &Reader<N>,
+    second: &Reader<N>,
+    expected: (bool, bool),
+) {
+    let found = (first.has_seen_all_of(second), second.has_seen_all_of(first));
+    assert_eq!(rt; found, expected);
+}
+
+#[test]
+fn readers_that_look_in_turn(rt: HostRuntime) -> Result<(), Fail> {
+    run(&rt, rt.alloc(), super::Row::Told(Row::SeenInTurn))?;
+    Ok(())
+}
+
+fn seen_in_turn<N: LiveName + Send + Sync, R: Threads + Wait + Abort + Sync>(
+    rt: &R,
+    alloc: Global,
+    live: &Live<N>,
+    readers: Vec<Reader<N>>,
+) -> Result<(), KvError> {
+    let (mut first, mut second) = two(readers)?;
+    compare_as(rt, &first, &second, (true, true));
+    let receipt = told_at(rt, alloc, live, 1)?;
+    has_seen_as(rt, &first, &receipt, false);
+    reads_up_to(rt, &mut first, 1)?;
+    has_seen_as(rt, &first, &receipt, true);
+    compare_as(rt, &first, &second, (true, false));
+    reads_up_to(rt, &mut second, 1)?;
+    compare_as(rt, &first, &second, (true, true));
     Ok(())
 }

@@ -9,10 +9,10 @@ compare_exchange-found-requires g c =
     let offer = c.plain-offer.ensures in
     let pen = c.no_pen-pen.ensures in
     let book : c.again-sight.result.book ≡ c.args.head.now.length.book = ap (λ s. s.book) same ∙ (c.self.invariant ∙ sym (ap (λ w. w.book) h)) in
-    let long : length c.again-sight.result.log ≡ c.self.inside.glimpse.notes = ap (λ s. length s.log) same ∙ sym c.self.inside.glimpse.counted in (
+    let long : length c.again-sight.result.log ≡ c.self.inside.glimpse.acts = ap (λ s. length s.log) same ∙ sym c.self.inside.glimpse.counted in (
       ap (λ w. w.tracked) h,
       book,
       pen.0 ∙ book,
       offer.0,
-      rw (ap (λ w. w.key) h, pen.1, offer.1, offer.3) (adds_moves c.again-sight.result.log c.args.note c.self.inside.glimpse.notes long),
+      rw (ap (λ w. w.key) h, pen.1, offer.1, offer.3) (adds_moves c.again-sight.result.log c.args.deed c.self.inside.glimpse.acts long),
     )

@@ -1,9 +1,8 @@
 use Rattle.std.proofs.Common.{rules, ◌≡◌, ◌++◌, [], List, ap}
 use Rattle.kv_store.specs.Acts.{Act}
-use Rattle.kv_history.specs.History.{offered_of}
 use Rattle.kv_history.proofs.reader.Reader.watch_from_empty.Goals as goal
 
 pub begin-requires-clause-seen : goal.begin-requires-clause-seen
 begin-requires-clause-seen g c =
     let log : c.in-Ok.shelf.glimpse.sight.log ≡ [] = search rules in
-    (c.args.self.seen, ap (λ l. offered_of l ++ c.args.self.seen) log)
+    (c.args.self.seen, ap (λ l. l ++ c.args.self.seen) log)
