@@ -1,8 +1,8 @@
 -- What a feed keeps when it goes on.
-use Rattle.std.proofs.Common.{◌≡◌, ℕ, ◌+◌, ◌≤◌, ◌<◌, ◌⊎◌, ⊎_elim, Bool, List, Option, Some, None, length, get_or, refl, ap, sym, subst, ◌∙◌, arith}
+use Rattle.std.proofs.Common.{◌≡◌, ℕ, ◌+◌, ◌≤◌, ◌<◌, ◌⊎◌, ⊎_elim, List, Option, Some, None, length, get_or, refl, ap, sym, subst, ◌∙◌, arith}
 use Rattle.std.specs.List.{slice_get}
 use Rattle.std.specs.Option.{option_len, option_map}
-use Rattle.std.proofs.lemmas.Option.{slice_get_past, slice_get_within, slice_get_cases}
+use Rattle.std.proofs.lemmas.Option.{slice_get_past, slice_get_cases}
 use Rattle.kv_store.specs.Acceptance.{IsLawful}
 use Rattle.kv_store.specs.Acts.{Act, IsPrefix}
 use Rattle.kv_store.specs.Configuration.{Configuration}

@@ -1,10 +1,10 @@
 -- What calls on a feed hand out.
-use Rattle.std.proofs.Common.{◌≡◌, ℕ, ◌+◌, ◌≤◌, ◌<◌, ◌⊎◌, ⊎_elim, List, [], ◌∷◌, ◌++◌, Option, Some, None, length, take, slice_get, get_or, refl, sym, ap, ◌∙◌, subst, arith, append_assoc, length-append}
+use Rattle.std.proofs.Common.{◌≡◌, ℕ, ◌+◌, ◌≤◌, ◌⊎◌, ⊎_elim, List, [], ◌∷◌, ◌++◌, Option, Some, None, length, take, slice_get, refl, sym, ap, ◌∙◌, subst, arith, append_assoc, length-append}
 use Rattle.std.specs.Option.{option_to_list}
 use Rattle.std.proofs.lemmas.List.{take-append-le, take_more, append-nil}
 use Rattle.std.proofs.lemmas.Option.{slice_get_within, get_or_from_slice_get}
 use Rattle.kv_store.specs.Acts.{Act, IsPrefix}
-use Rattle.kv_watch.specs.Given.{Item, given}
+use Rattle.kv_watch.specs.Given.{Item}
 use Rattle.kv_watch.proofs.GivenLaws.{given_goes_on}
 use Rattle.kv_history.specs.Feeding.{Feeding, given_by, next_of, IsRefreshed, IsNotRefreshed, HasLearned, after_item, IsStep, Step, IsRun, last_of, items_of, HandsOut}
 use Rattle.kv_history.proofs.Prefixes.{prefix_trans}

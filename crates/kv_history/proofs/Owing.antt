@@ -1,11 +1,11 @@
 -- What a feed learned is reached, and handed out.
-use Rattle.std.proofs.Common.{◌≡◌, ℕ, ◌⊎◌, ⊎_elim, List, [], ◌∷◌, Option, None, Some, length, take, sym, ap, subst, ◌∙◌}
+use Rattle.std.proofs.Common.{◌≡◌, ℕ, ◌⊎◌, ⊎_elim, List, [], ◌∷◌, Option, None, Some, length, sym, ap, subst}
 use Rattle.kv_store.specs.Acceptance.{IsLawful}
 use Rattle.kv_store.specs.Acts.{Act, Write, IsPrefix}
 use Rattle.kv_store.specs.Configuration.{Configuration}
 use Rattle.kv_watch.specs.Given.{Item}
-use Rattle.kv_history.specs.Feeding.{Feeding, given_by, next_of, IsRefreshed, IsNotRefreshed, HasLearned, after_item, IsStep, Step, IsRun, last_of, items_of, HandsOut}
-use Rattle.kv_history.specs.Owed.{Owes, HasOnce, items_of_revision}
+use Rattle.kv_history.specs.Feeding.{Feeding, given_by, next_of, IsRefreshed, IsNotRefreshed, HasLearned, after_item, IsStep, Step, IsRun, last_of, items_of}
+use Rattle.kv_history.specs.Owed.{Owes, HasOnce}
 use Rattle.kv_history.proofs.Feeds.{ends}
 use Rattle.kv_history.proofs.Follow.{run_hands_out}
 use Rattle.kv_history.proofs.Once.{all_has_once}

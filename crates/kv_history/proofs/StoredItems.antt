@@ -1,5 +1,5 @@
 -- What a watch is given shows stored writes, which are found by their revisions.
-use Rattle.std.proofs.Common.{◌≡◌, ℕ, suc, zero, ◌+◌, ◌-◌, ◌<◌, ◌≤◌, Bool, true, false, cond, ◌&&◌, not, List, [], ◌∷◌, ◌++◌, Option, Some, None, length, filter, drop, refl, sym, ap, ◌∙◌, subst, arith, append_assoc, length-append}
+use Rattle.std.proofs.Common.{◌≡◌, ℕ, suc, zero, ◌-◌, Bool, true, false, cond, ◌&&◌, not, List, [], ◌∷◌, ◌++◌, Option, Some, None, length, filter, drop, refl, sym, ap, ◌∙◌, subst, arith, append_assoc, length-append}
 use Rattle.std.specs.List.{slice_get, cons_option}
 use Rattle.std.specs.Option.{option_map}
 use Rattle.kv_store.specs.Acts.{Act, Write, IsPrefix, writes_of, is_put}
@@ -9,7 +9,7 @@ use Rattle.kv_store.proofs.Numbered.{CountsFrom, counts_from_lawful, write_at_co
 use Rattle.kv_watch.specs.declared.options.Options.{Options}
 use Rattle.kv_watch.specs.declared.options.Start.{Start}
 use Rattle.kv_watch.specs.declared.options.Start.TheVariants.{Latest, History, Updates, From}
-use Rattle.kv_watch.specs.Given.{Item, AnEntry, EndMarker, matching, initial, shown, all_shown, entry_of, ending, event_of, given}
+use Rattle.kv_watch.specs.Given.{Item, AnEntry, EndMarker, matching, initial, all_shown, entry_of, ending, event_of, given}
 use Rattle.kv_watch.specs.Showing.{is_initial}
 use Rattle.kv_watch.proofs.GivenLaws.{initial_selects}
 use Rattle.kv_watch.specs.Following.{Following, InPlace}

@@ -1,4 +1,4 @@
-use Rattle.std.proofs.Common.{◌≡◌, subst}
+use Rattle.std.proofs.Common.{subst}
 use Rattle.kv_history.specs.Fed.{feeding_of}
 use Rattle.kv_history.specs.Feeding.{Feeding, IsRefreshed}
 use Rattle.kv_history.proofs.Feeds.{fed_later, refreshed}

@@ -1,4 +1,4 @@
-use Rattle.std.proofs.Common.{rules, ◌≡◌, ◌+◌, None, List, length, take, refl, subst, sym}
+use Rattle.std.proofs.Common.{rules, ◌≡◌, ◌+◌, None, List, length, take, refl, subst}
 use Rattle.std.specs.Option.{option_len}
 use Rattle.kv_store.specs.Acts.{Act, Write}
 use Rattle.kv_watch.specs.Taking.{item_taken}

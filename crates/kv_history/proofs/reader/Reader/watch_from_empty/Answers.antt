@@ -1,5 +1,4 @@
-use Rattle.std.proofs.Common.{rules, ◌≡◌, ◌++◌, [], List, ap}
-use Rattle.kv_store.specs.Acts.{Act}
+use Rattle.std.proofs.Common.{rules, ◌≡◌, ◌++◌, [], ap}
 use Rattle.kv_history.proofs.reader.Reader.watch_from_empty.Goals as goal
 
 pub begin-requires-clause-seen : goal.begin-requires-clause-seen
