@@ -3,11 +3,12 @@
 
 mod arguments;
 pub mod laws;
-mod race;
+mod races;
 mod running;
 
+pub use kv_race::{Gate, NoGate, Report, Who, race};
 pub use kv_replay::{
     Bounded, Noted, Reader, Sink, Source, Whole, answer_line, replay, replay_bounded, run_script,
 };
-pub use race::{race_script, replay_race};
+pub use races::{race_script, replay_race};
 pub use running::program;

@@ -10,7 +10,7 @@ ghost use Rattle.kv_run.specs.Races.{RanRace};
 ghost use Rattle.kv_replay.specs.Replaying.{Ran};
 
 use crate::arguments::Arguments;
-use crate::race::replay_race;
+use crate::races::replay_race;
 use clap::Error;
 use clap::error::ErrorKind;
 use kv_keys::KvError;

@@ -4,7 +4,7 @@ use Rattle.kv_bucket.specs.Answers.{answer_of}
 use Rattle.kv_race_script.specs.Reporting.{seen_text}
 use Rattle.kv_replay.proofs.Progress.{on_err}
 use Rattle.kv_run.proofs.Reporting.{text_made, told_more, told_part}
-use Rattle.kv_run.proofs.race.writing.write_seen.Goals as goal
+use Rattle.kv_run.proofs.races.writing.write_seen.Goals as goal
 
 pub returns-in_err-write-clause-err : goal.returns-in_err-write-clause-err
 returns-in_err-write-clause-err g c =

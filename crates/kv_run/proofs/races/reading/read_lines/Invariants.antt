@@ -4,7 +4,7 @@ use Rattle.kv_race_script.specs.Planning.{after_line, nothing}
 use Rattle.kv_run.specs.Races.{no_text}
 use Rattle.kv_replay.specs.Reading.{after_bytes, beginning}
 use Rattle.kv_replay.specs.declared.script.TheConstants.{KEPT_BYTES}
-use Rattle.kv_run.proofs.race.reading.read_lines.Given as goal
+use Rattle.kv_run.proofs.races.reading.read_lines.Given as goal
 
 -- the source is the same, and the input so far was read
 abbrev pub invariant-reads : goal.invariant-reads

@@ -1,7 +1,7 @@
 use Rattle.std.proofs.lemmas.Result.{on_err_weaker}
 use Rattle.kv_replay.proofs.Progress.{on_err}
 use Rattle.kv_run.proofs.Reporting.{puts_first, puts_second}
-use Rattle.kv_run.proofs.race.writing.write_report.Goals as goal
+use Rattle.kv_run.proofs.races.writing.write_report.Goals as goal
 
 pub returns-in_err-write_replies-clause-err : goal.returns-in_err-write_replies-clause-err
 returns-in_err-write_replies-clause-err g c = on_err c.from_residual.result (puts_first _ _ _ _ (rw c.deref.ensures.value at c.in_err-write_replies.ensures.err))

@@ -3,7 +3,7 @@ use Rattle.std.proofs.KnownBytes.{Consumes-trans}
 use Rattle.kv_race_script.specs.Planning.{after_line}
 use Rattle.kv_run.proofs.Plans.{plan_of-read, plan_on, read_on}
 use Rattle.kv_replay.proofs.Progress.{in_time_still, not_ended, on_err}
-use Rattle.kv_run.proofs.race.reading.read_lines.Goals as goal
+use Rattle.kv_run.proofs.races.reading.read_lines.Goals as goal
 
 pub returns-then-count-eq0-clause-ok : goal.returns-then-count-eq0-clause-ok
 returns-then-count-eq0-clause-ok g c =

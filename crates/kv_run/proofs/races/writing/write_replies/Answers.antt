@@ -3,7 +3,7 @@ use Rattle.std.proofs.lemmas.List.{get_or-map, length-map}
 use Rattle.kv_race_script.specs.Reporting.{replies_text}
 use Rattle.kv_replay.proofs.Progress.{on_err}
 use Rattle.kv_run.proofs.Reporting.{text_made, told_more, told_part}
-use Rattle.kv_run.proofs.race.writing.write_replies.Goals as goal
+use Rattle.kv_run.proofs.races.writing.write_replies.Goals as goal
 
 pub returns-in_err-write-clause-err : goal.returns-in_err-write-clause-err
 returns-in_err-write-clause-err g c =

@@ -8,8 +8,8 @@ ghost use Rattle.kv_replay.specs.Faults.{IsBadConfiguration};
 ghost use Rattle.kv_replay.specs.declared.streams.TheConstants.{READ_CALLS};
 ghost use Rattle.kv_run.specs.Races.{RanRace};
 
-use crate::race::reading::read_plan;
-use crate::race::writing::write_report;
+use crate::races::reading::read_plan;
+use crate::races::writing::write_report;
 use kv_keys::KvError;
 use kv_race::{NoGate, race};
 use kv_race_script::deal;

@@ -14,7 +14,7 @@ use Rattle.kv_race.specs.Openings.{may_race, RefusesRace}
 use Rattle.kv_run.specs.Races.{EndsRace, plan_of}
 use Rattle.kv_replay.proofs.Ending.{handed_on, on_ok}
 use Rattle.kv_run.proofs.Racing.{check_ends, not_read, ran_early, raced, raced_same, read_ends, report_cause, report_ends, silent, stopped_behind_refused, stopped_in_refused, stopped_in_report, stopped_silent, text_of, write_ends}
-use Rattle.kv_run.proofs.race.race_script.Goals as goal
+use Rattle.kv_run.proofs.races.race_script.Goals as goal
 use Rattle.kv_store.specs.Configuration.{has_legal_numbers}
 
 abbrev Script : Type 0

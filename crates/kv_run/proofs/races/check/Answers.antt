@@ -4,7 +4,7 @@ use Rattle.std.proofs.lemmas.Result.{IfOk-weaker}
 use Rattle.kv_keys.specs.Grammar.{is_name}
 use Rattle.kv_store.specs.Configuration.{configure, has_legal_numbers}
 use Rattle.kv_run.proofs.Checking.{legal_passes, uncounted}
-use Rattle.kv_run.proofs.race.check.Goals as goal
+use Rattle.kv_run.proofs.races.check.Goals as goal
 
 pub returns-then-workers-eq0-clause-refused : goal.returns-then-workers-eq0-clause-refused
 returns-then-workers-eq0-clause-refused c =

@@ -1,7 +1,7 @@
 use Rattle.std.proofs.Common.{map}
 use Rattle.kv_race_script.specs.Reporting.{replies_text}
 use Rattle.kv_run.proofs.Reporting.{Told}
-use Rattle.kv_run.proofs.race.writing.write_replies.Given as goal
+use Rattle.kv_run.proofs.races.writing.write_replies.Given as goal
 
 -- the sink is the same, and the lists so far were written
 abbrev pub invariant-loop-n : goal.invariant-loop-n

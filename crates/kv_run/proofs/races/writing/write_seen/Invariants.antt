@@ -2,7 +2,7 @@ use Rattle.std.proofs.Common.{map}
 use Rattle.kv_bucket.specs.Answers.{answer_of}
 use Rattle.kv_race_script.specs.Reporting.{seen_text}
 use Rattle.kv_run.proofs.Reporting.{Told}
-use Rattle.kv_run.proofs.race.writing.write_seen.Given as goal
+use Rattle.kv_run.proofs.races.writing.write_seen.Given as goal
 
 -- the sink is the same, and the lists so far were written
 abbrev pub invariant-loop-n : goal.invariant-loop-n

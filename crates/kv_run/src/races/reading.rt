@@ -7,7 +7,7 @@ ghost use Rattle.kv_race_script.specs.Planning.{nothing};
 ghost use Rattle.kv_run.specs.Races.{plan_of};
 ghost use Rattle.kv_replay.specs.Reading.{beginning};
 
-use crate::race::notes::Notes;
+use crate::races::notes::Notes;
 use kv_keys::KvError;
 use kv_race_script::Plan;
 use kv_replay::{BUFFER_BYTES, Source, new_buffer};
