@@ -1,4 +1,5 @@
 pub mod ByteByByte
+pub mod Counting
 pub mod Ending
 pub mod Parsing
 pub mod Progress

@@ -1,4 +1,5 @@
 pub mod Bounds
+pub mod Failures
 pub mod Faults
 pub mod Lines
 pub mod Outcome

@@ -1,6 +1,6 @@
 //! A whole script, from a source to a sink.
 
-ghost use Rattle.std.specs.Prelude.{◌≡◌, ◌<◌, length, true, false, OnOk, IfOk, IfErr, IsErrOf};
+ghost use Rattle.std.specs.Prelude.{◌≡◌, ◌<◌, length, false, OnOk, IfOk, IfErr, IsErrOf};
 ghost use Rattle.kv_keys.specs.declared.error.KvError.TheVariants.{OutOfMemory};
 ghost use Rattle.std.specs.Io.KnownBytes.{Appends};
 ghost use Rattle.kv_bucket.specs.State.{State, empty};
@@ -36,7 +36,7 @@ fn answer_bytes<K: Sink>(
     ensures ok { OnOk result ((r : Reading State) → Holds r script.old →
         Appends (K.held sink.old) (K.held sink.new) (said KEPT_BYTES line_text line_next r bytes.now)
         × Holds (after_bytes KEPT_BYTES line_text line_next r bytes.now) script.new) }
-    ensures write_fault { IsErrOf result KvError.WriteFault → (K.has_failed sink.new ≡ true) × ((r : Reading State) → Holds r script.old →
+    ensures write_fault { IsErrOf result KvError.WriteFault → K.failed_between sink.old sink.new × ((r : Reading State) → Holds r script.old →
         Puts (said KEPT_BYTES line_text line_next r bytes.now) (K.held sink.old) (K.held sink.new)) }
     ensures memory { IsErrOf result KvError.OutOfMemory → (r : Reading State) → Holds r script.old →
         PutsWhole (said KEPT_BYTES line_text line_next r bytes.now) (K.held sink.old) (K.held sink.new) }
@@ -57,7 +57,7 @@ fn answer_end<K: Sink>(script: &mut Script, alloc: Global, sink: &mut K) -> Resu
     ensures same { K.goes_on sink.old sink.new }
     ensures ok { OnOk result ((r : Reading State) → Holds r script.old →
         Appends (K.held sink.old) (K.held sink.new) (ended KEPT_BYTES line_text line_next r)) }
-    ensures write_fault { IsErrOf result KvError.WriteFault → (K.has_failed sink.new ≡ true) × ((r : Reading State) → Holds r script.old →
+    ensures write_fault { IsErrOf result KvError.WriteFault → K.failed_between sink.old sink.new × ((r : Reading State) → Holds r script.old →
         Puts (ended KEPT_BYTES line_text line_next r) (K.held sink.old) (K.held sink.new)) }
     ensures memory { IsErrOf result KvError.OutOfMemory → (r : Reading State) → Holds r script.old →
         PutsWhole (ended KEPT_BYTES line_text line_next r) (K.held sink.old) (K.held sink.new) }
@@ -87,9 +87,9 @@ fn answer_lines<S: Source, K: Sink>(
     ensures in_time { S.has_ended source.old ≡ false → S.was_asked_late source.new ≡ S.was_asked_late source.old }
     ensures ok { OnOk result ((config : Configuration) → Holds (beginning (empty config)) script.old →
         Replays (script_text config) (whole_text config) (S.left source.old) (S.left source.new) (K.held sink.old) (K.held sink.new)) }
-    ensures read_fault { IsErrOf result KvError.ReadFault → (S.has_failed source.new ≡ true) × ((config : Configuration) → Holds (beginning (empty config)) script.old →
+    ensures read_fault { IsErrOf result KvError.ReadFault → S.failed_between source.old source.new × ((config : Configuration) → Holds (beginning (empty config)) script.old →
         Breaks (script_text config) (whole_text config) (S.left source.old) (S.left source.new) (K.held sink.old) (K.held sink.new)) }
-    ensures write_fault { IsErrOf result KvError.WriteFault → (K.has_failed sink.new ≡ true) × ((config : Configuration) → Holds (beginning (empty config)) script.old →
+    ensures write_fault { IsErrOf result KvError.WriteFault → K.failed_between sink.old sink.new × ((config : Configuration) → Holds (beginning (empty config)) script.old →
         Stops (script_text config) (whole_text config) (S.left source.old) (S.left source.new) (K.held sink.old) (K.held sink.new)) }
     ensures memory { IsErrOf result KvError.OutOfMemory → (config : Configuration) → Holds (beginning (empty config)) script.old →
         StopsWhole (script_text config) (whole_text config) (S.left source.old) (S.left source.new) (K.held sink.old) (K.held sink.new) }
@@ -128,9 +128,9 @@ pub fn run_script<S: Source, K: Sink>(
     ensures ran { Ran config.now (S.left source.old) (S.left source.new) (K.held sink.old) (K.held sink.new) result }
     // The source is not asked after its end.
     ensures in_time { S.has_ended source.old ≡ false → S.was_asked_late source.new ≡ S.was_asked_late source.old }
-    // A fault of a device comes only where that device failed.
-    ensures read_fault { IsErrOf result KvError.ReadFault → S.has_failed source.new ≡ true }
-    ensures write_fault { IsErrOf result KvError.WriteFault → K.has_failed sink.new ≡ true }
+    // A fault of a device comes only where that device failed in this call.
+    ensures read_fault { IsErrOf result KvError.ReadFault → S.failed_between source.old source.new }
+    ensures write_fault { IsErrOf result KvError.WriteFault → K.failed_between sink.old sink.new }
     // Where the configuration is refused, nothing was read or written.
     ensures refused { IfErr result (λ e. IsBadConfiguration e → (source.new ≡ source.old) × (sink.new ≡ sink.old)) }
 {

@@ -3,6 +3,7 @@
 
 mod answer;
 mod engine;
+mod failures;
 mod reader;
 mod reads;
 mod refusals;

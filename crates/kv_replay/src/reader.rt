@@ -1,9 +1,11 @@
 //! Readers that tell when they fail.
 
-ghost use Rattle.std.specs.Prelude.{◌≡◌, ◌+◌, ◌≤◌, ◌||◌, ◌==◌, ℕ, List, Bool, true, false, length, Option, IfOk, IfErr, OnOk, OnErr};
+ghost use Rattle.std.specs.Prelude.{◌≡◌, ◌+◌, ◌≤◌, ◌||◌, ◌==◌, ℕ, List, Bool, false, length, Option, IfOk, IfErr, OnOk, OnErr};
 ghost use Rattle.std.specs.Io.KnownBytes.{ReadConsumes};
 ghost use Rattle.kv_keys.specs.declared.error.KvError.TheVariants.{ReadFault};
+ghost use Rattle.kv_replay.specs.Failures.{HasRisen};
 
+use crate::failures::one_more;
 use kv_keys::KvError;
 use std::io::Read;
 
@@ -11,9 +13,6 @@ use std::io::Read;
 pub trait Reader {
     /// The bytes that it still gives, where they are known.
     ghost left: { Self → Option (List ℕ) };
-
-    /// It has failed.
-    ghost has_failed: { Self → Bool };
 
     /// How often it was asked.
     ghost asked: { Self → ℕ };
@@ -27,14 +26,16 @@ pub trait Reader {
     /// The second is the first, later.
     ghost goes_on: { Self → Self → Type 0 };
 
+    /// It failed between the first and the second.
+    ghost failed_between: { Self → Self → Type 0 };
+
     /// Fills a beginning of the buffer, whose length it answers: 0 at the end.
     fn read(&mut self, buffer: &mut [u8]) -> Result<usize, KvError>
         ensures same { goes_on self.old self.new }
         ensures count { IfOk result (λ n. n ≤ length buffer.new) }
         ensures bytes { ReadConsumes (left self.old) (left self.new) result buffer.new }
         ensures fault { IfErr result (λ e. e ≡ ReadFault) }
-        ensures failed { OnErr result (has_failed self.new ≡ true) }
-        ensures stays_failed { has_failed self.new ≡ false → has_failed self.old ≡ false }
+        ensures failed { OnErr result (failed_between self.old self.new) }
         ensures at_most_one { asked self.new ≤ asked self.old + 1 }
         ensures one { OnOk result (asked self.new ≡ asked self.old + 1) }
         ensures ended { IfOk result (λ n. has_ended self.new ≡ (has_ended self.old || (n == 0))) }
@@ -43,14 +44,18 @@ pub trait Reader {
     ghost goes_on_itself: { (a : Self) → goes_on a a };
 
     ghost goes_on_later: { (a b c : Self) → goes_on a b → goes_on b c → goes_on a c };
+
+    ghost failed_earlier: { (a b c : Self) → failed_between a b → goes_on b c → failed_between a c };
+
+    ghost failed_later: { (a b c : Self) → goes_on a b → failed_between b c → failed_between a c };
 }
 
-/// A reader of std that notes how often it is asked, where it fails, and where it is asked after its end. It counts as one
-/// that failed where it is asked for the 2^64th time.
+/// A reader of std that notes how often it is asked, how often it fails, and where it is asked after its end. It counts as
+/// one that fails where it is asked for the 2^64th time.
 #[derive(Drop)]
 pub struct Noted<'r, R> {
     reader: &'r mut R,
-    has_failed: bool,
+    failures: u64,
     asked: u64,
     has_ended: bool,
     was_asked_late: bool,
@@ -61,13 +66,13 @@ impl<'r, R> Noted<'r, R> {
     pub fn new(reader: &'r mut R) -> Self
         ensures same { result.reader.ghost_name ≡ reader.entry.ghost_name }
         ensures reader { result.reader.now ≡ reader.old }
-        ensures fresh { result.has_failed ≡ false }
+        ensures fresh { result.failures ≡ 0 }
         ensures unasked { result.asked ≡ 0 }
         ensures begun { (result.has_ended ≡ false) × (result.was_asked_late ≡ false) }
     {
         Noted {
             reader,
-            has_failed: false,
+            failures: 0,
             asked: 0,
             has_ended: false,
             was_asked_late: false,
@@ -76,11 +81,10 @@ impl<'r, R> Noted<'r, R> {
 }
 
 impl<'r, R: Read> Reader for Noted<'r, R> {
-    ghost use Rattle.std.proofs.Common.{refl, ◌∙◌};
+    ghost use Rattle.std.proofs.Common.{refl, ◌∙◌, arith};
+    ghost use Rattle.kv_replay.specs.Failures.{risen_earlier, risen_later};
 
     ghost left = { λ s. R.remaining s.reader.now };
-
-    ghost has_failed = { λ s. s.has_failed };
 
     ghost asked = { λ s. s.asked };
 
@@ -88,7 +92,9 @@ impl<'r, R: Read> Reader for Noted<'r, R> {
 
     ghost was_asked_late = { λ s. s.was_asked_late };
 
-    ghost goes_on = { λ a b. b.reader.ghost_name ≡ a.reader.ghost_name };
+    ghost goes_on = { λ a b. (b.reader.ghost_name ≡ a.reader.ghost_name) × (a.failures ≤ b.failures) };
+
+    ghost failed_between = { λ a b. HasRisen a.failures b.failures };
 
     fn read(&mut self, buffer: &mut [u8]) -> Result<usize, KvError> {
         self.was_asked_late = self.was_asked_late | self.has_ended;
@@ -99,11 +105,15 @@ impl<'r, R: Read> Reader for Noted<'r, R> {
                 return Ok(count);
             }
         }
-        self.has_failed = true;
+        self.failures = one_more(self.failures);
         Err(KvError::ReadFault)
     }
 
-    ghost goes_on_itself = { λ a. refl };
+    ghost goes_on_itself = { λ a. (refl, omega arith) };
 
-    ghost goes_on_later = { λ a b c ab bc. bc ∙ ab };
+    ghost goes_on_later = { λ a b c ab bc. (bc.0 ∙ ab.0, omega (arith, ab.1, bc.1)) };
+
+    ghost failed_earlier = { λ a b c ab bc. risen_earlier _ _ _ ab bc.1 };
+
+    ghost failed_later = { λ a b c ab bc. risen_later _ _ _ ab.1 bc };
 }

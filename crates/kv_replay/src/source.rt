@@ -1,6 +1,6 @@
 //! Where a script comes from.
 
-ghost use Rattle.std.specs.Prelude.{◌≡◌, ◌+◌, ◌≤◌, ◌||◌, ◌==◌, ℕ, List, Bool, true, false, length, Option, ◌<◌, IfOk, IfErr, OnOk, OnErr};
+ghost use Rattle.std.specs.Prelude.{◌≡◌, ◌+◌, ◌≤◌, ◌⊎◌, ◌||◌, ◌==◌, ℕ, List, Bool, false, length, Option, ◌<◌, IfOk, IfErr, OnOk, OnErr};
 ghost use Rattle.std.specs.Io.KnownBytes.{ReadConsumes};
 ghost use Rattle.kv_keys.specs.declared.error.KvError.TheVariants.{ReadFault};
 ghost use Rattle.kv_replay.specs.Bounds.{Counts};
@@ -12,9 +12,6 @@ use kv_keys::KvError;
 pub trait Source {
     /// The bytes that it still gives, where they are known.
     ghost left: { Self → Option (List ℕ) };
-
-    /// It has failed, or may not be asked again.
-    ghost has_failed: { Self → Bool };
 
     /// How often it may still be asked.
     ghost calls_left: { Self → ℕ };
@@ -28,6 +25,9 @@ pub trait Source {
     /// The second is the first, later.
     ghost goes_on: { Self → Self → Type 0 };
 
+    /// It failed between the first and the second, or then may not be asked again.
+    ghost failed_between: { Self → Self → Type 0 };
+
     /// Fills a beginning of the buffer, whose length it answers: 0 at the end.
     fn read(&mut self, buffer: &mut [u8]) -> Result<usize, KvError>
         ensures same { goes_on self.old self.new }
@@ -35,13 +35,15 @@ pub trait Source {
         ensures bytes { ReadConsumes (left self.old) (left self.new) result buffer.new }
         ensures spends { OnOk result (calls_left self.new < calls_left self.old) }
         ensures fault { IfErr result (λ e. e ≡ ReadFault) }
-        ensures failed { OnErr result (has_failed self.new ≡ true) }
+        ensures failed { OnErr result (failed_between self.old self.new) }
         ensures ended { IfOk result (λ n. has_ended self.new ≡ (has_ended self.old || (n == 0))) }
         ensures late { has_ended self.old ≡ false → was_asked_late self.new ≡ was_asked_late self.old };
 
     ghost goes_on_itself: { (a : Self) → goes_on a a };
 
     ghost goes_on_later: { (a b c : Self) → goes_on a b → goes_on b c → goes_on a c };
+
+    ghost failed_later: { (a b c : Self) → goes_on a b → failed_between b c → failed_between a c };
 }
 
 /// A reader that is asked so many times at the most.
@@ -63,11 +65,10 @@ impl<'r, R> Bounded<'r, R> {
 }
 
 impl<'r, R: Reader> Source for Bounded<'r, R> {
-    ghost use Rattle.std.proofs.Common.{refl, ◌∙◌, arith};
+    ghost use Rattle.std.proofs.Common.{refl, ◌∙◌, arith, inr};
+    ghost use Rattle.kv_replay.specs.Bounds.{counts_later, failed_or_spent};
 
     ghost left = { λ s. R.left s.reader.now };
-
-    ghost has_failed = { λ s. R.has_failed s.reader.now || (s.calls == 0) };
 
     ghost calls_left = { λ s. s.calls };
 
@@ -76,7 +77,9 @@ impl<'r, R: Reader> Source for Bounded<'r, R> {
     ghost was_asked_late = { λ s. R.was_asked_late s.reader.now };
 
     ghost goes_on = { λ a b. (b.reader.ghost_name ≡ a.reader.ghost_name) × (R.goes_on a.reader.now b.reader.now
-        × Counts (R.has_failed a.reader.now) (R.has_failed b.reader.now) (R.asked a.reader.now + a.calls) (R.asked b.reader.now + b.calls)) };
+        × Counts (R.failed_between a.reader.now b.reader.now) (R.asked a.reader.now + a.calls) (R.asked b.reader.now + b.calls)) };
+
+    ghost failed_between = { λ a b. R.failed_between a.reader.now b.reader.now ⊎ (b.calls ≡ 0) };
 
     fn read(&mut self, buffer: &mut [u8]) -> Result<usize, KvError> {
         if self.calls == 0 {
@@ -90,7 +93,7 @@ impl<'r, R: Reader> Source for Bounded<'r, R> {
       refl,
       (
         R.goes_on_itself a.reader.now,
-        record { at_most = omega arith; not_before = λ is. is; exact = λ is. refl },
+        record { at_most = omega arith; exact = inr refl },
       ),
     ) };
 
@@ -98,11 +101,9 @@ impl<'r, R: Reader> Source for Bounded<'r, R> {
       bc.0 ∙ ab.0,
       (
         R.goes_on_later _ _ _ ab.1.0 bc.1.0,
-        record {
-          at_most = omega (arith, ab.1.1.at_most, bc.1.1.at_most);
-          not_before = λ is. ab.1.1.not_before (bc.1.1.not_before is);
-          exact = λ is. bc.1.1.exact is ∙ ab.1.1.exact (bc.1.1.not_before is);
-        },
+        counts_later _ _ _ (λ failed. R.failed_earlier _ _ _ failed bc.1.0) (λ failed. R.failed_later _ _ _ ab.1.0 failed) ab.1.1 bc.1.1,
       ),
     ) };
+
+    ghost failed_later = { λ a b c ab bc. failed_or_spent (λ failed. R.failed_later _ _ _ ab.1.0 failed) bc };
 }

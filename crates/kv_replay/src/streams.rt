@@ -1,6 +1,6 @@
 //! Scripts from readers to writers.
 
-ghost use Rattle.std.specs.Prelude.{◌≡◌, ◌+◌, ◌≤◌, true, false, IfErr, IsErrOf};
+ghost use Rattle.std.specs.Prelude.{◌≡◌, ◌+◌, ◌≤◌, ◌⊎◌, false, IfErr, IsErrOf};
 ghost use Rattle.kv_replay.specs.Faults.{IsBadConfiguration};
 ghost use Rattle.kv_replay.specs.Replaying.{Ran};
 ghost use Rattle.kv_replay.specs.declared.streams.TheConstants.{READ_CALLS};
@@ -31,11 +31,11 @@ pub fn replay<R: Reader, K: Sink>(
     ensures ran { Ran config.now (R.left reader.old) (R.left reader.new) (K.held sink.old) (K.held sink.new) result }
     // The reader is not asked after its end.
     ensures in_time { R.has_ended reader.old ≡ false → R.was_asked_late reader.new ≡ R.was_asked_late reader.old }
-    // It is asked so often at the most. A fault of the reader comes only where it has failed, or was asked so often and
-    // gave no end; one of the writer only where that has failed.
+    // It is asked so often at the most. A fault of the reader comes only where it failed in this call, or was asked so often
+    // in it and gave no end; one of the writer only where that failed in this call.
     ensures at_most { R.asked reader.new ≤ R.asked reader.old + READ_CALLS }
-    ensures read_fault { IsErrOf result KvError.ReadFault → R.has_failed reader.new ≡ false → R.asked reader.new ≡ R.asked reader.old + READ_CALLS }
-    ensures write_fault { IsErrOf result KvError.WriteFault → K.has_failed sink.new ≡ true }
+    ensures read_fault { IsErrOf result KvError.ReadFault → (R.failed_between reader.old reader.new ⊎ (R.asked reader.new ≡ R.asked reader.old + READ_CALLS)) }
+    ensures write_fault { IsErrOf result KvError.WriteFault → K.failed_between sink.old sink.new }
     // Where the configuration is refused, nothing was read or written.
     ensures refused { IfErr result (λ e. IsBadConfiguration e → (reader.new ≡ reader.old) × (sink.new ≡ sink.old)) }
 {
@@ -55,8 +55,8 @@ pub fn replay_bounded<R: Reader, K: Sink>(
     ensures ran { Ran config.now (R.left reader.old) (R.left reader.new) (K.held sink.old) (K.held sink.new) result }
     ensures in_time { R.has_ended reader.old ≡ false → R.was_asked_late reader.new ≡ R.was_asked_late reader.old }
     ensures at_most { R.asked reader.new ≤ R.asked reader.old + calls }
-    ensures read_fault { IsErrOf result KvError.ReadFault → R.has_failed reader.new ≡ false → R.asked reader.new ≡ R.asked reader.old + calls }
-    ensures write_fault { IsErrOf result KvError.WriteFault → K.has_failed sink.new ≡ true }
+    ensures read_fault { IsErrOf result KvError.ReadFault → (R.failed_between reader.old reader.new ⊎ (R.asked reader.new ≡ R.asked reader.old + calls)) }
+    ensures write_fault { IsErrOf result KvError.WriteFault → K.failed_between sink.old sink.new }
     ensures refused { IfErr result (λ e. IsBadConfiguration e → (reader.new ≡ reader.old) × (sink.new ≡ sink.old)) }
 {
     let mut source = Bounded::new(reader, calls);

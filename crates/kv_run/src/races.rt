@@ -1,6 +1,6 @@
 //! A race of many workers over one script.
 
-ghost use Rattle.std.specs.Prelude.{◌≡◌, ◌<◌, ◌+◌, ◌≤◌, Ok, OnOk, IfErr, IsErrOf, MatchResult, true, false};
+ghost use Rattle.std.specs.Prelude.{◌≡◌, ◌<◌, ◌+◌, ◌≤◌, ◌⊎◌, Ok, OnOk, IfErr, IsErrOf, MatchResult, false};
 ghost use Rattle.kv_keys.specs.Outcome.{Refuses};
 ghost use Rattle.kv_keys.specs.declared.error.KvError.TheVariants.{BadBucket, BadConfig};
 ghost use Rattle.kv_race.specs.Openings.{may_race};
@@ -69,9 +69,9 @@ pub fn race_script<R: Threads + Wait + Sync, S: Source, K: Sink>(
     ensures ran { RanRace config.now workers (S.left source.old) (S.left source.new) (K.held sink.old) (K.held sink.new) result }
     // The source is not asked after its end.
     ensures in_time { S.has_ended source.old ≡ false → S.was_asked_late source.new ≡ S.was_asked_late source.old }
-    // A fault of a device comes only where that device failed.
-    ensures read_fault { IsErrOf result KvError.ReadFault → S.has_failed source.new ≡ true }
-    ensures write_fault { IsErrOf result KvError.WriteFault → K.has_failed sink.new ≡ true }
+    // A fault of a device comes only where that device failed in this call.
+    ensures read_fault { IsErrOf result KvError.ReadFault → S.failed_between source.old source.new }
+    ensures write_fault { IsErrOf result KvError.WriteFault → K.failed_between sink.old sink.new }
     // Where the configuration is refused, nothing was read or written.
     ensures refused { IfErr result (λ e. IsBadConfiguration e → (source.new ≡ source.old) × (sink.new ≡ sink.old)) }
 {
@@ -101,8 +101,8 @@ pub fn replay_race<T: Threads + Wait + Sync, R: Reader, K: Sink>(
     ensures ran { RanRace config.now workers (R.left reader.old) (R.left reader.new) (K.held sink.old) (K.held sink.new) result }
     ensures in_time { R.has_ended reader.old ≡ false → R.was_asked_late reader.new ≡ R.was_asked_late reader.old }
     ensures at_most { R.asked reader.new ≤ R.asked reader.old + READ_CALLS }
-    ensures read_fault { IsErrOf result KvError.ReadFault → R.has_failed reader.new ≡ false → R.asked reader.new ≡ R.asked reader.old + READ_CALLS }
-    ensures write_fault { IsErrOf result KvError.WriteFault → K.has_failed sink.new ≡ true }
+    ensures read_fault { IsErrOf result KvError.ReadFault → (R.failed_between reader.old reader.new ⊎ (R.asked reader.new ≡ R.asked reader.old + READ_CALLS)) }
+    ensures write_fault { IsErrOf result KvError.WriteFault → K.failed_between sink.old sink.new }
     ensures refused { IfErr result (λ e. IsBadConfiguration e → (reader.new ≡ reader.old) × (sink.new ≡ sink.old)) }
 {
     let mut source = Bounded::new(reader, READ_CALLS);

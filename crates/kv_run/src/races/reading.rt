@@ -1,6 +1,6 @@
 //! Reads a script for a race.
 
-ghost use Rattle.std.specs.Prelude.{◌≡◌, ◌<◌, ◌⊎◌, ℕ, List, length, true, false, IfOk, IfErr, IsErrOf, OnErr};
+ghost use Rattle.std.specs.Prelude.{◌≡◌, ◌<◌, ◌⊎◌, ℕ, List, length, false, IfOk, IfErr, IsErrOf, OnErr};
 ghost use Rattle.std.specs.Io.KnownBytes.{Consumes, IsAtEnd};
 ghost use Rattle.kv_keys.specs.declared.error.KvError.TheVariants.{OutOfMemory, ReadFault};
 ghost use Rattle.kv_race_script.specs.Planning.{nothing};
@@ -26,7 +26,7 @@ fn read_lines<S: Source>(
     ensures in_time { S.has_ended source.old ≡ false → S.was_asked_late source.new ≡ S.was_asked_late source.old }
     ensures ok { IfOk result (λ plan. (input : List ℕ) × (Consumes (S.left source.old) (S.left source.new) input × (IsAtEnd (S.left source.new) × (plan ≡ plan_of input)))) }
     ensures part { OnErr result ((input : List ℕ) × Consumes (S.left source.old) (S.left source.new) input) }
-    ensures read_fault { IsErrOf result KvError.ReadFault → S.has_failed source.new ≡ true }
+    ensures read_fault { IsErrOf result KvError.ReadFault → S.failed_between source.old source.new }
     ensures fault { IfErr result (λ e. (e ≡ OutOfMemory) ⊎ (e ≡ ReadFault)) }
 {
     'reads: loop {
@@ -45,7 +45,7 @@ pub(crate) fn read_plan<S: Source>(alloc: Global, source: &mut S) -> Result<Plan
     ensures in_time { S.has_ended source.old ≡ false → S.was_asked_late source.new ≡ S.was_asked_late source.old }
     ensures ok { IfOk result (λ plan. (input : List ℕ) × (Consumes (S.left source.old) (S.left source.new) input × (IsAtEnd (S.left source.new) × (plan ≡ plan_of input)))) }
     ensures part { OnErr result ((input : List ℕ) × Consumes (S.left source.old) (S.left source.new) input) }
-    ensures read_fault { IsErrOf result KvError.ReadFault → S.has_failed source.new ≡ true }
+    ensures read_fault { IsErrOf result KvError.ReadFault → S.failed_between source.old source.new }
     ensures fault { IfErr result (λ e. (e ≡ OutOfMemory) ⊎ (e ≡ ReadFault)) }
 {
     let notes = Notes::new(alloc);

@@ -1,6 +1,6 @@
 //! Writes what a race answered.
 
-ghost use Rattle.std.specs.Prelude.{◌≡◌, true, map, OnOk, OnErr, IfErr, IsErrOf};
+ghost use Rattle.std.specs.Prelude.{map, OnOk, OnErr, IfErr, IsErrOf};
 ghost use Rattle.std.specs.Io.KnownBytes.{Appends};
 ghost use Rattle.kv_bucket.specs.Answers.{answer_of};
 ghost use Rattle.kv_race_script.specs.Reporting.{numbered, replies_text, report_text, seen_text};
@@ -23,7 +23,7 @@ fn write_replies<K: Sink>(
     ensures same { K.goes_on sink.old sink.new }
     ensures ok { OnOk result (Appends (K.held sink.old) (K.held sink.new) (numbered replies_text 1 (map (λ some. some.items) replies.now))) }
     ensures err { OnErr result (Puts (numbered replies_text 1 (map (λ some. some.items) replies.now)) (K.held sink.old) (K.held sink.new)) }
-    ensures failed { IsErrOf result KvError.WriteFault → K.has_failed sink.new ≡ true }
+    ensures failed { IsErrOf result KvError.WriteFault → K.failed_between sink.old sink.new }
     ensures fault { IfErr result IsWriteOrMemory }
 {
     for n in 0..replies.len() {
@@ -39,7 +39,7 @@ fn write_seen<K: Sink>(alloc: Global, seen: &[Vec<Reply>], sink: &mut K) -> Resu
     ensures same { K.goes_on sink.old sink.new }
     ensures ok { OnOk result (Appends (K.held sink.old) (K.held sink.new) (numbered seen_text 1 (map (λ some. map answer_of some.items) seen.now))) }
     ensures err { OnErr result (Puts (numbered seen_text 1 (map (λ some. map answer_of some.items) seen.now)) (K.held sink.old) (K.held sink.new)) }
-    ensures failed { IsErrOf result KvError.WriteFault → K.has_failed sink.new ≡ true }
+    ensures failed { IsErrOf result KvError.WriteFault → K.failed_between sink.old sink.new }
     ensures fault { IfErr result IsWriteOrMemory }
 {
     for n in 0..seen.len() {
@@ -61,7 +61,7 @@ pub(crate) fn write_report<K: Sink>(
         (report_text (map (λ some. some.items) report.now.replies.items) (map (λ some. map answer_of some.items) report.now.seen.items))) }
     ensures err { OnErr result (Puts (report_text (map (λ some. some.items) report.now.replies.items) (map (λ some. map answer_of some.items) report.now.seen.items))
         (K.held sink.old) (K.held sink.new)) }
-    ensures failed { IsErrOf result KvError.WriteFault → K.has_failed sink.new ≡ true }
+    ensures failed { IsErrOf result KvError.WriteFault → K.failed_between sink.old sink.new }
     ensures fault { IfErr result IsWriteOrMemory }
 {
     write_replies(alloc, &report.replies, sink)?;

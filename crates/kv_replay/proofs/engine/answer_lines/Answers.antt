@@ -6,7 +6,7 @@ use Rattle.kv_replay.proofs.engine.answer_lines.Goals as goal
 
 pub returns-in_err-count-clause-read_fault : goal.returns-in_err-count-clause-read_fault
 returns-in_err-count-clause-read_fault g c = λ fault.
-    (c.in_err-count.ensures.failed, λ config holding. reached_fault config _ _ _ _ _ (c.reads.invariant.reached config holding) _ c.in_err-count.ensures.bytes)
+    (g.met.S.Source.failed_later _ _ _ c.reads.invariant.same_source c.in_err-count.ensures.failed, λ config holding. reached_fault config _ _ _ _ _ (c.reads.invariant.reached config holding) _ c.in_err-count.ensures.bytes)
 
 pub returns-then-count-eq0-clause-ok : goal.returns-then-count-eq0-clause-ok
 returns-then-count-eq0-clause-ok g c =
@@ -21,7 +21,7 @@ pub returns-then-count-eq0-clause-write_fault : goal.returns-then-count-eq0-clau
 returns-then-count-eq0-clause-write_fault g c = λ fault.
     let nothing = rw c.if-count-eq0.true at c.in_ok-count.ensures.bytes.0 in
     let stop = c.answer_end.ensures.write_fault fault in (
-      stop.0,
+      g.met.K.Sink.failed_later _ _ _ c.reads.invariant.same_sink stop.0,
       λ config holding.
           let so_far = c.reads.invariant.reached config holding in
           stopped_at_end config _ _ _ _ _ so_far _ _ nothing (stop.1 _ so_far.is_after),
@@ -50,7 +50,7 @@ reads-preserved g c = record {
 pub returns-in_err-answer_bytes-clause-write_fault : goal.returns-in_err-answer_bytes-clause-write_fault
 returns-in_err-answer_bytes-clause-write_fault g c = λ fault.
     let stop = c.in_err-answer_bytes.ensures.write_fault (search rules) in (
-      stop.0,
+      g.met.K.Sink.failed_later _ _ _ c.reads.invariant.same_sink stop.0,
       λ config holding.
           let so_far = c.reads.invariant.reached config holding in
           stopped_in_bytes config _ _ _ _ _ so_far _ _ _ c.in_ok-count.ensures.bytes.0 (stop.1 _ so_far.is_after),

@@ -112,3 +112,6 @@ returns-clause-ran g c =
       legal = on_ok c.write_report.result c.in_ok-check.ensures.ok.0;
       fault = IfErr-weaker c.write_report.result _ _ (λ e fault. write_ends (may_race config workers 0) e legal fault) c.write_report.ensures.fault;
     }
+
+pub returns-clause-write_fault : goal.returns-clause-write_fault
+returns-clause-write_fault g c = λ fault. g.met.K.Sink.failed_later _ _ _ c.in_ok-write.ensures.same (c.write_report.ensures.failed fault)

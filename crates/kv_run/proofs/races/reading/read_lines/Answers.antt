@@ -36,3 +36,6 @@ pub returns-in_err-take_bytes-clause-part : goal.returns-in_err-take_bytes-claus
 returns-in_err-take_bytes-clause-part g c =
     let so_far = c.reads.invariant.reached in
     on_err c.from_residual-in_err-take_bytes.result (so_far.0 ++ _, Consumes-trans _ _ _ so_far.0 _ so_far.1.0 c.in_ok-count.ensures.bytes.0)
+
+pub returns-in_err-count-clause-read_fault : goal.returns-in_err-count-clause-read_fault
+returns-in_err-count-clause-read_fault g c = λ fault. g.met.S.Source.failed_later _ _ _ c.reads.invariant.same c.in_err-count.ensures.failed

@@ -32,3 +32,6 @@ loop-n-preserved g c =
       told = told_more replies_text (map (λ some. some.items) all) _ _ n c.loop-n.invariant.told _ (c.index-replies-n.result.items) _ (rw (length-map all (λ some. some.items)) within) is
           text c.in_ok-write.ensures.ok;
     }
+
+pub returns-in_err-write-clause-failed : goal.returns-in_err-write-clause-failed
+returns-in_err-write-clause-failed g c = λ fault. g.met.K.Sink.failed_later _ _ _ c.loop-n.invariant.same c.in_err-write.ensures.failed

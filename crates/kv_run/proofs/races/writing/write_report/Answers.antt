@@ -8,3 +8,6 @@ returns-in_err-write_replies-clause-err g c = on_err c.from_residual.result (put
 
 pub returns-clause-err : goal.returns-clause-err
 returns-clause-err g c = on_err_weaker c.write_seen.result (λ puts. puts_second _ _ _ _ _ (rw c.deref.ensures.value at c.in_ok-write_replies.ensures.ok) (rw c.deref-2.ensures.value at puts)) c.write_seen.ensures.err
+
+pub returns-clause-failed : goal.returns-clause-failed
+returns-clause-failed g c = λ fault. g.met.K.Sink.failed_later _ _ _ c.in_ok-write_replies.ensures.same (c.write_seen.ensures.failed fault)

@@ -33,3 +33,6 @@ loop-n-preserved g c =
       told = told_more seen_text (map (λ some. map answer_of some.items) all) _ _ n c.loop-n.invariant.told _ (map answer_of c.index-seen-n.result.items) _ (rw (length-map all (λ some. map answer_of some.items)) within) is
           text c.in_ok-write.ensures.ok;
     }
+
+pub returns-in_err-write-clause-failed : goal.returns-in_err-write-clause-failed
+returns-in_err-write-clause-failed g c = λ fault. g.met.K.Sink.failed_later _ _ _ c.loop-n.invariant.same c.in_err-write.ensures.failed
