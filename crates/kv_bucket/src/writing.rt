@@ -17,17 +17,16 @@ use kv_store::Request;
 
 impl Bucket {
     /// Does what is asked, and answers the revision of the write. A refused request changes nothing and uses no
-    /// revision; the first reason that fits is answered, want of memory last.
+    /// revision; the first reason that fits is answered, want of memory last. Nodes that no watch's
+    /// snapshot has are changed where they lie.
     pub fn write(&mut self, request: &Request) -> Result<u64, KvError>
         ensures ok { IfOk result (λ revision. IsStep self.old (Write request.now) (Revision revision) self.new) }
         ensures refused { IfErr result (λ e. (state : State) → Represents state self.old →
             Refuses e (accept state.config (asked request.now) state.acts)) }
         ensures unchanged { OnErr result (self.new ≡ self.old) }
     {
-        let next = self.version.apply(self.alloc, request)?;
-        let revision = next.revision();
-        self.version = next;
-        Ok(revision)
+        self.version.write(self.alloc, request)?;
+        Ok(self.version.revision())
     }
 
     /// Ends writes. A bucket that is sealed already is so again; reads, takes, stops and new watches go on.

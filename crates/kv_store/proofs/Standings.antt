@@ -1,16 +1,19 @@
 -- Which acts a version stands for once one more is accepted, and what it stores of a key.
-use Rattle.std.proofs.Common.{◌≡◌, ℕ, suc, ◌+◌, ◌-◌, ◌<◌, ◌≤◌, Bool, true, false, cond, ◌==◌, List, [], ◌∷◌, ◌++◌, Some, None, unwrap_or, length, refl, sym, subst, ap, ◌∙◌, arith, append_assoc, append-nil, length-append, length-drop}
+use Rattle.std.proofs.Common.{◌≡◌, ℕ, suc, ◌+◌, ◌-◌, ◌<◌, ◌≤◌, Bool, true, false, cond, ◌==◌, List, [], ◌∷◌, ◌++◌, Some, None, Result, Ok, unwrap_or, length, refl, sym, subst, ap, ◌∙◌, arith, append_assoc, append-nil, length-append, length-drop}
 use Rattle.std.specs.List.{find, last_or}
 use Rattle.std.specs.Str.{bytes_eq}
 use Rattle.std.proofs.lemmas.Bool.{eqb-true}
 use Rattle.std.proofs.lemmas.Bool.Decides.{nat_tests}
 use Rattle.std.proofs.lemmas.List.{length-map}
 use Rattle.std.proofs.lemmas.Slice.Eq.{bytes_eq-Decides}
-use Rattle.kv_store.specs.Acceptance.{IsAccepted, IsLawful, LawfulFrom}
+use Rattle.kv_keys.specs.Grammar.{is_key}
+use Rattle.kv_keys.specs.declared.error.KvError.{KvError}
+use Rattle.kv_store.specs.Acceptance.{accept, next_write, IsAccepted, IsLawful, LawfulFrom}
 use Rattle.kv_store.specs.Acts.{Act, Wrote, Seal, Write, is_purge, is_sealed, writes_of}
 use Rattle.kv_store.specs.Configuration.{Configuration, IsLegal}
 use Rattle.kv_store.specs.Next.{HasOneMore, kept_after, kept_before, next_kept}
 use Rattle.kv_store.specs.Reads.{unless_empty}
+use Rattle.kv_store.specs.Requests.{Asked, key_of, op_of, value_of}
 use Rattle.kv_store.specs.Retained.{kept, last_n, last_revision, retained, revisions}
 use Rattle.kv_store.specs.Standing.{StandsFor}
 use Rattle.kv_store.specs.Stored.{Stored, kept_at}
@@ -150,3 +153,10 @@ module _ (acts : List Act) (old new : Stored) (w : Write) (s : StandsFor acts ol
     values = values_after ∙ ap (λ (c : Configuration). length (retained c.history (acts ++ Wrote w ∷ []))) (sym more.config);
     sealed = more.sealed ∙ s.sealed ∙ sym (is_sealed-wrote acts w);
   }
+
+-- where the rules accept a request and the version that follows has its write, they accept that write, and that version stands for the acts with it
+pub stands_after : (acts : List Act) (old new : Stored) (request : Asked) (w : Write) (last : ℕ) → last ≡ old.last → StandsFor acts old → accept old.config request acts ≡ Ok (next_write request acts) → w ≡ record { key = key_of request; op = op_of request; value = value_of request; revision = last + 1 } → is_key w.key ≡ true → HasOneMore w old new → (v : Write) × ((accept old.config request acts ≡ Ok v) × StandsFor (acts ++ Wrote v ∷ []) new)
+stands_after acts old new request w last is s accepts made key more =
+    let next : w ≡ next_write request acts = rw (is ∙ s.last) at made in
+    let accepted : accept old.config request acts ≡ Ok w = accepts ∙ ap (λ (v : Write). let r : Result Write KvError = Ok v in r) (sym next) in
+    (w, (accepted, stands_for_write acts old new w s more (request, (ap (λ (v : Write). is_key v.key) (sym next) ∙ key, accepted))))

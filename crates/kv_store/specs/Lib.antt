@@ -4,6 +4,7 @@ pub mod Bounds
 pub mod Configuration
 pub mod Inside
 pub mod Next
+pub mod Putting
 pub mod Reads
 pub mod Requests
 pub mod Retained

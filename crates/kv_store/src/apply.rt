@@ -1,6 +1,6 @@
 //! Accepted writes make new versions.
 
-ghost use Rattle.std.specs.Prelude.{◌≡◌, ◌+◌, ◌<◌, List, [], ◌∷◌, ◌++◌, unwrap_or, IfErr, IfOk};
+ghost use Rattle.std.specs.Prelude.{◌≡◌, ◌+◌, ◌<◌, List, [], ◌∷◌, ◌++◌, unwrap_or, IfErr, IfOk, OnErr, OnOk};
 ghost use Rattle.kv_keys.specs.Outcome.{Refuses};
 ghost use Rattle.kv_keys.specs.declared.error.KvError.TheVariants.{OutOfMemory};
 ghost use Rattle.kv_store.specs.Acceptance.{accept};
@@ -9,8 +9,8 @@ ghost use Rattle.kv_store.specs.Next.{HasOneMore, kept_before};
 ghost use Rattle.kv_store.specs.Requests.{asked};
 ghost use Rattle.kv_store.specs.Standing.{StandsFor};
 
+use crate::journal::put_both;
 use crate::kept::next_kept;
-use crate::put::{put_kept, put_write};
 use crate::request::Request;
 use crate::version::Version;
 use crate::write::Write;
@@ -27,23 +27,30 @@ impl Version {
         }
     }
 
-    // The version with this write. The number of entries goes up by those that are kept of the key now, and down by
-    // those that were.
-    fn with_write(&self, alloc: Global, write: Write) -> Result<Version, KvError>
-        requires room { self.now.last < self.now.config.revision_limit }
-        requires revision { write.revision ≡ self.now.last + 1 }
-        ensures ok { IfOk result (λ next. HasOneMore write self.now next) }
+    // Adds this write. The number of entries goes up by those that are kept of the key now, and down by those that were.
+    pub(crate) fn add(&mut self, alloc: Global, write: Write) -> Result<(), KvError>
+        requires room { self.old.last < self.old.config.revision_limit }
+        requires revision { write.revision ≡ self.old.last + 1 }
+        ensures ok { OnOk result (HasOneMore write self.old self.new) }
+        ensures unchanged { OnErr result (self.new ≡ self.old) }
         ensures err { IfErr result (λ e. e ≡ OutOfMemory) }
     {
         let revision = write.revision();
         let before = self.kept_before(write.key());
         let kept = next_kept(alloc, self.history, write.op(), revision, before)?;
-        let values = (self.values + kept.len() as u64).saturating_sub(before.len() as u64);
+        let entries = (self.values + kept.len() as u64).saturating_sub(before.len() as u64);
         let key = write.key().copy(alloc)?;
-        let by_key = put_kept(alloc, &self.by_key, key, kept)?;
-        let by_revision = put_write(alloc, &self.by_revision, write)?;
-        let next = self.with_parts(by_key, by_revision, revision, values, self.sealed)?;
-        Ok(next)
+        put_both(
+            alloc,
+            &mut self.by_key,
+            &mut self.by_revision,
+            key,
+            kept,
+            write,
+        )?;
+        self.last = revision;
+        self.values = entries;
+        Ok(())
     }
 
     /// The next version, with the write that is asked for, or why it is refused, the first reason that fits: its value
@@ -61,7 +68,8 @@ impl Version {
     {
         self.accept(request)?;
         let write = request.write(alloc, self.last + 1)?;
-        let next = self.with_write(alloc, write)?;
+        let mut next = self.snapshot()?;
+        next.add(alloc, write)?;
         Ok(next)
     }
 }

@@ -6,6 +6,7 @@ mod apply;
 mod config;
 mod entries;
 mod gather;
+mod journal;
 mod kept;
 mod listed;
 mod put;
@@ -17,6 +18,7 @@ mod status;
 mod version;
 mod wanted;
 mod write;
+mod writing;
 
 pub use config::Config;
 pub use request::Request;

@@ -7,7 +7,9 @@ use std::alloc::Global;
 use std::process::Abort;
 use std::test::Fail;
 
+mod companions;
 mod forms;
+mod in_place;
 mod versions;
 
 // More entries than any test has.

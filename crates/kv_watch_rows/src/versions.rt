@@ -8,6 +8,7 @@ use std::process::Abort;
 use std::test::Fail;
 
 mod configuration;
+mod in_place;
 mod limits;
 mod listed;
 mod parts;

@@ -6,21 +6,15 @@ use Rattle.kv_store.specs.Acts.{Write}
 use Rattle.kv_store.proofs.Lookups.{All-put_pair, length-put_pair, written_more}
 use Rattle.kv_store.proofs.put.put_write.Goals as goal
 
-pub returns-clause-found : goal.returns-clause-found
-returns-clause-found c = λ r.
+pub returns-clause-put : goal.returns-clause-put
+returns-clause-put c =
     let number : c.new-number.result ≡ c.args.write.revision = c.new-number.ensures ∙ c.revision.ensures in
-    written_more c.args.write.revision r c.args.write c.args.by_revision.now c.in_ok-new.new (rw number at (c.in_ok-new.ensures.map r))
-
-pub returns-clause-len : goal.returns-clause-len
-returns-clause-len c =
-    omega (
-      arith,
-      ap length c.in_ok-new.ensures.pairs,
-      length-put_pair (order nat_cmp (λ n. n) 7) (c.new-number.result, c.args.write) c.args.by_revision.now,
-    )
-
-pub returns-clause-revisions : goal.returns-clause-revisions
-returns-clause-revisions c = λ last l all.
-    let number : c.new-number.result ≤ last = omega (arith, c.new-number.ensures, c.revision.ensures, l) in
-    let Small : ℕ × Write → Type 0 = λ e. e.0 ≤ last in
-    subst (All Small) (sym c.in_ok-new.ensures.pairs) (All-put_pair Small (order nat_cmp (λ n. n) 7) (c.new-number.result, c.args.write) c.args.by_revision.now number all)
+    let old = c.args.by_revision.now in
+    record {
+      found = λ r. written_more c.args.write.revision r c.args.write old c.put.new.self (rw number at (c.in_ok-put.ensures.map r));
+      len = omega (arith, ap length c.in_ok-put.ensures.pairs, length-put_pair (order nat_cmp (λ n. n) 7) (c.new-number.result, c.args.write) old);
+      revisions = λ last l all.
+          let small : c.new-number.result ≤ last = omega (arith, number, l) in
+          let Small : ℕ × Write → Type 0 = λ e. e.0 ≤ last in
+          subst (All Small) (sym c.in_ok-put.ensures.pairs) (All-put_pair Small (order nat_cmp (λ n. n) 7) (c.new-number.result, c.args.write) old small all);
+    }

@@ -4,4 +4,4 @@ use Rattle.kv_bucket.proofs.bucket.Bucket.write.Goals as goal
 
 pub returns-clause-ok : goal.returns-clause-ok
 returns-clause-ok c = rw (← c.self.view_is) (λ state r.
-    write_done state _ (asked c.args.request.now) c.in_ok-next.next c.revision-revision.result r c.in_ok-next.ensures.config c.in_ok-next.ensures.ok c.revision-revision.ensures.value)
+    write_done state _ (asked c.args.request.now) c.write.new.self c.revision.result r c.in_ok-write.ensures.config c.in_ok-write.ensures.ok c.revision.ensures.value)
