@@ -1,6 +1,6 @@
 //! A bucket that threads share: writers take one lock, readers none.
 
-ghost use Rattle.std.specs.Prelude.{◌≡◌, List, [], Ok, IfErr, IfOk, MatchResult, All, length};
+ghost use Rattle.std.specs.Prelude.{◌≡◌, List, [], Ok, IfErr, IfOk, All, length};
 ghost use Rattle.std.specs.Sync.Mutex.{mutex_guard_value};
 ghost use Rattle.kv_keys.specs.declared.error.KvError.TheVariants.{OutOfMemory, NoReader};
 ghost use Rattle.kv_keys.specs.Outcome.{Refuses};
@@ -49,17 +49,6 @@ pub struct Live<N: LiveName> {
     keeper: Mutex<Keeper<N>>,
 }
 
-// Why there is no opening for this number of readers: the configuration is refused first.
-fn refusal_of(bucket: Result<Bucket, KvError>) -> KvError
-    ensures { MatchResult bucket (λ _. result ≡ NoReader) (λ e. (e ≡ OutOfMemory → result ≡ NoReader) × ((e ≡ OutOfMemory → ⊥) → result ≡ e)) }
-{
-    match bucket {
-        Ok(_) => KvError::NoReader,
-        Err(KvError::OutOfMemory) => KvError::NoReader,
-        Err(refusal) => refusal,
-    }
-}
-
 impl Live<Brand> {
     /// Opens an empty bucket for 1 to 32 readers. The name is checked before the numbers, and these before the number of
     /// readers.
@@ -67,11 +56,11 @@ impl Live<Brand> {
         ensures ok { IfOk result (λ opened. (may_open config.now readers ≡ Ok config.now) × (opened.opening.config ≡ config.now) × (opened.readers ≡ readers)) }
         ensures refused { IfErr result (λ e. Refuses e (may_open config.now readers)) }
     {
-        let bucket = Bucket::open(alloc, config);
+        config.check()?;
         if readers == 0 || readers > MOST_READERS {
-            return Err(refusal_of(bucket));
+            return Err(KvError::NoReader);
         }
-        let bucket = bucket?;
+        let bucket = Bucket::open(alloc, config)?;
         Ok(Opened {
             alloc,
             bucket,

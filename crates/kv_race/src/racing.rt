@@ -1,8 +1,8 @@
 //! Races.
 
-ghost use Rattle.std.specs.Prelude.{◌≡◌, Ok, IfOk, IfErr, IfSome, MatchResult, length, map};
+ghost use Rattle.std.specs.Prelude.{◌≡◌, Ok, IfOk, IfErr, IfSome, length, map};
 ghost use Rattle.kv_keys.specs.Outcome.{Refuses};
-ghost use Rattle.kv_keys.specs.declared.error.KvError.TheVariants.{BadBucket, BadConfig, OutOfMemory};
+ghost use Rattle.kv_keys.specs.declared.error.KvError.TheVariants.{OutOfMemory};
 ghost use Rattle.kv_store.specs.Requests.{asked};
 ghost use Rattle.kv_bucket.specs.Answers.{answer_of};
 ghost use Rattle.kv_history.specs.Known.{IsUnread};
@@ -35,16 +35,6 @@ const LATEST: Options = Options {
 /// The most workers of a race.
 const MOST_WORKERS: usize = 16;
 
-// Why there is no race for this number of scripts: the configuration is refused first.
-fn refusal_of(opened: Result<Opened, KvError>) -> KvError
-    ensures { MatchResult opened (λ _. result ≡ BadConfig) (λ e. (e ≡ BadBucket → result ≡ BadBucket) × ((e ≡ BadBucket → ⊥) → result ≡ BadConfig)) }
-{
-    match opened {
-        Err(KvError::BadBucket) => KvError::BadBucket,
-        _ => KvError::BadConfig,
-    }
-}
-
 // Opens a bucket for a race.
 fn open_for(
     alloc: Global,
@@ -55,11 +45,11 @@ fn open_for(
     ensures ok { IfOk result (λ opened. (may_race config.now workers watches ≡ Ok config.now) × (opened.opening.config ≡ config.now)) }
     ensures refused { IfErr result (λ e. Refuses e (may_race config.now workers watches)) }
 {
-    let opened = Live::open(alloc, config, watches.max(1));
+    config.check()?;
     if workers == 0 || workers > MOST_WORKERS {
-        return Err(refusal_of(opened));
+        return Err(KvError::BadConfig);
     }
-    opened
+    Live::open(alloc, config, watches.max(1))
 }
 
 fn open_feed<N: LiveName>(

@@ -1,4 +1,3 @@
-pub mod Checking
 pub mod Options
 pub mod Plans
 pub mod Racing

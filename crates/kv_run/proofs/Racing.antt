@@ -19,7 +19,6 @@ use Rattle.kv_race_script.specs.Planning.{Planned}
 use Rattle.kv_race_script.specs.Reporting.{report_text}
 use Rattle.kv_run.specs.Races.{EndsRace, IsTextOf, Races, RanRace, StaysSilent, StopsRace, plan_of}
 use Rattle.kv_replay.specs.Written.{Puts}
-use Rattle.kv_run.proofs.Checking.{of_parts}
 use Rattle.kv_replay.proofs.Ending.{by_cause, error_of}
 use Rattle.kv_replay.proofs.Progress.{starts}
 use Rattle.kv_store.specs.Configuration.{Configuration, configure}
@@ -116,6 +115,10 @@ ok_ends config e h = elim (by_cause e (Ok config) h) [
 counted_ends : (config : Configuration) (counted : Bool) (e : KvError) → Refuses e (cond counted (Ok config) (Err BadConfig)) → EndsRace e (cond counted (Ok config) (Err BadConfig))
 counted_ends config true e h = ok_ends config e h
 counted_ends config false e h = err_ends e BadConfig h refl
+
+-- what a configuration comes to, by what is wrong with it
+abbrev of_parts : Configuration → Bool → Bool → Result Configuration KvError
+of_parts config named numbers = cond named (cond numbers (Ok config) (Err BadConfig)) (Err BadBucket)
 
 -- why a race is not begun
 pub check_ends : (config : Configuration) (named numbers : Bool) (workers : ℕ) (e : KvError) → Refuses e (then_race workers 0 (of_parts config named numbers)) → EndsRace e (then_race workers 0 (of_parts config named numbers))

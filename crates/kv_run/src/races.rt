@@ -1,8 +1,7 @@
 //! A race of many workers over one script.
 
-ghost use Rattle.std.specs.Prelude.{◌≡◌, ◌<◌, ◌+◌, ◌≤◌, ◌⊎◌, Ok, OnOk, IfErr, IsErrOf, MatchResult, false};
+ghost use Rattle.std.specs.Prelude.{◌≡◌, ◌<◌, ◌+◌, ◌≤◌, ◌⊎◌, Ok, OnOk, IfErr, IsErrOf, false};
 ghost use Rattle.kv_keys.specs.Outcome.{Refuses};
-ghost use Rattle.kv_keys.specs.declared.error.KvError.TheVariants.{BadBucket, BadConfig};
 ghost use Rattle.kv_race.specs.Openings.{may_race};
 ghost use Rattle.kv_replay.specs.Faults.{IsBadConfiguration};
 ghost use Rattle.kv_replay.specs.declared.streams.TheConstants.{READ_CALLS};
@@ -14,7 +13,7 @@ use kv_keys::KvError;
 use kv_race::{NoGate, race};
 use kv_race_script::deal;
 use kv_replay::{Bounded, READ_CALLS, Reader, Sink, Source};
-use kv_store::{Config, Version};
+use kv_store::Config;
 use std::alloc::Global;
 use std::sync::Wait;
 use std::thread::Threads;
@@ -26,26 +25,15 @@ mod writing;
 /// The most workers of a race.
 const MOST_WORKERS: usize = 16;
 
-// Why there is no race for this number of workers: the configuration is refused first.
-fn refusal_of(opened: Result<Version, KvError>) -> KvError
-    ensures { MatchResult opened (λ _. result ≡ BadConfig) (λ e. (e ≡ BadBucket → result ≡ BadBucket) × ((e ≡ BadBucket → ⊥) → result ≡ BadConfig)) }
-{
-    match opened {
-        Err(KvError::BadBucket) => KvError::BadBucket,
-        _ => KvError::BadConfig,
-    }
-}
-
 /// Checks the configuration, and then the number of workers.
-fn check(alloc: Global, config: &Config, workers: usize) -> Result<(), KvError>
+fn check(config: &Config, workers: usize) -> Result<(), KvError>
     ensures ok { OnOk result ((may_race config.now workers 0 ≡ Ok config.now) × (0 < workers)) }
     ensures refused { IfErr result (λ e. Refuses e (may_race config.now workers 0)) }
 {
-    let opened = Version::empty(alloc, config);
+    config.check()?;
     if workers == 0 || workers > MOST_WORKERS {
-        return Err(refusal_of(opened));
+        return Err(KvError::BadConfig);
     }
-    opened?;
     Ok(())
 }
 
@@ -75,7 +63,7 @@ pub fn race_script<R: Threads + Wait + Sync, S: Source, K: Sink>(
     // Where the configuration is refused, nothing was read or written.
     ensures refused { IfErr result (λ e. IsBadConfiguration e → (source.new ≡ source.old) × (sink.new ≡ sink.old)) }
 {
-    check(alloc, config, workers)?;
+    check(config, workers)?;
     let plan = read_plan(alloc, source)?;
     let (refused, requests, watches) = plan.parts();
     let scripts = deal(alloc, requests, workers)?;

@@ -1,6 +1,6 @@
 //! The configuration of a bucket.
 
-ghost use Rattle.std.specs.Prelude.{◌≡◌, OnOk, IfErr, IfOk};
+ghost use Rattle.std.specs.Prelude.{◌≡◌, Ok, Err, OnOk, IfErr, IfOk};
 ghost use Rattle.kv_keys.specs.Outcome.{Refuses};
 ghost use Rattle.kv_store.specs.Configuration.{IsLegal, configure, has_legal_numbers};
 
@@ -16,7 +16,7 @@ const MOST_WRITES: u64 = 1_000_000;
 
 const MOST_REVISIONS: u64 = 4_294_967_295;
 
-/// A bucket's name and its limits. `Version::empty` checks them.
+/// A bucket's name and its limits. `check` and `Version::empty` check them.
 #[derive(Drop)]
 pub struct Config {
     /// The name: 1 to 64 ASCII letters, digits, `_` and `-`.
@@ -80,10 +80,10 @@ impl Config {
             && (1 <= self.revision_limit && self.revision_limit <= MOST_REVISIONS)
     }
 
-    /// Checks the name, and then the numbers.
-    pub(crate) fn check(&self) -> Result<(), KvError>
-        ensures ok { OnOk result (IsLegal self.now) }
-        ensures refused { IfErr result (λ e. Refuses e (configure self.now)) }
+    /// Refuses a configuration that is not legal: for its name first, then for its numbers. It takes no memory.
+    pub fn check(&self) -> Result<(), KvError>
+        ensures ok { OnOk result (IsLegal self.now × (configure self.now ≡ Ok self.now)) }
+        ensures refused { IfErr result (λ e. (configure self.now ≡ Err e) × Refuses e (configure self.now)) }
     {
         if !is_name(self.bucket.as_str()) {
             return Err(KvError::BadBucket);

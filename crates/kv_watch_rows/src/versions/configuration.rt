@@ -2,9 +2,20 @@
 
 use super::*;
 
+// What both `check` and `Version::empty` answer to a configuration; another refusal where they differ.
+fn answer(alloc: Global, config: &Config) -> Result<Version, KvError> {
+    let made = empty(alloc, config);
+    match config.check() {
+        Ok(()) => made,
+        Err(refusal) if made.err() == Some(refusal) => Err(refusal),
+        Err(_) => Err(KvError::BadCommand),
+    }
+}
+
 // Whether a bucket with this name is made, under this name.
 fn answer_to_name(alloc: Global, name: &str) -> Result<(), KvError> {
-    let version = empty(alloc, &named(alloc, name)?)?;
+    let config = named(alloc, name)?;
+    let version = answer(alloc, &config)?;
     if version.bucket() == name {
         Ok(())
     } else {
@@ -25,7 +36,7 @@ fn answer_to_numbers(
     config.value_limit = value_limit;
     config.write_limit = write_limit;
     config.revision_limit = revision_limit;
-    empty(alloc, &config)?;
+    answer(alloc, &config)?;
     Ok(())
 }
 
@@ -75,6 +86,7 @@ fn numbers_above_their_limits(rt: HostRuntime) -> Result<(), Fail> {
 fn the_name_comes_before_the_numbers(rt: HostRuntime) -> Result<(), Fail> {
     let mut config = named(rt.alloc(), "my.bucket")?;
     config.history = 0;
+    assert_eq!(rt; config.check(), Err(KvError::BadBucket));
     let refused = empty(rt.alloc(), &config);
     assert_eq!(rt; refused.err(), Some(KvError::BadBucket));
     assert_eq!(rt; config.bucket.as_str(), "my.bucket");

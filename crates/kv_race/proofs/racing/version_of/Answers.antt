@@ -3,7 +3,7 @@ use Rattle.std.proofs.lemmas.Result.{IfOk-weaker, err_from_is_err_and}
 use Rattle.kv_keys.specs.declared.error.KvError.TheVariants.{OutOfMemory, BadFilter}
 use Rattle.kv_race.specs.Telling.{HasLast}
 use Rattle.kv_race.proofs.Ended.{last_told}
-use Rattle.kv_race.proofs.Opened.{every_key}
+use Rattle.kv_race.proofs.EveryKey.{every_key}
 use Rattle.kv_race.proofs.racing.version_of.Goals as goal
 
 pub returns-in_err-filters-clause-err : goal.returns-in_err-filters-clause-err
