@@ -1,4 +1,5 @@
-//! Versions of a bucket: each is a value that stands for a list of accepted acts, and stays as it is.
+//! Versions of a bucket: each is a value that stands for a list of accepted acts, and stays as it is, whatever is made of
+//! another.
 #![tactic(auto)]
 
 mod accept;

@@ -22,7 +22,8 @@ use std::alloc::Global;
 use std::marker::Model;
 use std::sync::Arc;
 
-/// A version of a bucket. It never changes: a write or a seal makes another one, which shares what both have.
+/// A version of a bucket. `apply` and `seal` make another one, which shares what both have, and leave this one as it is;
+/// `write` changes this one, and no other.
 ///
 /// Contracts see what it stores, and say which lists of accepted acts that stands for.
 #[derive(Drop)]
