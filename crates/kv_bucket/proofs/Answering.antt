@@ -2,29 +2,28 @@
 use Rattle.std.proofs.Common.{◌≡◌, ℕ, ◌+◌, ◌-◌, Bool, true, false, not, cond, List, [], ◌∷◌, ◌++◌, Option, Some, None, Ok, filter, length, refl, sym, ap, ◌∙◌, subst, arith, length-append}
 use Rattle.std.specs.Prelude.{slice_set}
 use Rattle.std.specs.List.{slice_get, position, position_or_len}
+use Rattle.std.specs.Option.{option_len, option_map}
 use Rattle.std.proofs.lemmas.Bool.{eqb-true}
 use Rattle.kv_keys.specs.declared.error.KvError.TheVariants.{NoSuchWatch}
-use Rattle.kv_store.specs.Acceptance.{accept}
-use Rattle.kv_store.specs.Acts.{Act, Wrote, Write, writes_of}
-use Rattle.kv_store.specs.Configuration.{Configuration}
-use Rattle.kv_store.specs.Requests.{Asked}
+use Rattle.kv_model.specs.Acceptance.{accept}
+use Rattle.kv_model.specs.Acts.{Act, Wrote, Write, writes_of}
+use Rattle.kv_model.specs.Configuration.{Configuration}
+use Rattle.kv_model.specs.Requests.{Asked}
 use Rattle.kv_store.specs.Standing.{StandsFor}
-use Rattle.kv_store.proofs.Numbered.{accepted_is_next, writes_of-wrote}
+use Rattle.kv_model.proofs.Numbered.{accepted_is_next, writes_of-wrote}
 use Rattle.kv_store.specs.Stored.{Stored}
-use Rattle.kv_watch.specs.declared.event.Event.{Event}
-use Rattle.kv_watch.specs.declared.options.Options.{Options}
+use Rattle.kv_model.specs.declared.event.Event.{Event}
+use Rattle.kv_model.specs.declared.options.Options.{Options}
 use Rattle.kv_watch.specs.Following.{Following, InPlace, given_to as all_of}
-use Rattle.kv_watch.specs.Given.{Item}
-use Rattle.kv_bucket.specs.declared.call.Call.TheVariants as ask
-use Rattle.kv_bucket.specs.Answers.{Revision, Watching, Ended, Refused, answer_item}
-use Rattle.kv_history.specs.Lent.{lent}
-use Rattle.kv_bucket.specs.Held.{Holding, Bucketed, Follows, Represents, IsMoved, has_number, held_at, after_handed}
-use Rattle.kv_bucket.specs.State.{State, Watch, watch_at, next_of, open_at, set_watch, opened, has_room, after_item, after_take, after_stop, after_write, answer_write, answer_take, answer_stop, after, answer_to}
-use Rattle.kv_bucket.proofs.Finds.{find_at, find_none, find_some}
-use Rattle.kv_bucket.proofs.Lending.{lent_next}
+use Rattle.kv_model.specs.Given.{Item, AnEntry, EndMarker, event_of}
+use Rattle.kv_model.specs.declared.call.Call.TheVariants as ask
+use Rattle.kv_model.specs.Answers.{Revision, Watching, Ended, Refused, answer_item, event_answered}
+use Rattle.kv_bucket.specs.Held.{Holding, Bucketed, Follows, Represents, has_number, held_at}
+use Rattle.kv_model.specs.State.{after_handed, State, Watch, watch_at, next_of, open_at, set_watch, opened, has_room, after_item, after_take, after_stop, after_write, answer_write, answer_take, answer_stop, after, answer_to}
+use Rattle.kv_model.proofs.Finds.{find_at, find_none, find_some}
 use Rattle.kv_bucket.proofs.Later.{later}
-use Rattle.kv_bucket.proofs.Moving.{all_is}
-use Rattle.kv_bucket.proofs.Numbers.{at_get, open_is, set_get}
+use Rattle.kv_bucket.proofs.Moving.{all_is, behind, moves}
+use Rattle.kv_model.proofs.Numbers.{at_get, open_is, set_get}
 use Rattle.kv_bucket.proofs.Representing.{held_some, held_none, represents_act, represents_moved, represents_stopped, represents_watch}
 
 -- no watch of the number is open
@@ -36,6 +35,10 @@ take_none state bucket i none r = sym (ap (answer_take state) (none_open state b
 
 pub stop_none : (state : State) (bucket : Bucketed) (i : ℕ) → position (has_number i) bucket.watches ≡ None → Represents state bucket → (Refused NoSuchWatch ≡ answer_stop (open_at i state)) × Represents (after_stop i state (open_at i state)) bucket
 stop_none state bucket i none r = rw (none_open state bucket i r none) (refl, r)
+
+-- and nothing moves
+pub pass_none : (state : State) (bucket : Bucketed) (i : ℕ) → position (has_number i) bucket.watches ≡ None → Represents state bucket → Represents (after_take i state (open_at i state)) bucket
+pass_none state bucket i none r = rw (none_open state bucket i r none) r
 
 -- what is found of a number
 found : (bucket : Bucketed) (i place : ℕ) → position (has_number i) bucket.watches ≡ Some place → (position_or_len (has_number i) bucket.watches ≡ place) × (held_at i bucket.watches ≡ slice_get bucket.watches place)
@@ -49,6 +52,16 @@ found_number (x ∷ xs) i held h = by_test (found_number xs i held) (has_number 
     by_test : (held_at i xs ≡ Some held → held.number ≡ i) → (b : Bool) → has_number i x ≡ b → cond b (Some x) (held_at i xs) ≡ Some held → held.number ≡ i
     by_test rest true e g = let same : x ≡ held = cc in rw (sym same) (eqb-true x.number i e)
     by_test rest false e g = rest g
+
+-- an answer to a take has the event of its item
+event_of_answer : (item : Option Item) → event_answered (answer_item item) ≡ option_map event_of item
+event_of_answer None = refl
+event_of_answer (Some (AnEntry entry)) = refl
+event_of_answer (Some EndMarker) = refl
+
+len_of_event : (item : Option Item) → option_len (option_map event_of item) ≡ option_len item
+len_of_event None = refl
+len_of_event (Some item) = refl
 
 -- what stands at the place of a number, and the watch that it stands for
 module _ (state : State) (bucket : Bucketed) (i place : ℕ) (held : Holding) (at : position (has_number i) bucket.watches ≡ Some place) (here : slice_get bucket.watches place ≡ Some held) (r : Represents state bucket) where
@@ -96,20 +109,35 @@ module _ (state : State) (bucket : Bucketed) (i place : ℕ) (held : Holding) (a
   take_is : after_take i state (open_at i state) ≡ set_watch i (after_handed watch_of.0 next) state
   take_is = ap (after_take i state) watch_of.1 ∙ ap (λ h. after_item i state watch_of.0 (next_of h state.acts watch_of.0)) (sym history) ∙ sym (after_is next)
 
-  pub taken : (event : Option Event) (new : Holding) → IsMoved bucket.version held event new → Represents (after_take i state (open_at i state)) (record bucket { watches = slice_set bucket.watches place new })
-  taken event new moves =
-      let moved = moves.1 state.acts watch_of.0 watch_of.2 in
-      let all = represents_moved state bucket i held new watch_of.0 (after_handed watch_of.0 next) r (ap (slice_get bucket.watches) where_is.0 ∙ here) own (moves.0 ∙ own) watch_of.1 (still_open next) moved.1 in
+  -- what is held after it follows the watch after it
+  held_on : (cursor : Following) → Follows state.acts bucket.version (record held { cursor = cursor }) (after_handed watch_of.0 next) →
+      Represents (after_take i state (open_at i state)) (record bucket { watches = slice_set bucket.watches place (record held { cursor = cursor }) })
+  held_on cursor follows =
+      let new : Holding = record held { cursor = cursor } in
+      let all = represents_moved state bucket i held new watch_of.0 (after_handed watch_of.0 next) r (ap (slice_get bucket.watches) where_is.0 ∙ here) own own watch_of.1 (still_open next) follows in
       subst (λ (s : State). Represents s (record bucket { watches = slice_set bucket.watches place new })) (sym take_is)
       (subst (λ p. Represents (set_watch i (after_handed watch_of.0 next) state) (record bucket { watches = slice_set bucket.watches p new })) where_is.0 all)
 
-  pub lends : (event : Option Event) (new : Holding) → IsMoved bucket.version held event new → answer_item (lent held.cursor.options.headers_only event bucket.version) ≡ answer_take state (open_at i state)
-  lends event new moves =
-      let moved = moves.1 state.acts watch_of.0 watch_of.2 in
-      ap answer_item (ap (λ (o : Options). lent o.headers_only event bucket.version) watch_of.2.options
-      ∙ ap (λ e. lent watch_of.0.options.headers_only e bucket.version) moved.0
-      ∙ lent_next state.acts bucket.version held watch_of.0 watch_of.2)
-      ∙ sym answer_next
+  pub taken : (cursor : Following) (item : Option Item) → cursor.filters ≡ held.cursor.filters → cursor.options ≡ held.cursor.options →
+      ((n : ℕ) (began acts : List Act) → InPlace began acts n held.base bucket.version held.cursor → item ≡ slice_get (all_of held.base.config.history began acts held.cursor) n) →
+      ((n : ℕ) (began acts : List Act) → InPlace began acts n held.base bucket.version held.cursor → InPlace began acts (n + option_len item) held.base bucket.version cursor) →
+      Represents (after_take i state (open_at i state)) (record bucket { watches = slice_set bucket.watches place (record held { cursor = cursor }) })
+  taken cursor item fs os peeks stays = held_on cursor (moves bucket.version held cursor item fs os peeks stays state.acts watch_of.0 watch_of.2)
+
+  -- the same by the event of the item
+  pub passed : (cursor : Following) (event : Option Event) → cursor.filters ≡ held.cursor.filters → cursor.options ≡ held.cursor.options →
+      ((n : ℕ) (began acts : List Act) (base : Stored) → InPlace began acts n base bucket.version held.cursor → event ≡ option_map event_of (slice_get (all_of base.config.history began acts held.cursor) n) →
+      InPlace began acts (n + option_len event) base bucket.version cursor) →
+      event ≡ event_answered (answer_take state (open_at i state)) →
+      Represents (after_take i state (open_at i state)) (record bucket { watches = slice_set bucket.watches place (record held { cursor = cursor }) })
+  passed cursor event fs os stays is =
+      let w = watch_of.0 in
+      let f = watch_of.2 in
+      let of_next : event ≡ option_map event_of next = is ∙ ap event_answered answer_next ∙ event_of_answer next in
+      let there : slice_get (all_of held.base.config.history w.began state.acts held.cursor) w.handed ≡ next = ap (λ es. slice_get es w.handed) (all_is state.acts bucket.version held w f) in
+      let place' = stays w.handed w.began state.acts held.base f.place (of_next ∙ ap (option_map event_of) (sym there)) in
+      let long : option_len event ≡ option_len next = ap option_len of_next ∙ len_of_event next in
+      held_on cursor (behind state.acts bucket.version held cursor w next (fs ∙ f.filters) (os ∙ f.options) (subst (λ n. InPlace w.began state.acts (w.handed + n) held.base bucket.version cursor) long place'))
 
   -- a stop
   pub stop_some : (Ended held.cursor.handed ≡ answer_stop (open_at i state)) × Represents (after_stop i state (open_at i state)) (record bucket { watches = filter (λ held. not (has_number i held)) bucket.watches })

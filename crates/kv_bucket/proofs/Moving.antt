@@ -1,16 +1,15 @@
 -- How a take moves what is held of a watch.
 use Rattle.std.proofs.Common.{◌≡◌, ℕ, ◌+◌, List, Option, Some, None, sym, ap, ◌∙◌, subst, arith}
 use Rattle.std.specs.List.{slice_get}
-use Rattle.std.specs.Option.{option_len, option_map}
-use Rattle.kv_store.specs.Acts.{Act}
-use Rattle.kv_store.specs.Configuration.{Configuration}
+use Rattle.std.specs.Option.{option_len}
+use Rattle.kv_model.specs.Acts.{Act}
+use Rattle.kv_model.specs.Configuration.{Configuration}
 use Rattle.kv_store.specs.Stored.{Stored}
-use Rattle.kv_watch.specs.declared.event.Event.{Event}
-use Rattle.kv_watch.specs.declared.options.Options.{Options}
+use Rattle.kv_model.specs.declared.options.Options.{Options}
 use Rattle.kv_watch.specs.Following.{Following, InPlace, given_to as all_of}
-use Rattle.kv_watch.specs.Given.{Item, event_of, given}
-use Rattle.kv_bucket.specs.Held.{Holding, Follows, after_handed}
-use Rattle.kv_bucket.specs.State.{Watch, given_to, next_of}
+use Rattle.kv_model.specs.Given.{Item, given}
+use Rattle.kv_bucket.specs.Held.{Holding, Follows}
+use Rattle.kv_model.specs.State.{after_handed, Watch, given_to, next_of}
 
 -- all that a cursor's watch is given is what its watch is given
 pub all_is : (acts : List Act) (version : Stored) (held : Holding) (watch : Watch) → Follows acts version held watch → all_of held.base.config.history watch.began acts held.cursor ≡ given_to version.config.history acts watch
@@ -19,18 +18,18 @@ all_is acts version held watch f =
     ∙ ap (λ (o : Options). given held.base.config.history watch.began acts watch.filters o) f.options
     ∙ ap (λ (c : Configuration). given c.history watch.began acts watch.filters watch.options) (sym f.place.same_config)
 
-behind : (acts : List Act) (version : Stored) (held : Holding) (cursor : Following) (watch : Watch) (item : Option Item) → cursor.filters ≡ watch.filters → cursor.options ≡ watch.options → InPlace watch.began acts (watch.handed + option_len item) held.base version cursor → Follows acts version (record held { cursor = cursor }) (after_handed watch item)
+pub behind : (acts : List Act) (version : Stored) (held : Holding) (cursor : Following) (watch : Watch) (item : Option Item) → cursor.filters ≡ watch.filters → cursor.options ≡ watch.options → InPlace watch.began acts (watch.handed + option_len item) held.base version cursor → Follows acts version (record held { cursor = cursor }) (after_handed watch item)
 behind acts version held cursor watch None fs os at = record { filters = fs; options = os; place = subst (λ n. InPlace watch.began acts n held.base version cursor) (omega arith) at }
 behind acts version held cursor watch (Some item) fs os at = record { filters = fs; options = os; place = at }
 
 -- a take that hands out the next item and stays in place
-pub moves : (version : Stored) (held : Holding) (cursor : Following) (item : Option Item) (event : Option Event) →
-    cursor.filters ≡ held.cursor.filters → cursor.options ≡ held.cursor.options → event ≡ option_map event_of item →
+pub moves : (version : Stored) (held : Holding) (cursor : Following) (item : Option Item) →
+    cursor.filters ≡ held.cursor.filters → cursor.options ≡ held.cursor.options →
     ((n : ℕ) (began acts : List Act) → InPlace began acts n held.base version held.cursor → item ≡ slice_get (all_of held.base.config.history began acts held.cursor) n) →
     ((n : ℕ) (began acts : List Act) → InPlace began acts n held.base version held.cursor → InPlace began acts (n + option_len item) held.base version cursor) →
     (acts : List Act) (watch : Watch) → Follows acts version held watch →
-    (event ≡ option_map event_of (next_of version.config.history acts watch)) × Follows acts version (record held { cursor = cursor }) (after_handed watch (next_of version.config.history acts watch))
-moves version held cursor item event fs os told next place acts watch f =
+    Follows acts version (record held { cursor = cursor }) (after_handed watch (next_of version.config.history acts watch))
+moves version held cursor item fs os next place acts watch f =
     let is : item ≡ next_of version.config.history acts watch = next watch.handed watch.began acts f.place ∙ ap (λ es. slice_get es watch.handed) (all_is acts version held watch f) in
     let all = behind acts version held cursor watch item (fs ∙ f.filters) (os ∙ f.options) (place watch.handed watch.began acts f.place) in
-    (told ∙ ap (option_map event_of) is, subst (λ (i : Option Item). Follows acts version (record held { cursor = cursor }) (after_handed watch i)) is all)
+    subst (λ (i : Option Item). Follows acts version (record held { cursor = cursor }) (after_handed watch i)) is all

@@ -5,14 +5,14 @@ use Rattle.std.specs.List.{slice_get, position_or_len}
 use Rattle.std.specs.Option.{option_len, option_and_then}
 use Rattle.std.proofs.lemmas.Bool.Decides.{eqb_tells}
 use Rattle.std.proofs.lemmas.Bool.{ne_eqb, eq-eqb, eqb-true}
-use Rattle.kv_store.specs.Acts.{Act, IsPrefix}
+use Rattle.kv_model.specs.Acts.{Act, IsPrefix}
 use Rattle.kv_store.specs.Standing.{StandsFor}
 use Rattle.kv_store.specs.Stored.{Stored}
 use Rattle.kv_watch.specs.Following.{Following, InPlace}
 use Rattle.kv_bucket.specs.Held.{Holding, Bucketed, Follows, IsHeld, Represents, has_number, held_at}
-use Rattle.kv_bucket.specs.State.{State, Watch, watch_at, add_act, add_watch, set_watch, stopped, if_open, open_at}
-use Rattle.kv_bucket.proofs.Finds.{find_set, find_set_other, count_set, count_fewer, find_push, find_push_other, count_push, find_filter, find_none_left, filter_filter_same, filter_filter_none, length_parts}
-use Rattle.kv_bucket.proofs.Numbers.{at_set_same, at_set_other, at_push_here, at_push_other, at_past, at_get, open_is}
+use Rattle.kv_model.specs.State.{State, Watch, watch_at, add_act, add_watch, set_watch, stopped, if_open, open_at}
+use Rattle.kv_model.proofs.Finds.{find_set, find_set_other, count_set, count_fewer, find_push, find_push_other, count_push, find_filter, find_none_left, filter_filter_same, filter_filter_none, length_parts}
+use Rattle.kv_model.proofs.Numbers.{at_set_same, at_set_other, at_push_here, at_push_other, at_past, at_get, open_is}
 
 -- what is held goes on for a later version
 abbrev pub GoesOnLater : Type 0

@@ -2,16 +2,17 @@
 use Rattle.std.proofs.Common.{◌≡◌, ◌<◌, ℕ, List, [], ◌∷◌, ◌++◌, Result, Ok, Err, OnErr, length, map, drop, take, sym, ap, ◌∙◌, subst, append_assoc}
 use Rattle.std.proofs.Math.Seq.{drop-append_seam}
 use Rattle.std.proofs.lemmas.List.{map-append}
-use Rattle.kv_bucket.specs.declared.call.Call.{Call}
+use Rattle.kv_model.specs.declared.call.Call.{Call}
 use Rattle.kv_bucket.specs.declared.reply.Reply.{Reply}
-use Rattle.kv_bucket.specs.Answers.{Answer, answer_of}
+use Rattle.kv_bucket.specs.Replies.{answer_of}
+use Rattle.kv_model.specs.Answers.{Answer}
 use Rattle.kv_bucket.specs.Held.{Bucketed, Represents}
-use Rattle.kv_bucket.specs.Runs.{run, answers_to}
-use Rattle.kv_bucket.specs.State.{State}
+use Rattle.kv_model.specs.Runs.{run, answers_to}
+use Rattle.kv_model.specs.State.{State}
 use Rattle.kv_bucket.specs.Stepping.{IsRun, IsStep}
-use Rattle.kv_bucket.specs.Told.{TellsEachWatch}
-use Rattle.kv_bucket.proofs.Others.{run-append, answers-append}
-use Rattle.kv_bucket.proofs.Theorem.{tells_each_watch}
+use Rattle.kv_model.specs.Told.{TellsEachWatch}
+use Rattle.kv_model.proofs.Others.{run-append, answers-append}
+use Rattle.kv_model.proofs.Theorem.{tells_each_watch}
 
 pub run_push : (old now new : Bucketed) (calls : List Call) (call : Call) (before replies more : List Reply) (reply : Reply) →
     IsRun old calls before replies now → IsStep now call (answer_of reply) new → more ≡ replies ++ reply ∷ [] → IsRun old (calls ++ call ∷ []) before more new
@@ -38,6 +39,6 @@ run_tells old new calls before replies ran state r =
 
 -- the same of a run that ended early, of the calls that it answered
 pub tells_early : {T E : Type 0} (result : Result T E) (old new : Bucketed) (calls : List Call) (before replies : List Reply) (k : ℕ) → k < length calls → IsRun old (take k calls) before replies new →
-    OnErr result ((n : ℕ) × (n < length calls) × ((state : State) → Represents state old → TellsEachWatch state (take n calls) (map answer_of (drop (length before) replies))))
+    OnErr result ((n : ℕ) × (n < length calls) × IsRun old (take n calls) before replies new × ((state : State) → Represents state old → TellsEachWatch state (take n calls) (map answer_of (drop (length before) replies))))
 tells_early (Ok value) old new calls before replies k within ran = tt
-tells_early (Err error) old new calls before replies k within ran = (k, within, run_tells old new (take k calls) before replies ran)
+tells_early (Err error) old new calls before replies k within ran = (k, within, ran, run_tells old new (take k calls) before replies ran)

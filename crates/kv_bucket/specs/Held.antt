@@ -1,14 +1,12 @@
 -- Which states of the model a bucket represents.
 use Rattle.std.specs.Prelude.{◌≡◌, ℕ, Bool, List, Option, Some, None, ⊤, length, ◌==◌, filter}
 use Rattle.std.specs.List.{find}
-use Rattle.std.specs.Option.{option_len, option_map}
-use Rattle.kv_store.specs.Acts.{Act}
+use Rattle.std.specs.Option.{option_len}
+use Rattle.kv_model.specs.Acts.{Act}
 use Rattle.kv_store.specs.Standing.{StandsFor}
 use Rattle.kv_store.specs.Stored.{Stored}
-use Rattle.kv_watch.specs.declared.event.Event.{Event}
 use Rattle.kv_watch.specs.Following.{Following, InPlace}
-use Rattle.kv_watch.specs.Given.{Item, event_of}
-use Rattle.kv_bucket.specs.State.{State, Watch, open_at, open_count, next_of, handed_one}
+use Rattle.kv_model.specs.State.{State, Watch, open_at, open_count}
 
 -- a watch that is held: its number, the version when it was opened, and its cursor
 pub record Holding : Type 0 where
@@ -50,14 +48,3 @@ pub record Represents (state : State) (bucket : Bucketed) : Type 0 where
   pub held : (number : ℕ) → IsHeld state.acts bucket.version (held_at number bucket.watches) (open_at number state)
   pub once : (number : ℕ) → length (filter (has_number number) bucket.watches) ≡ option_len (open_at number state)
   pub open_count : length bucket.watches ≡ open_count state.watches
-
--- a watch after a take that handed out an item, or none
-abbrev pub after_handed : Watch → Option Item → Watch
-after_handed watch None = watch
-after_handed watch (Some item) = handed_one watch
-
--- what a take does to a held watch of which it tells an event: it keeps the number, and wherever that watch stood for one, the event is that of the item that is handed next, if any, and it stands behind that item
-abbrev pub IsMoved : Stored → Holding → Option Event → Holding → Type 0
-IsMoved version held event new = (new.number ≡ held.number)
-    × ((acts : List Act) (watch : Watch) → Follows acts version held watch →
-    (event ≡ option_map event_of (next_of version.config.history acts watch)) × Follows acts version new (after_handed watch (next_of version.config.history acts watch)))

@@ -1,7 +1,3 @@
-pub mod Answers
 pub mod Held
-pub mod Keeping
-pub mod Runs
-pub mod State
+pub mod Replies
 pub mod Stepping
-pub mod Told

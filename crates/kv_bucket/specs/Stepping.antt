@@ -1,13 +1,12 @@
 -- What a call makes of a bucket: one step of the model, from every state that it represents.
-use Rattle.std.specs.Prelude.{◌≡◌, ℕ, ◌+◌, List, ◌++◌, Result, Ok, Err, length, map, if◌then◌else◌}
-use Rattle.kv_keys.specs.declared.error.KvError.{KvError}
-use Rattle.kv_keys.specs.declared.error.KvError.TheVariants.{TooManyWatches}
-use Rattle.kv_bucket.specs.declared.call.Call.{Call}
+use Rattle.std.specs.Prelude.{◌≡◌, List, ◌++◌, map}
+use Rattle.kv_model.specs.declared.call.Call.{Call}
 use Rattle.kv_bucket.specs.declared.reply.Reply.{Reply}
-use Rattle.kv_bucket.specs.Answers.{Answer, answer_of}
+use Rattle.kv_bucket.specs.Replies.{answer_of}
+use Rattle.kv_model.specs.Answers.{Answer}
 use Rattle.kv_bucket.specs.Held.{Bucketed, Represents}
-use Rattle.kv_bucket.specs.Runs.{run, answers_to}
-use Rattle.kv_bucket.specs.State.{State, after, answer_to, has_room}
+use Rattle.kv_model.specs.Runs.{run, answers_to}
+use Rattle.kv_model.specs.State.{State, after, answer_to}
 
 -- the bucket answered as the model does, and represents the state that the model comes to
 abbrev pub IsStep : Bucketed → Call → Answer → Bucketed → Type 0
@@ -17,7 +16,3 @@ IsStep old call answer new = (state : State) → Represents state old → (answe
 abbrev pub IsRun : Bucketed → List Call → List Reply → List Reply → Bucketed → Type 0
 IsRun old calls before replies new = (added : List Reply) × (replies ≡ before ++ added)
     × ((state : State) → Represents state old → (map answer_of added ≡ answers_to state calls) × Represents (run state calls) new)
-
--- the number of a new watch, or why there is none
-abbrev pub next_number : State → Result ℕ KvError
-next_number s = if has_room s then Ok (length s.watches + 1) else Err TooManyWatches

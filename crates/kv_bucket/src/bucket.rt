@@ -2,14 +2,15 @@
 
 ghost use Rattle.std.specs.Prelude.{◌≡◌, length, IfErr, IfOk};
 ghost use Rattle.kv_keys.specs.Outcome.{Refuses};
-ghost use Rattle.kv_store.specs.Configuration.{configure};
+ghost use Rattle.kv_model.specs.Configuration.{configure};
 ghost use Rattle.kv_store.specs.Standing.{StandsFor};
 ghost use Rattle.kv_bucket.specs.Held.{Represents};
-ghost use Rattle.kv_bucket.specs.State.{State, empty, open_count};
+ghost use Rattle.kv_model.specs.State.{State, empty, open_count};
 
 use crate::held::Held;
 use kv_keys::KvError;
-use kv_store::{Config, Version};
+use kv_model::Config;
+use kv_store::Version;
 use std::alloc::Global;
 use std::marker::Model;
 
@@ -51,9 +52,24 @@ impl Bucket {
     /// The version with all that was accepted.
     pub fn version(&self) -> &Version
         ensures value { result.now ≡ self.now.version }
-        ensures acts { (state : State) → Represents state self.now → (result.now.config ≡ state.config) × StandsFor state.acts result.now }
+        ensures acts { (state : State) → Represents state self.now →
+            (result.now.config ≡ state.config) × StandsFor state.acts result.now }
     {
         &self.version
+    }
+
+    /// The allocator that it was opened with.
+    pub fn alloc(&self) -> Global {
+        self.alloc
+    }
+
+    /// Puts another version in place of its own, and changes nothing else: for a layer that makes the next version
+    /// apart, and puts it in place once it has done with it what may be refused. The bucket represents what it did,
+    /// with one act more, where the version stands for one act more.
+    pub fn go_on_to(&mut self, next: Version)
+        ensures { self.new ≡ record self.old { version = next } }
+    {
+        self.version = next;
     }
 
     /// How many watches are open.

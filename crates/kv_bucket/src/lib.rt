@@ -2,11 +2,7 @@
 #![tactic(auto)]
 
 mod bucket;
-mod call;
 mod held;
-mod keeper;
-pub mod laws;
-mod live;
 mod reading;
 mod reply;
 mod run;
@@ -15,12 +11,9 @@ mod watching;
 mod writing;
 
 pub use bucket::Bucket;
-pub use call::Call;
-pub use keeper::Keeper;
-pub use kv_history::{Feed, LiveName, Reader, Receipt, Stopped};
 pub use kv_keys::{Filter, Filters, Key, KvError};
-pub use kv_store::{Config, Op, Request, Status, Version, Write};
-pub use kv_watch::{Options, Shown, Start, Taken};
-pub use live::{Live, Opened};
+pub use kv_model::{Call, Config, Event, Op, Options, Request, Start, Status, Stopped, Write};
+pub use kv_store::Version;
+pub use kv_watch::{Shown, Taken};
 pub use reply::Reply;
 pub use seen::Seen;

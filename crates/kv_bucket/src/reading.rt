@@ -3,22 +3,24 @@
 ghost use Rattle.std.specs.Prelude.{◌≡◌, IfErr, IfOk, map};
 ghost use Rattle.kv_keys.specs.declared.error.KvError.TheVariants.{OutOfMemory};
 ghost use Rattle.kv_watch.specs.Taking.{item_taken};
-ghost use Rattle.kv_bucket.specs.declared.call.Call.TheVariants.{Get, GetAt, History, Keys, Status, Take};
-ghost use Rattle.kv_bucket.specs.Answers.{AnsweredEntry, Entries, answer_item, answer_of};
+ghost use Rattle.kv_model.specs.declared.call.Call.TheVariants.{Get, GetAt, History, Keys, Status, Take};
+ghost use Rattle.kv_bucket.specs.Replies.{answer_of};
+ghost use Rattle.kv_model.specs.Answers.{AnsweredEntry, Entries, answer_item};
 ghost use Rattle.kv_bucket.specs.Held.{Represents};
-ghost use Rattle.kv_bucket.specs.State.{State, answer_to, read_entry};
+ghost use Rattle.kv_model.specs.State.{State, answer_to, read_entry};
 
 use crate::bucket::Bucket;
 use crate::reply::{Reply, refusal};
 use crate::seen::Seen;
 use kv_keys::{Filter, Key, KvError};
-use kv_store::Write;
+use kv_model::Write;
 use kv_watch::Taken;
 use std::alloc::Global;
 
 impl Bucket {
     pub(crate) fn get_reply(&self, key: &Key) -> Result<Reply, KvError>
-        ensures ok { IfOk result (λ reply. (state : State) → Represents state self.now → answer_of reply ≡ answer_to state (Get key.now)) }
+        ensures ok { IfOk result
+            (λ reply. (state : State) → Represents state self.now → answer_of reply ≡ answer_to state (Get key.now)) }
         ensures err { IfErr result (λ e. e ≡ OutOfMemory) }
     {
         match self.version.get(key) {
@@ -28,7 +30,9 @@ impl Bucket {
     }
 
     pub(crate) fn get_at_reply(&self, key: &Key, revision: u64) -> Result<Reply, KvError>
-        ensures ok { IfOk result (λ reply. (state : State) → Represents state self.now → answer_of reply ≡ answer_to state (GetAt key.now revision)) }
+        ensures ok { IfOk result
+            (λ reply. (state : State) → Represents state self.now →
+            answer_of reply ≡ answer_to state (GetAt key.now revision)) }
         ensures err { IfErr result (λ e. e ≡ OutOfMemory) }
     {
         match self.version.get_at(key, revision) {
@@ -38,7 +42,9 @@ impl Bucket {
     }
 
     pub(crate) fn history_reply(&self, key: &Key) -> Result<Reply, KvError>
-        ensures ok { IfOk result (λ reply. (state : State) → Represents state self.now → answer_of reply ≡ answer_to state (History key.now)) }
+        ensures ok { IfOk result
+            (λ reply. (state : State) → Represents state self.now →
+            answer_of reply ≡ answer_to state (History key.now)) }
         ensures err { IfErr result (λ e. e ≡ OutOfMemory) }
     {
         match self.version.history(self.alloc, key) {
@@ -48,7 +54,9 @@ impl Bucket {
     }
 
     pub(crate) fn keys_reply(&self, filter: &Filter) -> Result<Reply, KvError>
-        ensures ok { IfOk result (λ reply. (state : State) → Represents state self.now → answer_of reply ≡ answer_to state (Keys filter.now)) }
+        ensures ok { IfOk result
+            (λ reply. (state : State) → Represents state self.now →
+            answer_of reply ≡ answer_to state (Keys filter.now)) }
         ensures err { IfErr result (λ e. e ≡ OutOfMemory) }
     {
         let keys = self.version.keys(self.alloc, filter)?;
@@ -67,7 +75,8 @@ impl Bucket {
 
     /// What a take will be answered. Nothing moves yet.
     pub(crate) fn peek_reply(&self, number: u64) -> Result<Reply, KvError>
-        ensures ok { IfOk result (λ reply. (state : State) → Represents state self.now → answer_of reply ≡ answer_to state (Take number)) }
+        ensures ok { IfOk result
+            (λ reply. (state : State) → Represents state self.now → answer_of reply ≡ answer_to state (Take number)) }
         ensures err { IfErr result (λ e. e ≡ OutOfMemory) }
     {
         match self.peek(number) {

@@ -2,19 +2,17 @@
 
 ghost use Rattle.std.specs.Prelude.{◌≡◌, ◌<◌, ℕ, IfErr, IfOk, OnErr, OnOk, drop, length, map, take};
 ghost use Rattle.kv_keys.specs.declared.error.KvError.TheVariants.{OutOfMemory};
-ghost use Rattle.kv_bucket.specs.declared.call.Call.TheVariants.{Write, Seal, Watch, Take, Stop};
-ghost use Rattle.kv_bucket.specs.Answers.{answer_of};
+ghost use Rattle.kv_model.specs.declared.call.Call.TheVariants.{Write, Seal, Watch, Take, Stop};
+ghost use Rattle.kv_bucket.specs.Replies.{answer_of};
 ghost use Rattle.kv_bucket.specs.Held.{Represents};
-ghost use Rattle.kv_bucket.specs.State.{State, after};
+ghost use Rattle.kv_model.specs.State.{State, after};
 ghost use Rattle.kv_bucket.specs.Stepping.{IsRun, IsStep};
-ghost use Rattle.kv_bucket.specs.Told.{TellsEachWatch};
+ghost use Rattle.kv_model.specs.Told.{TellsEachWatch};
 
 use crate::bucket::Bucket;
-use crate::call::Call;
 use crate::reply::{Reply, refusal};
 use kv_keys::{Filters, KvError};
-use kv_store::Request;
-use kv_watch::Options;
+use kv_model::{Call, Options, Request};
 
 impl Bucket {
     /// Does all that is asked, in order, and adds one reply for each call; a refused call has its refusal as the reply.
@@ -23,13 +21,16 @@ impl Bucket {
     /// the memory of a reply is taken before its call changes anything.
     pub fn run(&mut self, calls: &[Call], replies: &mut Vec<Reply>) -> Result<(), KvError>
         ensures ok { OnOk result (IsRun self.old calls.now replies.old.items replies.new.items self.new) }
-        ensures err { IfErr result (λ e. (e ≡ OutOfMemory) × ((k : ℕ) × (k < length calls.now) ×
-            IsRun self.old (take k calls.now) replies.old.items replies.new.items self.new)) }
-        // Each watch that the calls opened was handed, in order, the first items of what it is given.
+        ensures err { IfErr result (λ e. e ≡ OutOfMemory) }
+        // Each watch that the calls opened was handed, in order, the first items of what it is given, and where a take
+        // of it is answered Empty, all of them.
         ensures told { OnOk result ((state : State) → Represents state self.old →
             TellsEachWatch state calls.now (map answer_of (drop (length replies.old.items) replies.new.items))) }
-        // The same where memory ran out, of the calls that were answered.
-        ensures told_early { OnErr result ((k : ℕ) × (k < length calls.now) × ((state : State) → Represents state self.old →
+        // Where memory ran out it did the first k calls and no other, and each watch that these opened was told the
+        // same.
+        ensures told_early { OnErr result ((k : ℕ) × (k < length calls.now) ×
+            IsRun self.old (take k calls.now) replies.old.items replies.new.items self.new ×
+            ((state : State) → Represents state self.old →
             TellsEachWatch state (take k calls.now) (map answer_of (drop (length replies.old.items) replies.new.items)))) }
     {
         for call in calls {
@@ -96,15 +97,8 @@ impl Bucket {
         ensures unchanged { OnErr result (self.new ≡ self.old) }
     {
         let reply = self.peek_reply(number)?;
-        self.pass(number);
+        self.pass(number, reply.event());
         Ok(reply)
-    }
-
-    /// Takes the next item, and looks at it no more.
-    fn pass(&mut self, number: u64)
-        ensures { (state : State) → Represents state self.old → Represents (after state (Take number)) self.new }
-    {
-        let _ = self.take(number);
     }
 
     fn stop_reply(&mut self, number: u64) -> Result<Reply, KvError>

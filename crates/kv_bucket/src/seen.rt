@@ -3,11 +3,11 @@
 ghost use Rattle.std.specs.Prelude.{◌≡◌, false, IfErr, IfOk};
 ghost use Rattle.std.specs.Option.{option_copied, option_map};
 ghost use Rattle.kv_keys.specs.declared.error.KvError.TheVariants.{OutOfMemory};
-ghost use Rattle.kv_watch.specs.Given.{entry_of};
+ghost use Rattle.kv_model.specs.Given.{entry_of};
 ghost use Rattle.kv_watch.specs.Taking.{entry_shown};
 
 use kv_keys::{Key, KvError};
-use kv_store::{Op, Write};
+use kv_model::{Op, Write};
 use kv_watch::Shown;
 use std::alloc::Global;
 use std::marker::Model;
@@ -26,7 +26,7 @@ pub struct Seen {
 
 impl Model for Seen {
     ghost use Rattle.std.specs.Option.{option_map};
-    ghost use Rattle.kv_watch.specs.Given.{Entry};
+    ghost use Rattle.kv_model.specs.Given.{Entry};
 
     ghost Value = { Entry };
 

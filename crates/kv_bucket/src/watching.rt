@@ -6,17 +6,17 @@ ghost use mathlib.Core.Option.{none};
 ghost use Rattle.kv_keys.specs.Outcome.{Refuses};
 ghost use Rattle.kv_keys.specs.declared.error.KvError.TheVariants.{NoSuchWatch};
 ghost use Rattle.kv_watch.specs.Taking.{item_taken};
-ghost use Rattle.kv_bucket.specs.declared.call.Call.TheVariants.{Watch, Take, Stop};
-ghost use Rattle.kv_bucket.specs.Answers.{Watching, Ended, Refused, answer_item};
+ghost use Rattle.kv_model.specs.declared.call.Call.TheVariants.{Watch, Take, Stop};
+ghost use Rattle.kv_model.specs.Answers.{Watching, Ended, Refused, answer_item, event_answered};
 ghost use Rattle.kv_bucket.specs.Held.{Represents};
-ghost use Rattle.kv_bucket.specs.State.{State, after, answer_to, has_room};
-ghost use Rattle.kv_bucket.specs.Stepping.{IsStep, next_number};
+ghost use Rattle.kv_model.specs.State.{State, after, answer_to, has_room, next_number};
+ghost use Rattle.kv_bucket.specs.Stepping.{IsStep};
 
 use crate::bucket::Bucket;
-use crate::held::{Held, advance_at, lend, place_of};
-use kv_history::Stopped;
+use crate::held::{Held, place_of};
 use kv_keys::{Filters, KvError};
-use kv_watch::{Cursor, Options, Taken};
+use kv_model::{Event, Options, Stopped};
+use kv_watch::{Cursor, Taken};
 
 /// How many watches may be open at a time.
 const MOST_OPEN: usize = 64;
@@ -41,7 +41,8 @@ impl Bucket {
     /// It costs what opening a cursor does, and a snapshot of the version.
     pub fn watch(&mut self, filters: &Filters, options: Options) -> Result<u64, KvError>
         ensures ok { IfOk result (λ number. IsStep self.old (Watch filters.now options) (Watching number) self.new) }
-        ensures refused { IfErr result (λ e. (state : State) → Represents state self.old → Refuses e (next_number state)) }
+        ensures refused { IfErr result
+            (λ e. (state : State) → Represents state self.old → Refuses e (next_number state)) }
         ensures unchanged { OnErr result (self.new ≡ self.old) }
     {
         if !self.has_room() {
@@ -73,8 +74,8 @@ impl Bucket {
         Ok(held.cursor.peek(&held.base, &self.version))
     }
 
-    /// Hands out the next item of a watch, lent from the bucket, and moves the watch on behind it. Where there is none it
-    /// is `Empty`: then all that the watch is given by now was handed out. It takes no memory.
+    /// Hands out the next item of a watch, lent from the bucket, and moves the watch on behind it. Where there is none
+    /// it is `Empty`: then all that the watch is given by now was handed out. It takes no memory.
     pub fn take(&mut self, number: u64) -> Result<Taken<'_>, KvError>
         ensures* after { sem 𝓛 (follows_so the_row the_row self.entry.ghost_name none (λ _ _. ⊤)
             (λ left. MatchResult result
@@ -88,9 +89,22 @@ impl Bucket {
         let Some(place) = place_of(&self.watches, number) else {
             return Err(KvError::NoSuchWatch);
         };
-        let headers_only = self.watches[place].headers_only();
-        let event = advance_at(&mut self.watches, place, &self.version);
-        Ok(lend(&self.version, headers_only, event))
+        let held = &mut self.watches[place];
+        Ok(held.cursor.take_settled(&held.base, &self.version))
+    }
+
+    /// Moves a watch on behind the item that `peek` showed, as `take` does, and doesn't look it up again: so that what
+    /// is shown can be copied first, and want of memory loses no item. Where it showed none, or no watch of the number
+    /// is open, nothing is handed out.
+    pub fn pass(&mut self, number: u64, peeked: Option<Event>)
+        ensures { (state : State) → Represents state self.old →
+            peeked ≡ event_answered (answer_to state (Take number)) →
+            Represents (after state (Take number)) self.new }
+    {
+        if let Some(place) = place_of(&self.watches, number) {
+            let held = &mut self.watches[place];
+            held.cursor.pass(peeked, &self.version);
+        }
     }
 
     /// Stops a watch, and answers how many items it was handed. Its number is never used again.

@@ -3,17 +3,17 @@
 ghost use Rattle.std.specs.Prelude.{◌≡◌, IfErr, IfOk, OnErr, OnOk};
 ghost use Rattle.kv_keys.specs.Outcome.{Refuses};
 ghost use Rattle.kv_keys.specs.declared.error.KvError.TheVariants.{OutOfMemory};
-ghost use Rattle.kv_store.specs.Acceptance.{accept};
-ghost use Rattle.kv_store.specs.Requests.{asked};
-ghost use Rattle.kv_bucket.specs.declared.call.Call.TheVariants.{Write, Seal};
-ghost use Rattle.kv_bucket.specs.Answers.{Revision, Sealed};
+ghost use Rattle.kv_model.specs.Acceptance.{accept};
+ghost use Rattle.kv_model.specs.Requests.{asked};
+ghost use Rattle.kv_model.specs.declared.call.Call.TheVariants.{Write, Seal};
+ghost use Rattle.kv_model.specs.Answers.{Revision, Sealed};
 ghost use Rattle.kv_bucket.specs.Held.{Represents};
-ghost use Rattle.kv_bucket.specs.State.{State};
+ghost use Rattle.kv_model.specs.State.{State};
 ghost use Rattle.kv_bucket.specs.Stepping.{IsStep};
 
 use crate::bucket::Bucket;
 use kv_keys::KvError;
-use kv_store::Request;
+use kv_model::Request;
 
 impl Bucket {
     /// Does what is asked, and answers the revision of the write. A refused request changes nothing and uses no

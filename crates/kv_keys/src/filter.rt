@@ -10,8 +10,8 @@ use crate::{grammar, matching};
 use std::alloc::Global;
 use std::marker::Model;
 
-/// A filter: tokens with a dot between two, 1 to 255 bytes. A token is a literal of one or more characters of keys, or `*`
-/// for any one token, or at the end `>` for one or more tokens (NATS ADR-8). So `a.>` doesn't match `a`.
+/// A filter: tokens with a dot between two, 1 to 255 bytes. A token is a literal of one or more characters of keys, or
+/// `*` for any one token, or at the end `>` for one or more tokens (NATS ADR-8). So `a.>` doesn't match `a`.
 ///
 /// Contracts see a filter as its bytes.
 #[derive(Debug, Drop)]

@@ -1,13 +1,13 @@
 -- The end of a watch.
 use Rattle.std.proofs.Common.{◌≡◌, ℕ, ◌-◌, ◌≤◌, List, [], length, map, take, refl, sym, ap, subst, ◌∙◌, arith, take_all}
-use Rattle.kv_store.specs.Acceptance.{IsLawful}
-use Rattle.kv_store.specs.Acts.{Act, IsPrefix}
-use Rattle.kv_store.specs.Configuration.{Configuration}
+use Rattle.kv_model.specs.Acceptance.{IsLawful}
+use Rattle.kv_model.specs.Acts.{Act, IsPrefix}
+use Rattle.kv_model.specs.Configuration.{Configuration}
 use Rattle.kv_store.specs.Stored.{Stored}
-use Rattle.kv_watch.specs.declared.options.Options.{Options}
-use Rattle.kv_watch.specs.Given.{given}
+use Rattle.kv_model.specs.declared.options.Options.{Options}
+use Rattle.kv_model.specs.Given.{given}
 use Rattle.kv_bucket.specs.declared.reply.Reply.{Reply}
-use Rattle.kv_history.specs.Feeding.{Feeding, IsRefreshed, given_by}
+use Rattle.kv_live.specs.Feeding.{Feeding, IsRefreshed, given_by}
 use Rattle.kv_race.specs.Telling.{Answered, BeginAll, HasAll, HasHeard, HasLast, IsEnded, IsFollowed}
 use Rattle.kv_race.specs.Watching.{Are, Place, Watch, WritesDown, reply_to}
 use Rattle.kv_race.proofs.Fed.{went_on}

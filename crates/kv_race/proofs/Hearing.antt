@@ -2,11 +2,11 @@
 use Rattle.std.proofs.Common.{◌≡◌, ℕ, ◌+◌, ◌<◌, ◌≤◌, List, [], ◌∷◌, ◌++◌, Ok, Err, IfOk, map, take, take_all, get_or, length, refl, sym, ap, subst, ◌∙◌}
 use Rattle.std.proofs.lemmas.List.{get_or-map, length-map}
 use Rattle.std.proofs.lemmas.List.Elements.{All-more}
-use Rattle.kv_store.specs.Acceptance.{IsLawful, LawfulFrom}
-use Rattle.kv_store.specs.Acts.{Act, IsPrefix}
-use Rattle.kv_store.specs.Configuration.{Configuration}
-use Rattle.kv_history.specs.Feeding.{Feeding}
-use Rattle.kv_history.proofs.Prefixes.{prefix_self, prefix_trans}
+use Rattle.kv_model.specs.Acceptance.{IsLawful, LawfulFrom}
+use Rattle.kv_model.specs.Acts.{Act, IsPrefix}
+use Rattle.kv_model.specs.Configuration.{Configuration}
+use Rattle.kv_live.specs.Feeding.{Feeding}
+use Rattle.kv_live.proofs.Prefixes.{prefix_self, prefix_trans}
 use Rattle.kv_race.specs.Telling.{Answered, Begin, BeginAll, HasHeard}
 
 pub heard_nothing : (feed : Feeding) → HasHeard feed feed

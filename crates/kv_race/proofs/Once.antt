@@ -4,18 +4,18 @@ use Rattle.std.specs.List.{cons_option, find}
 use Rattle.std.proofs.lemmas.Bool.{ne_eqb, eq-eqb}
 use Rattle.std.proofs.lemmas.List.Elements.{filter-append}
 use Rattle.kv_keys.specs.Matching.{any_matches}
-use Rattle.kv_store.specs.Acceptance.{next_write, IsLawful}
-use Rattle.kv_store.specs.Acts.{Act, Wrote, Write, IsPrefix, writes_of, is_put}
-use Rattle.kv_store.specs.Configuration.{Configuration}
-use Rattle.kv_store.specs.Reads.{write_at_of}
-use Rattle.kv_store.specs.Requests.{Asked}
-use Rattle.kv_store.proofs.Numbered.{CountsFrom, CountsFrom-left, CountsFrom-right, writes_of-append, counts_from_lawful, accepted_is_next}
-use Rattle.kv_watch.specs.declared.options.Options.{Options}
-use Rattle.kv_watch.specs.declared.options.Start.{Start}
-use Rattle.kv_watch.specs.declared.options.Start.TheVariants.{Latest, History, Updates, From}
-use Rattle.kv_watch.specs.Given.{Item, AnEntry, matching, all_shown, ending, given, entry_of}
-use Rattle.kv_watch.proofs.GivenLaws.{all_shown-matching-append}
-use Rattle.kv_bucket.specs.Keeping.{PublishesWrite}
+use Rattle.kv_model.specs.Acceptance.{next_write, IsLawful}
+use Rattle.kv_model.specs.Acts.{Act, Wrote, Write, IsPrefix, writes_of, is_put}
+use Rattle.kv_model.specs.Configuration.{Configuration}
+use Rattle.kv_model.specs.Reads.{write_at_of}
+use Rattle.kv_model.specs.Requests.{Asked}
+use Rattle.kv_model.proofs.Numbered.{CountsFrom, CountsFrom-left, CountsFrom-right, writes_of-append, counts_from_lawful, accepted_is_next}
+use Rattle.kv_model.specs.declared.options.Options.{Options}
+use Rattle.kv_model.specs.declared.options.Start.{Start}
+use Rattle.kv_model.specs.declared.options.Start.TheVariants.{Latest, History, Updates, From}
+use Rattle.kv_model.specs.Given.{Item, AnEntry, matching, all_shown, ending, given, entry_of}
+use Rattle.kv_model.proofs.GivenLaws.{all_shown-matching-append}
+use Rattle.kv_live.specs.Keeping.{PublishesWrite}
 use Rattle.kv_race.specs.Racing.{is_at, shown_alone, written_by}
 
 -- ---- one write

@@ -4,16 +4,16 @@ use Rattle.std.specs.List.{AllZip}
 use Rattle.std.proofs.lemmas.List.Elements.{All-head, All-tail}
 use Rattle.std.proofs.lemmas.Simd.{map-map}
 use Rattle.kv_keys.specs.declared.error.KvError.{KvError}
-use Rattle.kv_store.specs.Acceptance.{IsLawful}
-use Rattle.kv_store.specs.Acts.{Act, IsPrefix}
-use Rattle.kv_store.specs.Configuration.{Configuration}
-use Rattle.kv_store.specs.Requests.{Asked}
+use Rattle.kv_model.specs.Acceptance.{IsLawful}
+use Rattle.kv_model.specs.Acts.{Act, IsPrefix}
+use Rattle.kv_model.specs.Configuration.{Configuration}
+use Rattle.kv_model.specs.Requests.{Asked}
 use Rattle.kv_store.specs.Stored.{Stored}
-use Rattle.kv_watch.specs.declared.options.Options.{Options}
-use Rattle.kv_watch.specs.Given.{given}
-use Rattle.kv_bucket.specs.Answers.{answer_of}
+use Rattle.kv_model.specs.declared.options.Options.{Options}
+use Rattle.kv_model.specs.Given.{given}
+use Rattle.kv_bucket.specs.Replies.{answer_of}
 use Rattle.kv_bucket.specs.declared.reply.Reply.{Reply}
-use Rattle.kv_history.specs.Feeding.{Feeding, given_by}
+use Rattle.kv_live.specs.Feeding.{Feeding, given_by}
 use Rattle.kv_race.specs.Openings.{IsFresh}
 use Rattle.kv_race.specs.Racing.{EachReply, IsSeen, IsWritten, IsWatched, IsRaced}
 use Rattle.kv_race.specs.Telling.{Answered, Begin, BeginAll, IsTold, IsFollowed, IsEnded, HasLast, reply_of}

@@ -3,9 +3,9 @@ use Rattle.std.proofs.Common.{◌≡◌, ℕ, ◌+◌, ◌<◌, List, [], ◌∷
 use Rattle.std.specs.List.{AllZip}
 use Rattle.std.proofs.lemmas.List.{take_more, get_or-map, length-map}
 use Rattle.kv_keys.specs.declared.error.KvError.{KvError}
-use Rattle.kv_store.specs.Requests.{Asked, asked}
-use Rattle.kv_store.specs.declared.request.Request.{Request}
-use Rattle.kv_store.specs.Configuration.{Configuration}
+use Rattle.kv_model.specs.Requests.{Asked, asked}
+use Rattle.kv_model.specs.declared.request.Request.{Request}
+use Rattle.kv_model.specs.Configuration.{Configuration}
 use Rattle.kv_race.specs.Telling.{Answered, IsTold}
 use Rattle.kv_race.specs.Working.{Works}
 

@@ -3,9 +3,9 @@ use Rattle.std.specs.Prelude.{◌≡◌, ◌⊎◌, ℕ, ◌&&◌, nat_le, if◌
 use Rattle.kv_keys.specs.Outcome.{Refuses}
 use Rattle.kv_keys.specs.declared.error.KvError.{KvError}
 use Rattle.kv_keys.specs.declared.error.KvError.TheVariants.{BadConfig, NoReader}
-use Rattle.kv_store.specs.Configuration.{Configuration, configure}
-use Rattle.kv_watch.specs.declared.options.Options.{Options}
-use Rattle.kv_history.specs.Feeding.{Feeding}
+use Rattle.kv_model.specs.Configuration.{Configuration, configure}
+use Rattle.kv_model.specs.declared.options.Options.{Options}
+use Rattle.kv_live.specs.Feeding.{Feeding}
 
 -- a race has 1 to 16 workers and at most 32 watches
 abbrev pub for_race : ℕ → ℕ → Configuration → Result Configuration KvError

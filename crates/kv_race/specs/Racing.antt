@@ -1,17 +1,17 @@
 -- What a race promises.
 use Rattle.std.specs.Prelude.{◌≡◌, ◌==◌, ℕ, Bool, false, List, [], ◌∷◌, Some, Result, Ok, Err, ⊤, filter, map}
 use Rattle.kv_keys.specs.declared.error.KvError.{KvError}
-use Rattle.kv_store.specs.Acceptance.{IsLawful}
-use Rattle.kv_store.specs.Acts.{Act, Write}
-use Rattle.kv_store.specs.Configuration.{Configuration}
-use Rattle.kv_store.specs.Reads.{write_at_of}
-use Rattle.kv_store.specs.Requests.{Asked, key_of, op_of, value_of}
+use Rattle.kv_model.specs.Acceptance.{IsLawful}
+use Rattle.kv_model.specs.Acts.{Act, Write}
+use Rattle.kv_model.specs.Configuration.{Configuration}
+use Rattle.kv_model.specs.Reads.{write_at_of}
+use Rattle.kv_model.specs.Requests.{Asked, key_of, op_of, value_of}
 use Rattle.kv_store.specs.Standing.{StandsFor}
 use Rattle.kv_store.specs.Stored.{Stored}
-use Rattle.kv_watch.specs.Given.{Item, AnEntry, EndMarker, matching, all_shown, given}
-use Rattle.kv_watch.specs.declared.options.Options.{Options}
-use Rattle.kv_bucket.specs.Answers.{Answer}
-use Rattle.kv_bucket.specs.Keeping.{RefusedSomewhere}
+use Rattle.kv_model.specs.Given.{Item, AnEntry, EndMarker, matching, all_shown, given}
+use Rattle.kv_model.specs.declared.options.Options.{Options}
+use Rattle.kv_model.specs.Answers.{Answer}
+use Rattle.kv_live.specs.Keeping.{RefusedSomewhere}
 use Rattle.std.specs.List.{AllZip}
 use Rattle.kv_race.specs.Watching.{reply_to}
 

@@ -1,16 +1,16 @@
 -- What the threads of a race hand on.
 use Rattle.std.specs.Prelude.{◌≡◌, ℕ, List, Result, Ok, Err, IfOk, All, take}
 use Rattle.kv_keys.specs.declared.error.KvError.{KvError}
-use Rattle.kv_store.specs.Acceptance.{IsLawful}
-use Rattle.kv_store.specs.Acts.{Act, IsPrefix}
-use Rattle.kv_store.specs.Configuration.{Configuration}
-use Rattle.kv_store.specs.Requests.{Asked}
+use Rattle.kv_model.specs.Acceptance.{IsLawful}
+use Rattle.kv_model.specs.Acts.{Act, IsPrefix}
+use Rattle.kv_model.specs.Configuration.{Configuration}
+use Rattle.kv_model.specs.Requests.{Asked}
 use Rattle.kv_store.specs.Standing.{StandsFor}
 use Rattle.kv_store.specs.Stored.{Stored}
 use Rattle.kv_bucket.specs.declared.reply.Reply.{Reply}
-use Rattle.kv_bucket.specs.Keeping.{PublishesWrite, RefusedSomewhere}
-use Rattle.kv_watch.specs.Given.{given}
-use Rattle.kv_history.specs.Feeding.{Feeding, given_by}
+use Rattle.kv_live.specs.Keeping.{PublishesWrite, RefusedSomewhere}
+use Rattle.kv_model.specs.Given.{given}
+use Rattle.kv_live.specs.Feeding.{Feeding, given_by}
 use Rattle.kv_race.specs.Watching.{Are}
 
 -- what a worker was answered: the revision with the acts that its receipt tells, or the refusal

@@ -1,9 +1,10 @@
 -- What a watcher writes down.
 use Rattle.std.specs.Prelude.{◌≡◌, ◌<◌, ℕ, List, [], ◌∷◌, ◌++◌, Option, Some, None, map}
-use Rattle.kv_store.specs.Acts.{Act}
-use Rattle.kv_watch.specs.declared.options.Options.{Options}
-use Rattle.kv_watch.specs.Given.{Item}
-use Rattle.kv_bucket.specs.Answers.{Answer, answer_item, answer_of}
+use Rattle.kv_model.specs.Acts.{Act}
+use Rattle.kv_model.specs.declared.options.Options.{Options}
+use Rattle.kv_model.specs.Given.{Item}
+use Rattle.kv_bucket.specs.Replies.{answer_of}
+use Rattle.kv_model.specs.Answers.{Answer, answer_item}
 use Rattle.kv_bucket.specs.declared.reply.Reply.{Reply}
 
 -- what is watched: the acts when the watch began, the filters, and how entries are shown

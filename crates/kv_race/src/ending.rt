@@ -2,16 +2,16 @@
 
 ghost use Rattle.std.specs.Prelude.{◌≡◌, IfOk, IfErr, map, take};
 ghost use Rattle.kv_keys.specs.declared.error.KvError.TheVariants.{OutOfMemory};
-ghost use Rattle.kv_store.specs.Acts.{IsPrefix};
-ghost use Rattle.kv_history.specs.Feeding.{given_by};
-ghost use Rattle.kv_history.specs.Known.{IsUnread};
+ghost use Rattle.kv_model.specs.Acts.{IsPrefix};
+ghost use Rattle.kv_live.specs.Feeding.{given_by};
+ghost use Rattle.kv_live.specs.Known.{IsUnread};
 ghost use Rattle.kv_race.specs.Telling.{Begin, BeginAll, HasAll, HasHeard, HasLast, IsEnded};
 ghost use Rattle.kv_race.specs.Watching.{Are};
 
 use crate::threads::Watched;
 use crate::watcher::collect;
-use kv_bucket::{Feed, LiveName, Receipt, Reply};
 use kv_keys::KvError;
+use kv_live::{Feed, LiveName, Receipt, Reply};
 use kv_store::Version;
 use std::alloc::Global;
 
@@ -68,7 +68,9 @@ pub(crate) fn end_watch<N: LiveName>(
     answers: &[Answers<N>],
 ) -> Result<(Version, Vec<Reply>), KvError>
     ensures last { IfOk result (λ ended. HasLast N.opening.config (map (λ some. some.items) answers.now) ended.0) }
-    ensures all { IfOk result (λ ended. IsEnded N.opening.config (map (λ some. some.items) answers.now) watched.feed watched.seen.items ended.1.items) }
+    ensures all { IfOk result
+        (λ ended. IsEnded N.opening.config (map
+        (λ some. some.items) answers.now) watched.feed watched.seen.items ended.1.items) }
     ensures err { IfErr result IsUnread }
 {
     let Watched { mut feed, mut seen } = watched;

@@ -4,13 +4,13 @@ ghost use Rattle.std.specs.Prelude.{◌≡◌, ◌-◌, IfOk, IfErr, length, tak
 ghost use Rattle.std.specs.Option.{option_map};
 ghost use Rattle.kv_keys.specs.declared.error.KvError.TheVariants.{OutOfMemory};
 ghost use Rattle.kv_watch.specs.Taking.{item_taken};
-ghost use Rattle.kv_bucket.specs.Answers.{answer_of};
-ghost use Rattle.kv_history.specs.Feeding.{given_by, next_of, after_item};
+ghost use Rattle.kv_bucket.specs.Replies.{answer_of};
+ghost use Rattle.kv_live.specs.Feeding.{given_by};
 ghost use Rattle.kv_race.specs.Watching.{reply_to};
 
 use crate::watcher::Follows;
-use kv_bucket::{Feed, LiveName, Reply, Seen, Taken};
 use kv_keys::KvError;
+use kv_live::{Feed, LiveName, Reply, Seen, Taken};
 use std::alloc::Global;
 
 // A copy of what a take hands out.
@@ -26,13 +26,6 @@ fn copy_of(alloc: Global, taken: &Taken<'_>) -> Result<Option<Reply>, KvError>
         Taken::Marker => Ok(Some(Reply::Marker)),
         Taken::Empty => Ok(None),
     }
-}
-
-// Takes the next item, and looks at it no more.
-fn pass<N: LiveName>(feed: &mut Feed<N>)
-    ensures { feed.new ≡ after_item feed.old (next_of N.opening.config.history feed.old) }
-{
-    let _ = feed.take();
 }
 
 impl<N: LiveName> Follows for Feed<N> {
@@ -53,8 +46,10 @@ impl<N: LiveName> Follows for Feed<N> {
     #[tactic(auto, using(crate::proofs::Fed::handed_on))]
     fn hand_out(&mut self, alloc: Global) -> Result<Option<Reply>, KvError> {
         let _ = self.handed();
-        let reply = copy_of(alloc, &self.peek())?;
-        pass(self);
+        let taken = self.peek();
+        let peeked = taken.event();
+        let reply = copy_of(alloc, &taken)?;
+        self.pass(peeked);
         Ok(reply)
     }
 }

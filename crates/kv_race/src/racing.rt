@@ -3,9 +3,9 @@
 ghost use Rattle.std.specs.Prelude.{◌≡◌, Ok, IfOk, IfErr, IfSome, length, map};
 ghost use Rattle.kv_keys.specs.Outcome.{Refuses};
 ghost use Rattle.kv_keys.specs.declared.error.KvError.TheVariants.{OutOfMemory};
-ghost use Rattle.kv_store.specs.Requests.{asked};
-ghost use Rattle.kv_bucket.specs.Answers.{answer_of};
-ghost use Rattle.kv_history.specs.Known.{IsUnread};
+ghost use Rattle.kv_model.specs.Requests.{asked};
+ghost use Rattle.kv_bucket.specs.Replies.{answer_of};
+ghost use Rattle.kv_live.specs.Known.{IsUnread};
 ghost use Rattle.kv_race.specs.Openings.{may_race, IsFresh, RefusesRace};
 ghost use Rattle.std.specs.List.{AllZip};
 ghost use Rattle.kv_race.specs.Racing.{IsRaced};
@@ -16,10 +16,10 @@ use crate::gate::Gate;
 use crate::replies::all_replies;
 use crate::report::Report;
 use crate::threads::{Watched, Worked, run_all};
-use kv_bucket::{Feed, Live, LiveName, Opened, Reader, Reply};
 use kv_keys::{Filters, KvError};
-use kv_store::{Config, Request, Version};
-use kv_watch::{Options, Start};
+use kv_live::{Feed, Live, LiveName, Opened, Reader, Reply};
+use kv_model::{Config, Options, Request, Start};
+use kv_store::Version;
 use std::alloc::Global;
 use std::marker::Brand;
 use std::sync::Wait;
@@ -42,7 +42,8 @@ fn open_for(
     workers: usize,
     watches: usize,
 ) -> Result<Opened, KvError>
-    ensures ok { IfOk result (λ opened. (may_race config.now workers watches ≡ Ok config.now) × (opened.opening.config ≡ config.now)) }
+    ensures ok { IfOk result
+        (λ opened. (may_race config.now workers watches ≡ Ok config.now) × (opened.opening.config ≡ config.now)) }
     ensures refused { IfErr result (λ e. Refuses e (may_race config.now workers watches)) }
 {
     config.check()?;
@@ -110,8 +111,12 @@ fn end_watches<N: LiveName>(
     watched: Vec<Watched<N>>,
     answers: &[Answers<N>],
 ) -> Result<(Vec<Vec<Reply>>, Option<Version>), KvError>
-    ensures all { IfOk result (λ ended. AllZip (λ one seen. IsEnded N.opening.config (map (λ some. some.items) answers.now) one.feed one.seen.items seen.items) watched.items ended.0.items) }
-    ensures last { IfOk result (λ ended. IfSome ended.1 (HasLast N.opening.config (map (λ some. some.items) answers.now))) }
+    ensures all { IfOk result
+        (λ ended. AllZip
+        (λ one seen. IsEnded N.opening.config (map
+        (λ some. some.items) answers.now) one.feed one.seen.items seen.items) watched.items ended.0.items) }
+    ensures last { IfOk result
+        (λ ended. IfSome ended.1 (HasLast N.opening.config (map (λ some. some.items) answers.now))) }
     ensures err { IfErr result IsUnread }
 {
     let mut last = None;
@@ -149,7 +154,8 @@ fn last_of<N: LiveName>(
     spare: Option<Reader<N>>,
     answers: &[Answers<N>],
 ) -> Result<Version, KvError>
-    ensures ok { IfSome shown (HasLast N.opening.config (map (λ some. some.items) answers.now)) → IfOk result (HasLast N.opening.config (map (λ some. some.items) answers.now)) }
+    ensures ok { IfSome shown (HasLast N.opening.config (map (λ some. some.items) answers.now)) →
+        IfOk result (HasLast N.opening.config (map (λ some. some.items) answers.now)) }
     ensures err { IfErr result IsUnread }
 {
     match shown {
@@ -168,8 +174,10 @@ fn run<N: LiveName + Send + Sync, R: Threads + Wait + Sync, G: Gate>(
     watches: &[(Filters, Options)],
     gate: &G,
 ) -> Result<Report, KvError>
-    ensures ok { IfOk result (λ report. IsRaced N.opening.config (map (λ script. map asked script.items) scripts.now) watches.now
-        (map (λ some. some.items) report.replies.items) (map (λ seen. map answer_of seen.items) report.seen.items) report.last) }
+    ensures ok { IfOk result
+        (λ report. IsRaced N.opening.config (map (λ script. map asked script.items) scripts.now) watches.now
+        (map (λ some. some.items) report.replies.items) (map
+        (λ seen. map answer_of seen.items) report.seen.items) report.last) }
     ensures err { IfErr result IsUnread }
 {
     let (feeds, spare) = open_feeds(alloc, readers, watches)?;
@@ -195,8 +203,10 @@ fn race_on<N: LiveName + Send + Sync, R: Threads + Wait + Sync, G: Gate>(
     gate: &G,
 ) -> Result<Report, KvError>
     requires { opened.opening ≡ N.opening }
-    ensures ok { IfOk result (λ report. IsRaced N.opening.config (map (λ script. map asked script.items) scripts.now) watches.now
-        (map (λ some. some.items) report.replies.items) (map (λ seen. map answer_of seen.items) report.seen.items) report.last) }
+    ensures ok { IfOk result
+        (λ report. IsRaced N.opening.config (map (λ script. map asked script.items) scripts.now) watches.now
+        (map (λ some. some.items) report.replies.items) (map
+        (λ seen. map answer_of seen.items) report.seen.items) report.last) }
     ensures err { IfErr result IsUnread }
 {
     let (live, readers) = opened.live::<N, R>(rt)?;
@@ -206,13 +216,14 @@ fn race_on<N: LiveName + Send + Sync, R: Threads + Wait + Sync, G: Gate>(
 }
 
 /// Runs each script on a thread of its own, and follows each watch on one more, from before the first write on; then
-/// tells what each of them was answered or handed, and the version that is left. All threads have ended when it answers.
+/// tells what each of them was answered or handed, and the version that is left. All threads have ended when it
+/// answers.
 ///
 /// The gate stands before and after each write and each of the 64 rounds in which a watcher looks for what is new.
 ///
 /// There are 1 to 16 scripts and at most 32 watches. The configuration is refused first, then the number of scripts
-/// (BadConfig), then that of the watches (NoReader). Want of memory, for a thread too, refuses the race; a write that is
-/// refused is a reply.
+/// (BadConfig), then that of the watches (NoReader). Want of memory, for a thread too, refuses the race; a write that
+/// is refused is a reply.
 pub fn race<R: Threads + Wait + Sync, G: Gate>(
     rt: &R,
     alloc: Global,
@@ -221,9 +232,12 @@ pub fn race<R: Threads + Wait + Sync, G: Gate>(
     watches: &[(Filters, Options)],
     gate: &G,
 ) -> Result<Report, KvError>
-    ensures ok { IfOk result (λ report. IsRaced config.now (map (λ script. map asked script.items) scripts.now) watches.now
-        (map (λ some. some.items) report.replies.items) (map (λ seen. map answer_of seen.items) report.seen.items) report.last) }
-    ensures refused { IfErr result (λ e. RefusesRace e (may_race config.now (length scripts.now) (length watches.now))) }
+    ensures ok { IfOk result
+        (λ report. IsRaced config.now (map (λ script. map asked script.items) scripts.now) watches.now
+        (map (λ some. some.items) report.replies.items) (map
+        (λ seen. map answer_of seen.items) report.seen.items) report.last) }
+    ensures refused { IfErr result
+        (λ e. RefusesRace e (may_race config.now (length scripts.now) (length watches.now))) }
 {
     let opened = open_for(alloc, config, scripts.len(), watches.len())?;
     race_on::<Brand, R, G>(rt, alloc, opened, scripts, watches, gate)

@@ -5,8 +5,8 @@ ghost use Rattle.kv_keys.specs.declared.error.KvError.TheVariants.{OutOfMemory};
 ghost use Rattle.kv_race.specs.Telling.{reply_of};
 
 use crate::ending::Answers;
-use kv_bucket::{LiveName, Receipt};
 use kv_keys::KvError;
+use kv_live::{LiveName, Receipt};
 use std::alloc::Global;
 
 // An answer without its receipt.
@@ -39,7 +39,8 @@ pub(crate) fn all_replies<N: LiveName>(
     alloc: Global,
     answers: &[Answers<N>],
 ) -> Result<Vec<Vec<Result<u64, KvError>>>, KvError>
-    ensures ok { IfOk result (λ replies. map (λ some. some.items) replies.items ≡ map (λ some. map reply_of some.items) answers.now) }
+    ensures ok { IfOk result
+        (λ replies. map (λ some. some.items) replies.items ≡ map (λ some. map reply_of some.items) answers.now) }
     ensures err { IfErr result (λ e. e ≡ OutOfMemory) }
 {
     let mut replies = Vec::new(alloc);

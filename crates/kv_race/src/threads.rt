@@ -2,7 +2,7 @@
 
 ghost use Rattle.std.specs.Prelude.{◌≡◌, IfOk, IfErr, map};
 ghost use Rattle.kv_keys.specs.declared.error.KvError.TheVariants.{OutOfMemory};
-ghost use Rattle.kv_store.specs.Requests.{asked};
+ghost use Rattle.kv_model.specs.Requests.{asked};
 ghost use Rattle.std.specs.List.{AllZip};
 ghost use Rattle.std.specs.Thread.{IsSend, IsSync};
 ghost use Rattle.kv_race.specs.Telling.{IsTold, IsFollowed};
@@ -11,9 +11,9 @@ use crate::desk::Desk;
 use crate::gate::Gate;
 use crate::watcher::follow;
 use crate::worker::work;
-use kv_bucket::{Feed, Live, LiveName, Receipt, Reply};
 use kv_keys::KvError;
-use kv_store::Request;
+use kv_live::{Feed, Live, LiveName, Receipt, Reply};
+use kv_model::Request;
 use std::alloc::Global;
 use std::marker::PhantomData;
 use std::snapshot::Snapshot;
@@ -77,7 +77,8 @@ fn run_watcher<N: LiveName, G: Gate>(
     Watched { feed, seen }
 }
 
-/// Runs each script and follows each feed on a thread of its own, and joins them all, also where one could not be started.
+/// Runs each script and follows each feed on a thread of its own, and joins them all, also where one could not be
+/// started.
 pub(crate) fn run_all<N: LiveName + Send + Sync, R: Threads + Wait + Sync, G: Gate>(
     rt: &R,
     alloc: Global,
@@ -86,8 +87,13 @@ pub(crate) fn run_all<N: LiveName + Send + Sync, R: Threads + Wait + Sync, G: Ga
     feeds: Vec<Feed<N>>,
     gate: &G,
 ) -> Result<(Vec<Worked<N>>, Vec<Watched<N>>), KvError>
-    ensures workers { IfOk result (λ done. AllZip (λ script worked. IfOk worked (λ answers. AllZip (IsTold N.opening.config) (map asked script.items) answers.items)) scripts.now done.0.items) }
-    ensures watchers { IfOk result (λ done. AllZip (λ feed watched. IsFollowed N.opening.config.history feed watched.feed watched.seen.items) feeds.items done.1.items) }
+    ensures workers { IfOk result
+        (λ done. AllZip
+        (λ script worked. IfOk worked
+        (λ answers. AllZip (IsTold N.opening.config) (map asked script.items) answers.items)) scripts.now done.0.items) }
+    ensures watchers { IfOk result
+        (λ done. AllZip
+        (λ feed watched. IsFollowed N.opening.config.history feed watched.feed watched.seen.items) feeds.items done.1.items) }
     ensures err { IfErr result (λ e. e ≡ OutOfMemory) }
 {
     thread::scope(
@@ -95,8 +101,13 @@ pub(crate) fn run_all<N: LiveName + Send + Sync, R: Threads + Wait + Sync, G: Ga
         rt,
         move |scope| -> Result<(Vec<Worked<N>>, Vec<Watched<N>>), KvError>
             requires { IsSync R.row × IsSync G.row × IsSync N.row × IsSend N.row }
-            ensures workers { IfOk result (λ done. AllZip (λ script worked. IfOk worked (λ answers. AllZip (IsTold N.opening.config) (map asked script.items) answers.items)) scripts.entry.now done.0.items) }
-            ensures watchers { IfOk result (λ done. AllZip (λ feed watched. IsFollowed N.opening.config.history feed watched.feed watched.seen.items) feeds.items done.1.items) }
+            ensures workers { IfOk result
+                (λ done. AllZip
+                (λ script worked. IfOk worked
+                (λ answers. AllZip (IsTold N.opening.config) (map asked script.items) answers.items)) scripts.entry.now done.0.items) }
+            ensures watchers { IfOk result
+                (λ done. AllZip
+                (λ feed watched. IsFollowed N.opening.config.history feed watched.feed watched.seen.items) feeds.items done.1.items) }
             ensures err { IfErr result (λ e. e ≡ OutOfMemory) }
         {
             let mut workers = Vec::new(alloc);

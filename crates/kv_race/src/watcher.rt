@@ -2,7 +2,7 @@
 
 ghost use Rattle.std.specs.Prelude.{◌≡◌, ℕ, ◌<◌, List, IfOk, IfErr, OnOk, OnErr};
 ghost use Rattle.kv_keys.specs.declared.error.KvError.TheVariants.{OutOfMemory};
-ghost use Rattle.kv_watch.specs.Given.{Item};
+ghost use Rattle.kv_model.specs.Given.{Item};
 ghost use Rattle.kv_race.specs.Watching.{Watch, Place, HandsOut, WritesDown};
 
 use crate::gate::{Gate, Who};
@@ -36,7 +36,8 @@ pub trait Follows {
     fn hand_out(&mut self, alloc: Global) -> Result<Option<Reply>, KvError>
         ensures watch { watch self.new ≡ watch self.old }
         ensures place { place self.new ≡ place self.old }
-        ensures ok { IfOk result (λ reply. HandsOut (handed_out self.old) (left self.old) reply (handed_out self.new) (left self.new)) }
+        ensures ok { IfOk result
+            (λ reply. HandsOut (handed_out self.old) (left self.old) reply (handed_out self.new) (left self.new)) }
         ensures err { IfErr result (λ e. e ≡ OutOfMemory) }
         ensures unchanged { OnErr result (handed_out self.new ≡ handed_out self.old) };
 }

@@ -3,12 +3,12 @@
 ghost use Rattle.std.specs.Prelude.{◌≡◌, ℕ, ◌<◌, ◌^◌, Result, IfOk, IfErr, map, length};
 ghost use Rattle.kv_keys.specs.declared.error.KvError.{KvError};
 ghost use Rattle.kv_keys.specs.declared.error.KvError.TheVariants.{OutOfMemory};
-ghost use Rattle.kv_store.specs.Requests.{Asked, asked};
+ghost use Rattle.kv_model.specs.Requests.{Asked, asked};
 ghost use Rattle.kv_race.specs.Working.{Works};
 
 use crate::gate::{Gate, Who};
 use kv_keys::KvError;
-use kv_store::Request;
+use kv_model::Request;
 use std::alloc::Global;
 
 /// What a worker writes to.

@@ -7,13 +7,13 @@ use Rattle.std.proofs.KnownBytes.{Consumes-trans}
 use Rattle.std.proofs.lemmas.Bool.{cases_Bool, ltb-true}
 use Rattle.kv_keys.specs.declared.error.KvError.TheVariants.{BadCommand}
 use Rattle.kv_script.specs.Commands.{is_skipped}
-use Rattle.kv_race_script.specs.Planning.{Planned, add_read, after_command, after_line, after_lines, nothing}
-use Rattle.kv_replay.specs.Lines.{lines_of}
+use Rattle.kv_run.specs.Planning.{Planned, add_read, after_command, after_line, after_lines, nothing}
+use Rattle.kv_run.specs.Lines.{lines_of}
 use Rattle.kv_run.specs.Races.{no_text, plan_of}
-use Rattle.kv_replay.specs.Reading.{Reading, beginning, step, after_bytes, line_ended}
-use Rattle.kv_replay.specs.declared.script.TheConstants.{KEPT_BYTES}
-use Rattle.kv_replay.proofs.ByteByByte.{onto, onto-onto_first, lines_of-onto, lines_of-feed, lines_of-inside}
-use Rattle.kv_replay.proofs.Texts.{long_command, skipped_more, skipped_strip, strip_length}
+use Rattle.kv_run.specs.inside.Reading.{Reading, beginning, step, after_bytes, line_ended}
+use Rattle.kv_run.specs.declared.scripts.lines.TheConstants.{KEPT_BYTES}
+use Rattle.kv_run.proofs.ByteByByte.{onto, onto-onto_first, lines_of-onto, lines_of-feed, lines_of-inside}
+use Rattle.kv_run.proofs.Texts.{long_command, skipped_more, skipped_strip, strip_length}
 
 -- of a line that is too long only the first byte counts
 long_adds : (plan : Planned) (line : List ℕ) → KEPT_BYTES < length line → after_line plan line ≡ cond (is_skipped line) plan (add_read plan (Err BadCommand))

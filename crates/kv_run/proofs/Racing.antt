@@ -7,21 +7,21 @@ use Rattle.std.proofs.KnownBytes.{Appends-nil, Appends-trans}
 use Rattle.kv_keys.specs.Outcome.{Refuses}
 use Rattle.kv_keys.specs.declared.error.KvError.{KvError}
 use Rattle.kv_keys.specs.declared.error.KvError.TheVariants.{OutOfMemory, BadBucket, BadConfig, BadKey, BadFilter, OptionsClash, ValueTooLarge, Sealed, JournalFull, KeyExists, WrongLastRevision, KeyNotFound, NoSuchWatch, TooManyWatches, NoReader, BadCommand, ReadFault, WriteFault, BadFloor, WatchBehind, Lagged}
-use Rattle.kv_bucket.specs.Answers.{Answer}
+use Rattle.kv_model.specs.Answers.{Answer}
 use Rattle.kv_race.specs.Racing.{IsRaced}
-use Rattle.kv_replay.specs.Faults.{IsWriteOrMemory}
-use Rattle.kv_store.specs.Requests.{Asked}
+use Rattle.kv_run.specs.Faults.{IsWriteOrMemory}
+use Rattle.kv_model.specs.Requests.{Asked}
 use Rattle.kv_store.specs.Stored.{Stored}
-use Rattle.kv_watch.specs.declared.options.Options.{Options}
+use Rattle.kv_model.specs.declared.options.Options.{Options}
 use Rattle.kv_race.specs.Openings.{may_race, then_race, RefusesRace}
-use Rattle.kv_race_script.specs.Dealing.{dealt}
-use Rattle.kv_race_script.specs.Planning.{Planned}
-use Rattle.kv_race_script.specs.Reporting.{report_text}
+use Rattle.kv_run.specs.Dealing.{dealt}
+use Rattle.kv_run.specs.Planning.{Planned}
+use Rattle.kv_run.specs.Reporting.{report_text}
 use Rattle.kv_run.specs.Races.{EndsRace, IsTextOf, Races, RanRace, StaysSilent, StopsRace, plan_of}
-use Rattle.kv_replay.specs.Written.{Puts}
-use Rattle.kv_replay.proofs.Ending.{by_cause, error_of}
-use Rattle.kv_replay.proofs.Progress.{starts}
-use Rattle.kv_store.specs.Configuration.{Configuration, configure}
+use Rattle.kv_run.specs.inside.Written.{Puts}
+use Rattle.kv_run.proofs.Ending.{by_cause, error_of}
+use Rattle.kv_run.proofs.Progress.{starts}
+use Rattle.kv_model.specs.Configuration.{Configuration, configure}
 
 module _ (config : Configuration) (workers : ℕ) (unread left held holds : Option (List ℕ)) where
   -- it ended early

@@ -4,16 +4,16 @@ use Rattle.std.specs.Prelude.{⊤, IfErr}
 use Rattle.std.proofs.KnownBytes.{Consumes-nil, Appends-nil}
 use Rattle.kv_keys.specs.declared.error.KvError.{KvError}
 use Rattle.kv_keys.specs.declared.error.KvError.TheVariants.{OutOfMemory, BadBucket, BadConfig, BadKey, BadFilter, OptionsClash, ValueTooLarge, Sealed, JournalFull, KeyExists, WrongLastRevision, KeyNotFound, NoSuchWatch, TooManyWatches, NoReader, BadCommand, ReadFault, WriteFault, BadFloor, WatchBehind, Lagged}
-use Rattle.kv_replay.specs.Outcome.{Breaks, Stops, StopsWhole}
+use Rattle.kv_run.specs.Outcome.{Breaks, Stops, StopsWhole}
 use Rattle.kv_run.specs.Programs.{RunStops, status_of}
 use Rattle.kv_run.specs.Races.{RanRace, StopsRace}
-use Rattle.kv_replay.specs.Replaying.{Ran}
-use Rattle.kv_replay.specs.Text.{script_text, whole_text}
+use Rattle.kv_run.specs.Replaying.{Ran}
+use Rattle.kv_run.specs.Text.{script_text, whole_text}
 use Rattle.kv_race.specs.Openings.{may_race}
-use Rattle.kv_replay.proofs.Progress.{starts}
+use Rattle.kv_run.proofs.Progress.{starts}
 use Rattle.kv_run.proofs.Racing.{stopped_silent}
-use Rattle.kv_replay.proofs.Reached.{whole_first}
-use Rattle.kv_store.specs.Configuration.{Configuration, configure}
+use Rattle.kv_run.proofs.Reached.{whole_first}
+use Rattle.kv_model.specs.Configuration.{Configuration, configure}
 
 module _ (config : Configuration) (unread left held holds : Option (List ℕ)) where
   -- the text of whole lines is a beginning of the text of all

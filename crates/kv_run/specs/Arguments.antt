@@ -10,7 +10,7 @@ use Rattle.clap.specs.Walk.{Rule, Row, Text, first_of, one_of}
 use Rattle.clap.specs.Simple.{App, matches_of, new_app, new_rule, with_rule}
 use Rattle.clap.specs.declared.builder.action.ArgAction.TheVariants.{Set}
 use Rattle.clap.specs.declared.builder.value_parser.ValueParser.TheVariants as parsers
-use Rattle.kv_store.specs.Configuration.{Configuration}
+use Rattle.kv_model.specs.Configuration.{Configuration}
 
 -- an option with a value, which is this one where none is given
 abbrev pub text_option : Text → Text → Rule

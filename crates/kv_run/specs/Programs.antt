@@ -5,10 +5,10 @@ use Rattle.kv_keys.specs.declared.error.KvError.{KvError}
 use Rattle.kv_keys.specs.declared.error.KvError.TheVariants.{BadBucket, BadConfig}
 use Rattle.kv_race.specs.Openings.{may_race}
 use Rattle.kv_run.specs.Arguments.{Wanted}
-use Rattle.kv_replay.specs.Outcome.{Replays, Stops}
+use Rattle.kv_run.specs.Outcome.{Replays, Stops}
 use Rattle.kv_run.specs.Races.{Races, StopsRace}
-use Rattle.kv_replay.specs.Text.{script_text, whole_text}
-use Rattle.kv_store.specs.Configuration.{Configuration, configure}
+use Rattle.kv_run.specs.Text.{script_text, whole_text}
+use Rattle.kv_model.specs.Configuration.{Configuration, configure}
 
 -- the status of a run that ended early
 abbrev pub status_of : KvError → ℕ

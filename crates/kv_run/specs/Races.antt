@@ -2,16 +2,16 @@
 use Rattle.std.specs.Prelude.{◌≡◌, ◌⊎◌, ⊤, ℕ, List, [], ◌++◌, Option, Result, Ok, Err, IsOk, OnOk, OnErr, IfErr, IsErrOf}
 use Rattle.std.specs.Io.{StartsWith}
 use Rattle.std.specs.Io.KnownBytes.{Appends, Consumes, IsAtEnd}
-use Rattle.kv_bucket.specs.Answers.{Answer}
+use Rattle.kv_model.specs.Answers.{Answer}
 use Rattle.kv_keys.specs.declared.error.KvError.{KvError}
 use Rattle.kv_keys.specs.declared.error.KvError.TheVariants.{OutOfMemory, BadBucket, BadConfig, NoReader, ReadFault, WriteFault}
 use Rattle.kv_race.specs.Openings.{may_race}
 use Rattle.kv_race.specs.Racing.{IsRaced}
-use Rattle.kv_race_script.specs.Dealing.{dealt}
-use Rattle.kv_race_script.specs.Planning.{Planned, planned}
-use Rattle.kv_race_script.specs.Reporting.{report_text}
-use Rattle.kv_replay.specs.Lines.{lines_of}
-use Rattle.kv_store.specs.Configuration.{Configuration}
+use Rattle.kv_run.specs.Dealing.{dealt}
+use Rattle.kv_run.specs.Planning.{Planned, planned}
+use Rattle.kv_run.specs.Reporting.{report_text}
+use Rattle.kv_run.specs.Lines.{lines_of}
+use Rattle.kv_model.specs.Configuration.{Configuration}
 use Rattle.kv_store.specs.Stored.{Stored}
 
 -- while a script is read, no line is answered

@@ -9,7 +9,7 @@ ghost use Rattle.kv_run.specs.Arguments.{faults_of, number_option, program_app, 
 
 use clap::{Arg, ArgAction, Command, Error, value_parser};
 use kv_keys::KvError;
-use kv_store::Config;
+use kv_model::Config;
 use std::alloc::{AllocError, Global};
 use std::marker::Model;
 

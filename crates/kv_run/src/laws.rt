@@ -11,10 +11,20 @@ pub fn no_option_leaves_the_defaults()
 
 /// Each option sets its part, and nothing else.
 pub fn each_option_sets_its_part()
-    ensures bucket { (program value : List ℕ) → wanted_of (program ∷ (codes "--bucket=" ++ value) ∷ []) ≡ alone (record defaults { bucket = value }) }
-    ensures history { (program value : List ℕ) → wanted_of (program ∷ (codes "--history=" ++ value) ∷ []) ≡ alone (record defaults { history = number_or 1 value }) }
-    ensures value_limit { (program value : List ℕ) → wanted_of (program ∷ (codes "--value-limit=" ++ value) ∷ []) ≡ alone (record defaults { value_limit = number_or 1048576 value }) }
-    ensures write_limit { (program value : List ℕ) → wanted_of (program ∷ (codes "--write-limit=" ++ value) ∷ []) ≡ alone (record defaults { write_limit = number_or 1000000 value }) }
-    ensures revision_limit { (program value : List ℕ) → wanted_of (program ∷ (codes "--revision-limit=" ++ value) ∷ []) ≡ alone (record defaults { revision_limit = number_or 4294967295 value }) }
-    ensures race { (program value : List ℕ) → wanted_of (program ∷ (codes "--race=" ++ value) ∷ []) ≡ record { config = defaults; race = number_of value } }
+    ensures bucket { (program value : List ℕ) →
+        wanted_of (program ∷ (codes "--bucket=" ++ value) ∷ []) ≡ alone (record defaults { bucket = value }) }
+    ensures history { (program value : List ℕ) →
+        wanted_of (program ∷ (codes "--history=" ++ value) ∷ [])
+        ≡ alone (record defaults { history = number_or 1 value }) }
+    ensures value_limit { (program value : List ℕ) →
+        wanted_of (program ∷ (codes "--value-limit=" ++ value) ∷ [])
+        ≡ alone (record defaults { value_limit = number_or 1048576 value }) }
+    ensures write_limit { (program value : List ℕ) →
+        wanted_of (program ∷ (codes "--write-limit=" ++ value) ∷ [])
+        ≡ alone (record defaults { write_limit = number_or 1000000 value }) }
+    ensures revision_limit { (program value : List ℕ) →
+        wanted_of (program ∷ (codes "--revision-limit=" ++ value) ∷ [])
+        ≡ alone (record defaults { revision_limit = number_or 4294967295 value }) }
+    ensures race { (program value : List ℕ) →
+        wanted_of (program ∷ (codes "--race=" ++ value) ∷ []) ≡ record { config = defaults; race = number_of value } }
 {}

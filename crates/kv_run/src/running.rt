@@ -4,18 +4,20 @@ ghost use Rattle.std.specs.Prelude.{◌≡◌, ◌≢◌, ◌≤◌, ◌⊎◌, 
 ghost use Rattle.clap.specs.Kinds.{IsAmong};
 ghost use Rattle.clap.specs.Values.{kind_of};
 ghost use Rattle.kv_run.specs.Arguments.{config_of, faults_of, race_of, wanted_of};
-ghost use Rattle.kv_replay.specs.Faults.{IsBadConfiguration};
+ghost use Rattle.kv_run.specs.Faults.{IsBadConfiguration};
 ghost use Rattle.kv_run.specs.Programs.{checked, status_of, IsRefused, RunStops, Runs};
 ghost use Rattle.kv_run.specs.Races.{RanRace};
-ghost use Rattle.kv_replay.specs.Replaying.{Ran};
+ghost use Rattle.kv_run.specs.Replaying.{Ran};
 
 use crate::arguments::Arguments;
-use crate::races::replay_race;
+use crate::races::over_scripts::replay_race;
+use crate::scripts::input::CountedReader;
+use crate::scripts::output::CountedWriter;
+use crate::scripts::streams::replay;
 use clap::Error;
 use clap::error::ErrorKind;
 use kv_keys::KvError;
-use kv_replay::{Noted, Whole, replay};
-use kv_store::Config;
+use kv_model::Config;
 use std::alloc::Global;
 use std::io::{Read, Write};
 use std::sync::Wait;
@@ -31,8 +33,8 @@ fn replay_noted<R: Read, W: Write>(
     ensures ran { Ran config.now (R.remaining reader.old) (R.remaining reader.new) (W.contents writer.old) (W.contents writer.new) result }
     ensures refused { IfErr result (λ e. IsBadConfiguration e → (reader.new ≡ reader.old) × (writer.new ≡ writer.old)) }
 {
-    let mut source = Noted::new(reader);
-    let mut sink = Whole::new(writer);
+    let mut source = CountedReader::new(reader);
+    let mut sink = CountedWriter::new(writer);
     replay(alloc, &mut source, &mut sink, config)
 }
 
@@ -48,8 +50,8 @@ fn race_noted<T: Threads + Wait + Sync, R: Read, W: Write>(
     ensures ran { RanRace config.now workers (R.remaining reader.old) (R.remaining reader.new) (W.contents writer.old) (W.contents writer.new) result }
     ensures refused { IfErr result (λ e. IsBadConfiguration e → (reader.new ≡ reader.old) × (writer.new ≡ writer.old)) }
 {
-    let mut source = Noted::new(reader);
-    let mut sink = Whole::new(writer);
+    let mut source = CountedReader::new(reader);
+    let mut sink = CountedWriter::new(writer);
     replay_race(rt, alloc, &mut source, &mut sink, config, workers)
 }
 
@@ -133,7 +135,8 @@ pub fn program<T: Threads + Wait + Sync, R: Read, W: Write, F: Write>(
         ⊎ RunStops (race_of (map string_bytes words.now)) (config_of (map string_bytes words.now))
         (R.remaining reader.old) (R.remaining reader.new) (W.contents writer.old) (W.contents writer.new) }
     // The words are refused, or the configuration that they ask for is; then nothing was read or written.
-    ensures refused { result ≡ 2 → IsRefused (faults_of (map string_bytes words.now)) (wanted_of (map string_bytes words.now))
+    ensures refused { result ≡ 2 →
+        IsRefused (faults_of (map string_bytes words.now)) (wanted_of (map string_bytes words.now))
         × ((reader.new ≡ reader.old) × (writer.new ≡ writer.old)) }
 {
     match Arguments::parse(alloc, words) {

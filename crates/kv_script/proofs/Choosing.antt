@@ -4,9 +4,9 @@ use Rattle.std.specs.Prelude.{IsOk}
 use Rattle.std.specs.Result.{result_map_both}
 use Rattle.kv_keys.specs.declared.error.KvError.{KvError}
 use Rattle.kv_keys.specs.declared.error.KvError.TheVariants.{OptionsClash}
-use Rattle.kv_watch.specs.Flags.{start_asked}
-use Rattle.kv_watch.specs.declared.options.Options.{Options}
-use Rattle.kv_watch.specs.declared.options.Start.{Start}
+use Rattle.kv_model.specs.Flags.{start_asked}
+use Rattle.kv_model.specs.declared.options.Options.{Options}
+use Rattle.kv_model.specs.declared.options.Start.{Start}
 use Rattle.kv_script.specs.Choices.{from_among, is_given, options_of}
 
 error_of : {X : Type 0} → Result X KvError → KvError

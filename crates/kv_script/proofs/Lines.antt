@@ -7,9 +7,9 @@ use Rattle.serde_json.specs.View.{items_of}
 use Rattle.serde_json.proofs.OnLiterals.{serde_json_on_literals}
 use Rattle.kv_keys.specs.declared.error.KvError.{KvError}
 use Rattle.kv_keys.specs.declared.error.KvError.TheVariants.{OutOfMemory, BadBucket, BadConfig, BadKey, BadFilter, OptionsClash, ValueTooLarge, Sealed, JournalFull, KeyExists, WrongLastRevision, KeyNotFound, NoSuchWatch, TooManyWatches, NoReader, BadCommand, ReadFault, WriteFault, BadFloor, WatchBehind, Lagged}
-use Rattle.kv_store.specs.declared.status.Status.{Status}
-use Rattle.kv_watch.specs.Given.{Entry}
-use Rattle.kv_script.specs.Fields.{number_field, value_fields, entry_fields, entry_object, entry_items, key_items, watch_field, worker_field, sealed_fields, marker_fields, empty_fields, stopped_fields, status_fields, place_fields, detail_fields, refusal_fields, list_fields}
+use Rattle.kv_model.specs.declared.status.Status.{Status}
+use Rattle.kv_model.specs.Given.{Entry}
+use Rattle.kv_script.specs.inside.Fields.{number_field, value_fields, entry_fields, entry_object, entry_items, key_items, watch_field, worker_field, sealed_fields, marker_fields, empty_fields, stopped_fields, status_fields, place_fields, detail_fields, refusal_fields, list_fields}
 use Rattle.kv_script.specs.Line.{Member, object_text, array_text, line}
 use Rattle.kv_script.specs.Text.{truth_text, one, value_members, entry_members, detail_members, refusal_members, watch_members, worker_members, status_members, listed_text, place_digits, revision_text, sealed_text, entry_text, history_text, keys_text, watch_text, taken_entry_text, marker_text, empty_text, stopped_text, status_text, place_text, refusal_text, told_text, worker_refusal_text}
 use Rattle.kv_script.proofs.Compact.{compact-object, compact-array, AreMembers, AreItems}

@@ -1,6 +1,6 @@
 -- The lines that the answers of a bucket are written as.
 use Rattle.std.specs.Prelude.{ℕ, List, []}
-use Rattle.kv_bucket.specs.Answers.{Answer, Revision, Sealed, AnsweredEntry, Entries, Keys, Numbers, Watching, Marker, Empty, Ended, Refused}
+use Rattle.kv_model.specs.Answers.{Answer, Revision, Sealed, AnsweredEntry, Entries, Keys, Numbers, Watching, Marker, Empty, Ended, Refused}
 use Rattle.kv_script.specs.Text.{revision_text, sealed_text, entry_text, history_text, keys_text, watch_text, taken_entry_text, marker_text, empty_text, stopped_text, status_text, refusal_text}
 
 -- the line of an answer, for the bucket of a name; takes and stops have lines of their own

@@ -3,8 +3,8 @@ use Rattle.std.specs.Prelude.{ℕ, ◌&&◌, ◌||◌, not, Bool, nat_lt, nat_eq
 use Rattle.std.specs.List.{list_all, starts_with}
 use Rattle.std.specs.Result.{result_map_both}
 use Rattle.kv_keys.specs.declared.error.KvError.{KvError}
-use Rattle.kv_watch.specs.Flags.{start_asked}
-use Rattle.kv_watch.specs.declared.options.Options.{Options}
+use Rattle.kv_model.specs.Flags.{start_asked}
+use Rattle.kv_model.specs.declared.options.Options.{Options}
 use Rattle.kv_script.specs.Words.{number_of}
 
 -- a word `from=..`

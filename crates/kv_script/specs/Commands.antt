@@ -7,8 +7,8 @@ use Rattle.std.specs.Str.{is_utf8}
 use Rattle.kv_keys.specs.Grammar.{is_present, is_key, is_filter, parts, are_filters}
 use Rattle.kv_keys.specs.declared.error.KvError.{KvError}
 use Rattle.kv_keys.specs.declared.error.KvError.TheVariants.{OutOfMemory, BadKey, BadFilter, BadCommand}
-use Rattle.kv_store.specs.Requests.{Asked, asked, put, create, update, delete, purge}
-use Rattle.kv_watch.specs.declared.options.Options.{Options}
+use Rattle.kv_model.specs.Requests.{Asked, asked, put, create, update, delete, purge}
+use Rattle.kv_model.specs.declared.options.Options.{Options}
 use Rattle.kv_script.specs.Words.{words_of, number_of, value_of}
 use Rattle.kv_script.specs.Choices.{are_options, options_of}
 use Rattle.kv_script.specs.declared.command.Command.{Command}

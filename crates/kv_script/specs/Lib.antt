@@ -1,8 +1,8 @@
 pub mod Answered
 pub mod Choices
 pub mod Commands
-pub mod Fields
 pub mod Line
 pub mod Plain
 pub mod Text
 pub mod Words
+pub mod inside

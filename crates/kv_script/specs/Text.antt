@@ -8,10 +8,10 @@ use Rattle.json.specs.Print.{quoted}
 use Rattle.kv_keys.specs.Refusals.{code_of, name_of}
 use Rattle.kv_keys.specs.declared.error.KvError.{KvError}
 use Rattle.kv_keys.specs.declared.error.KvError.TheVariants.{WrongLastRevision, WatchBehind, Lagged}
-use Rattle.kv_store.specs.declared.status.Status.{Status}
-use Rattle.kv_store.specs.declared.write.Op.{Op}
-use Rattle.kv_store.specs.declared.write.Op.TheVariants.{Put, Delete, Purge}
-use Rattle.kv_watch.specs.Given.{Entry}
+use Rattle.kv_model.specs.declared.status.Status.{Status}
+use Rattle.kv_model.specs.declared.write.Op.{Op}
+use Rattle.kv_model.specs.declared.write.Op.TheVariants.{Put, Delete, Purge}
+use Rattle.kv_model.specs.Given.{Entry}
 use Rattle.kv_script.specs.Line.{Member, object_text, array_text, line}
 
 abbrev pub truth_text : Bool → List ℕ

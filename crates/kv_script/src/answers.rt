@@ -3,7 +3,7 @@
 ghost use Rattle.std.specs.Prelude.{◌≡◌, ◌++◌, IfOk, OnOk, OnErr, codes};
 ghost use Rattle.serde_json.specs.Data.{object, no_members};
 ghost use Rattle.serde_json.specs.View.{view};
-ghost use Rattle.kv_script.specs.Fields.{number_field, sealed_fields, watch_field, worker_field, marker_fields, empty_fields, stopped_fields};
+ghost use Rattle.kv_script.specs.inside.Fields.{number_field, sealed_fields, watch_field, worker_field, marker_fields, empty_fields, stopped_fields};
 ghost use Rattle.kv_script.specs.Text.{revision_text, sealed_text, watch_text, marker_text, empty_text, stopped_text, told_text};
 
 use crate::json_line::append_line;

@@ -8,7 +8,7 @@ ghost use Rattle.kv_script.specs.Commands.{texts};
 
 use crate::numbers::number_of;
 use kv_keys::KvError;
-use kv_watch::Options;
+use kv_model::Options;
 
 fn from_of(word: &str) -> Option<u64>
     ensures { result ≡ from_of word.now }

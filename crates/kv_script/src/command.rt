@@ -1,23 +1,30 @@
 //! Commands of a script.
 
 use kv_keys::{Filter, Filters, Key};
-use kv_store::Request;
-use kv_watch::Options;
+use kv_model::{Options, Request};
 
 /// What a line of a script asks for. A watch goes by its number.
 #[derive(Drop)]
 pub enum Command {
+    /// `put`, `create`, `update`, `delete`, `purge`.
     Write(Request),
+    /// `get` of the latest entry.
     Get(Key),
-    /// Get at a revision.
+    /// `get` at a revision.
     GetAt(Key, u64),
+    /// `history`: the retained entries of a key.
     History(Key),
+    /// `keys` that have a value and match.
     Keys(Filter),
+    /// `watch`, from now on.
     Watch(Filters, Options),
     /// `count` takes, or as many as come before one that answers Empty.
     Take { watch: u64, count: u64 },
+    /// `stop` of an open watch.
     Stop(u64),
+    /// `status`: the numbers of the bucket.
     Status,
+    /// `seal`: the end of writes.
     Seal,
     /// The place of a key in a hash trie.
     Place(Key),

@@ -4,14 +4,14 @@ ghost use Rattle.std.specs.Prelude.{◌≡◌, ◌++◌, IfOk, OnOk, OnErr, Some
 ghost use Rattle.std.specs.Option.{option_copied};
 ghost use Rattle.serde_json.specs.Data.{object, array, string, no_members};
 ghost use Rattle.serde_json.specs.View.{view};
-ghost use Rattle.kv_bucket.specs.State.{read_entry};
-ghost use Rattle.kv_script.specs.Fields.{parts_entry, entry_fields, entry_object, entry_items, key_items, watch_field, list_fields};
+ghost use Rattle.kv_model.specs.State.{read_entry};
+ghost use Rattle.kv_script.specs.inside.Fields.{parts_entry, entry_fields, entry_object, entry_items, key_items, watch_field, list_fields};
 ghost use Rattle.kv_script.specs.Text.{op_text, entry_text, history_text, keys_text, taken_entry_text};
 
 use crate::json_line::append_line;
 use base64::engine::general_purpose::STANDARD;
 use kv_keys::Key;
-use kv_store::{Op, Write};
+use kv_model::{Op, Write};
 use serde_json::{Value, json};
 use std::alloc::{AllocError, Global};
 
@@ -100,7 +100,8 @@ fn entries_value(alloc: Global, writes: &[&Write]) -> Result<Value, AllocError>
 }
 
 fn history_value(alloc: Global, writes: &[&Write]) -> Result<Value, AllocError>
-    ensures { IfOk result (λ v. view v ≡ object (list_fields (codes "entries") (entry_items (map (λ w. read_entry w.now) writes.now)))) }
+    ensures { IfOk result
+        (λ v. view v ≡ object (list_fields (codes "entries") (entry_items (map (λ w. read_entry w.now) writes.now)))) }
 {
     let entries = entries_value(alloc, writes)?;
     json!(in alloc; {"entries": entries})
@@ -132,7 +133,8 @@ fn names_value(alloc: Global, keys: &[&Key]) -> Result<Value, AllocError>
 }
 
 fn keys_value(alloc: Global, keys: &[&Key]) -> Result<Value, AllocError>
-    ensures { IfOk result (λ v. view v ≡ object (list_fields (codes "keys") (key_items (map (λ key. key.now) keys.now)))) }
+    ensures { IfOk result
+        (λ v. view v ≡ object (list_fields (codes "keys") (key_items (map (λ key. key.now) keys.now)))) }
 {
     let names = names_value(alloc, keys)?;
     json!(in alloc; {"keys": names})

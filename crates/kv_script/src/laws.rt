@@ -19,5 +19,6 @@ pub fn names_need_no_escape()
 
 /// The base64 of a value has nothing that JSON escapes.
 pub fn values_need_no_escape()
-    ensures { (value : List ℕ) → IsBytes value → quoted (encode_of standard value) ≡ in_quotes (encode_of standard value) }
+    ensures { (value : List ℕ) → IsBytes value →
+        quoted (encode_of standard value) ≡ in_quotes (encode_of standard value) }
 {}

@@ -3,7 +3,7 @@
 ghost use Rattle.std.specs.Prelude.{◌≡◌, ◌++◌, IfOk, OnOk, OnErr};
 ghost use Rattle.serde_json.specs.Data.{object, no_members};
 ghost use Rattle.serde_json.specs.View.{view};
-ghost use Rattle.kv_script.specs.Fields.{worker_field, refusal_fields, detail_fields, plain_fields, last_field, behind_field, floor_field};
+ghost use Rattle.kv_script.specs.inside.Fields.{worker_field, refusal_fields, detail_fields, plain_fields, last_field, behind_field, floor_field};
 ghost use Rattle.kv_script.specs.Text.{refusal_text, worker_refusal_text};
 
 use crate::json_line::append_line;

@@ -3,11 +3,11 @@
 ghost use Rattle.std.specs.Prelude.{◌≡◌, ◌++◌, IfOk, OnOk, OnErr};
 ghost use Rattle.serde_json.specs.Data.{object};
 ghost use Rattle.serde_json.specs.View.{view};
-ghost use Rattle.kv_script.specs.Fields.{status_fields, place_fields};
+ghost use Rattle.kv_script.specs.inside.Fields.{status_fields, place_fields};
 ghost use Rattle.kv_script.specs.Text.{status_text, place_text};
 
 use crate::json_line::append_line;
-use kv_store::Status;
+use kv_model::Status;
 use serde_json::{Value, json};
 use std::alloc::{AllocError, Global};
 

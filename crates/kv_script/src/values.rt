@@ -12,7 +12,8 @@ use std::alloc::{AllocError, Global};
 /// The bytes that base64 stands for, where there is at least one (RFC 4648, section 4).
 #[tactic(auto, unfolding(base64::specs::GeneralPurpose::decoded_of))]
 fn decoded(alloc: Global, word: &str) -> Result<Option<Vec<u8>>, AllocError>
-    ensures { IfOk result (λ bytes. option_map (λ v. v.items) bytes ≡ option_and_then unless_empty (decoded_of standard word.now)) }
+    ensures { IfOk result
+        (λ bytes. option_map (λ v. v.items) bytes ≡ option_and_then unless_empty (decoded_of standard word.now)) }
 {
     match STANDARD.decode(alloc, word.as_bytes()) {
         Ok(bytes) if bytes.is_empty() => Ok(None),

@@ -1,14 +1,14 @@
 //! Commands that write.
 
 ghost use Rattle.std.specs.Prelude.{◌≡◌};
-ghost use Rattle.kv_store.specs.Requests.{put, create, delete, purge};
+ghost use Rattle.kv_model.specs.Requests.{put, create, delete, purge};
 ghost use Rattle.kv_script.specs.Commands.{Gives, Seal, texts, put_command, update_command, delete_command, lone_command};
 
 use crate::command::Command;
 use crate::numbers::{number_of, optional_number};
 use crate::values::value_of;
 use kv_keys::{Key, KvError};
-use kv_store::Request;
+use kv_model::Request;
 use std::alloc::Global;
 
 /// `put K B`

@@ -4,8 +4,8 @@ use Rattle.std.specs.List.{AllByRecursion, Contains, IsDistinct, flat_map}
 use Rattle.std.specs.List.Sorted.{IsStrictlyIncreasing}
 use Rattle.std.proofs.lemmas.Bool.{ne_eqb}
 use Rattle.std.proofs.lemmas.List.Elements.{All-contains, All-from_recursion}
-use Rattle.kv_store.proofs.Members.{Contains-here, Contains-there, Contains-from_flat_map}
-use Rattle.kv_store.proofs.Rising.{below_members, rising_tail}
+use Rattle.kv_model.proofs.Members.{Contains-here, Contains-there, Contains-from_flat_map}
+use Rattle.kv_model.proofs.Rising.{below_members, rising_tail}
 
 pub all_members : {X : Type 0} (P : X → Type 0) (xs : List X) → ((x : X) → Contains xs x → P x) → AllByRecursion P xs
 all_members P [] h = tt

@@ -1,14 +1,9 @@
 pub mod Distinct
 pub mod Gathering
-pub mod Found
-pub mod Keeping
-pub mod Lasts
 pub mod Lookups
-pub mod Members
 pub mod Naming
-pub mod Numbered
 pub mod Outcomes
 pub mod Reading
-pub mod Rising
 pub mod Selecting
 pub mod Standings
+pub mod Sent

@@ -14,7 +14,7 @@ use Rattle.std.proofs.lemmas.List.Elements.{All-cons, All-head, All-tail}
 use Rattle.std.proofs.lemmas.Map.Made.{lookup-map_values}
 use Rattle.std.proofs.lemmas.Map.Text.{is_eq-slice_cmp}
 use Rattle.kv_trie.specs.Form.{put_pair}
-use Rattle.kv_store.specs.Inside.{kept_entries}
+use Rattle.kv_store.specs.inside.Fields.{kept_entries}
 
 -- two tests that say the same find the same
 pub lookup-agree : {K X : Type 0} (p q : K → Bool) → ((k : K) → p k ≡ q k) → (es : List (K × X)) → lookup p es ≡ lookup q es

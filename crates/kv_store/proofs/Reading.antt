@@ -7,16 +7,16 @@ use Rattle.std.proofs.lemmas.Bool.{and_parts, leb-true}
 use Rattle.std.proofs.lemmas.List.{take_more, map-append}
 use Rattle.std.proofs.lemmas.List.Elements.{filter_map-append}
 use Rattle.kv_keys.specs.Matching.{matches}
-use Rattle.kv_store.specs.Acts.{Act, Write, is_put, writes_of}
-use Rattle.kv_store.specs.Configuration.{Configuration, IsLegal}
-use Rattle.kv_store.specs.Reads.{unless_empty, history_of, keys_of, if_put}
-use Rattle.kv_store.specs.Retained.{kept, latest, revisions, is_latest}
-use Rattle.kv_store.specs.Selected.{key_put}
+use Rattle.kv_model.specs.Acts.{Act, Write, is_put, writes_of}
+use Rattle.kv_model.specs.Configuration.{Configuration, IsLegal}
+use Rattle.kv_model.specs.Reads.{unless_empty, history_of, keys_of, if_put}
+use Rattle.kv_model.specs.Retained.{kept, latest, revisions, is_latest}
+use Rattle.kv_store.specs.inside.Selected.{key_put}
 use Rattle.kv_store.specs.Standing.{StandsFor}
 use Rattle.kv_store.specs.Stored.{Stored, kept_at, write_at}
-use Rattle.kv_store.proofs.Found.{found, kept_member}
-use Rattle.kv_store.proofs.Members.{Contains-here, Contains-there, Contains-from_filter, filter-filter}
-use Rattle.kv_store.proofs.Numbered.{counts_from_lawful}
+use Rattle.kv_model.proofs.Found.{found, kept_member}
+use Rattle.kv_model.proofs.Members.{Contains-here, Contains-there, Contains-from_filter, filter-filter}
+use Rattle.kv_model.proofs.Numbered.{counts_from_lawful}
 
 -- some entry of each key is kept
 pub history_some : (config : Configuration) → IsLegal config → 0 < config.history

@@ -1,4 +1,4 @@
--- The selected writes are those that the kept revisions of the keys name.
+-- The initial writes are those that the kept revisions of the keys name.
 use Rattle.std.proofs.Common.{◌≡◌, ℕ, ◌<◌, Bool, true, false, cond, ◌&&◌, ◌||◌, ◌==◌, List, [], ◌∷◌, Option, Some, None, filter, refl, sym, subst, ap, ◌∙◌, suc, inl, inr, ◌⊎◌, ⊎_elim, arith}
 use Rattle.std.specs.Prelude.{nat_le, ◌↔◌}
 use Rattle.std.proofs.lemmas.Slice.Eq.{bytes_eq-Decides}
@@ -7,16 +7,17 @@ use Rattle.std.specs.List.Sorted.{IsStrictlyIncreasing}
 use Rattle.std.specs.Option.{option_to_list, option_map, option_map_or}
 use Rattle.std.specs.Str.{bytes_eq}
 use Rattle.std.proofs.lemmas.List.Elements.{filter_agree}
-use Rattle.kv_store.specs.declared.selection.Selection.{Selection}
-use Rattle.kv_store.specs.declared.selection.Selection.TheVariants.{Latest, Retained, From}
-use Rattle.kv_store.specs.Acts.{Act, Write, writes_of}
-use Rattle.kv_store.specs.Retained.{writes_of_key, last_write, since_purge, kept, revisions, is_kept, is_latest, retained, latest}
-use Rattle.kv_store.specs.Selected.{selected, selected_revisions}
-use Rattle.kv_store.proofs.Found.{not_below}
-use Rattle.kv_store.proofs.Keeping.{retained_of_key}
-use Rattle.kv_store.proofs.Lasts.{last_n_one, last_or-since_purge, last_or-last_n, last_or-map}
-use Rattle.kv_store.proofs.Members.{Contains-cases, Contains-none, Contains-filter, Contains-from_filter, filter-filter}
-use Rattle.kv_store.proofs.Numbered.{CountsFrom, increasing_counted}
+use Rattle.kv_model.specs.declared.options.Start.{Start}
+use Rattle.kv_model.specs.declared.options.Start.TheVariants.{Latest, History, Updates, From}
+use Rattle.kv_model.specs.Acts.{Act, Write, writes_of}
+use Rattle.kv_model.specs.Retained.{writes_of_key, last_write, since_purge, kept, revisions, is_kept, is_latest, retained, latest}
+use Rattle.kv_model.specs.Given.{initial}
+use Rattle.kv_store.specs.inside.Selected.{initial_revisions}
+use Rattle.kv_model.proofs.Found.{not_below}
+use Rattle.kv_model.proofs.Keeping.{retained_of_key}
+use Rattle.kv_model.proofs.Lasts.{last_n_one, last_or-since_purge, last_or-last_n, last_or-map}
+use Rattle.kv_model.proofs.Members.{Contains-cases, Contains-none, Contains-filter, Contains-from_filter, filter-filter}
+use Rattle.kv_model.proofs.Numbered.{CountsFrom, increasing_counted}
 
 -- ---- the latest writes
 
@@ -33,7 +34,7 @@ is_kept_one acts w =
 pub retained_one : (acts : List Act) → retained 1 acts ≡ latest acts
 retained_one acts = filter_agree (is_kept 1 acts) (is_latest acts) (is_kept_one acts) (writes_of acts)
 
--- ---- the selected writes of one key
+-- ---- the initial writes of one key
 
 filter_swap : {X : Type 0} (p q : X → Bool) (xs : List X) → filter p (filter q xs) ≡ filter q (filter p xs)
 filter_swap p q xs = filter-filter p q xs ∙ filter_agree (λ x. q x && p x) (λ x. p x && q x) (λ x. both (q x) (p x)) xs ∙ sym (filter-filter q p xs)
@@ -62,31 +63,34 @@ module _ (h : ℕ) (acts : List Act) (some : 0 < h) (counts : CountsFrom 1 (writ
       last_or-map (λ w. w.revision) (kept h key acts) None
       ∙ ap (option_map (λ w. w.revision)) (last_or-last_n h (since_purge of) some ∙ last_or-since_purge of None)
 
-  -- the kept revisions name the selected writes of the key
-  pub selected_of_key : (selection : Selection) (key : List ℕ) → revisions (filter (λ w. bytes_eq w.key key) (selected h selection acts)) ≡ selected_revisions selection (revisions (kept h key acts))
-  selected_of_key Latest key =
+  -- the kept revisions name the initial writes of the key
+  pub initial_of_key : (start : Start) (key : List ℕ) → revisions (filter (λ w. bytes_eq w.key key) (initial h start acts)) ≡ initial_revisions start (revisions (kept h key acts))
+  initial_of_key Latest key =
       let of = writes_of_key key acts in
       ap (λ ws. revisions (filter (λ w. bytes_eq w.key key) ws)) (sym (retained_one acts))
       ∙ ap revisions (retained_of_key 1 key acts counts ∙ last_n_one (since_purge of) ∙ ap option_to_list (last_or-since_purge of None))
       ∙ revisions-option (last_write key acts)
       ∙ ap option_to_list (sym (last_kept key))
-  selected_of_key Retained key = ap revisions (retained_of_key h key acts counts)
-  selected_of_key (From first) key =
+  initial_of_key Updates key = refl
+  initial_of_key History key = ap revisions (retained_of_key h key acts counts)
+  initial_of_key (From first) key =
       ap revisions (filter_swap (λ w. bytes_eq w.key key) (λ w. nat_le first w.revision) (retained h acts) ∙ ap (filter (λ w. nat_le first w.revision)) (retained_of_key h key acts counts))
       ∙ revisions-filter (λ r. nat_le first r) (kept h key acts)
 
-  -- the revisions of selected writes rise, also of those that pass a test
-  pub increasing_selected : (selection : Selection) (p : Write → Bool) → IsStrictlyIncreasing (revisions (filter p (selected h selection acts)))
-  increasing_selected Latest p = rw (filter-filter p (is_latest acts) (writes_of acts)) (increasing_counted _ (writes_of acts) counts)
-  increasing_selected Retained p = rw (filter-filter p (is_kept h acts) (writes_of acts)) (increasing_counted _ (writes_of acts) counts)
-  increasing_selected (From first) p =
+  -- the revisions of initial writes rise, also of those that pass a test
+  pub increasing_initial : (start : Start) (p : Write → Bool) → IsStrictlyIncreasing (revisions (filter p (initial h start acts)))
+  increasing_initial Latest p = rw (filter-filter p (is_latest acts) (writes_of acts)) (increasing_counted _ (writes_of acts) counts)
+  increasing_initial Updates p = λ k l. absurd (omega (arith, l))
+  increasing_initial History p = rw (filter-filter p (is_kept h acts) (writes_of acts)) (increasing_counted _ (writes_of acts) counts)
+  increasing_initial (From first) p =
       rw (filter-filter p (λ w. nat_le first w.revision) (retained h acts), filter-filter (λ w. nat_le first w.revision && p w) (is_kept h acts) (writes_of acts)) (increasing_counted _ (writes_of acts) counts)
 
-  -- a selected write is a write
-  pub selected_is_written : (selection : Selection) (w : Write) → Contains (selected h selection acts) w → Contains (writes_of acts) w
-  selected_is_written Latest w m = (Contains-from_filter (is_latest acts) (writes_of acts) w m).0
-  selected_is_written Retained w m = (Contains-from_filter (is_kept h acts) (writes_of acts) w m).0
-  selected_is_written (From first) w m = (Contains-from_filter (is_kept h acts) (writes_of acts) w (Contains-from_filter (λ v. nat_le first v.revision) (retained h acts) w m).0).0
+  -- an initial write is a write
+  pub initial_is_written : (start : Start) (w : Write) → Contains (initial h start acts) w → Contains (writes_of acts) w
+  initial_is_written Latest w m = (Contains-from_filter (is_latest acts) (writes_of acts) w m).0
+  initial_is_written Updates w m = absurd (Contains-none w m)
+  initial_is_written History w m = (Contains-from_filter (is_kept h acts) (writes_of acts) w m).0
+  initial_is_written (From first) w m = (Contains-from_filter (is_kept h acts) (writes_of acts) w (Contains-from_filter (λ v. nat_le first v.revision) (retained h acts) w m).0).0
 
 -- ---- one write has one revision
 

@@ -8,19 +8,19 @@ use Rattle.std.proofs.lemmas.List.{length-map}
 use Rattle.std.proofs.lemmas.Slice.Eq.{bytes_eq-Decides}
 use Rattle.kv_keys.specs.Grammar.{is_key}
 use Rattle.kv_keys.specs.declared.error.KvError.{KvError}
-use Rattle.kv_store.specs.Acceptance.{accept, next_write, IsAccepted, IsLawful, LawfulFrom}
-use Rattle.kv_store.specs.Acts.{Act, Wrote, Seal, Write, is_purge, is_sealed, writes_of}
-use Rattle.kv_store.specs.Configuration.{Configuration, IsLegal}
-use Rattle.kv_store.specs.Next.{HasOneMore, kept_after, kept_before, next_kept}
-use Rattle.kv_store.specs.Reads.{unless_empty}
-use Rattle.kv_store.specs.Requests.{Asked, key_of, op_of, value_of}
-use Rattle.kv_store.specs.Retained.{kept, last_n, last_revision, retained, revisions}
+use Rattle.kv_model.specs.Acceptance.{accept, next_write, IsAccepted, IsLawful, LawfulFrom}
+use Rattle.kv_model.specs.Acts.{Act, Wrote, Seal, Write, is_purge, is_sealed, writes_of}
+use Rattle.kv_model.specs.Configuration.{Configuration, IsLegal}
+use Rattle.kv_store.specs.inside.Next.{HasOneMore, kept_after, kept_before, next_kept}
+use Rattle.kv_model.specs.Reads.{unless_empty}
+use Rattle.kv_model.specs.Requests.{Asked, key_of, op_of, value_of}
+use Rattle.kv_model.specs.Retained.{kept, last_n, last_revision, retained, revisions}
 use Rattle.kv_store.specs.Standing.{StandsFor}
 use Rattle.kv_store.specs.Stored.{Stored, kept_at}
-use Rattle.kv_store.specs.declared.write.Op.{Op}
-use Rattle.kv_store.proofs.Found.{last_revision-kept, or_empty, unless_empty-long, unless_empty-none, unless_empty-some}
-use Rattle.kv_store.proofs.Keeping.{kept_other, kept_revisions_same, kept_seal, retained_count, retained_seal}
-use Rattle.kv_store.proofs.Numbered.{CountsFrom, accepted_is_next, counts_from_lawful, writes_of-seal, writes_of-wrote}
+use Rattle.kv_model.specs.declared.write.Op.{Op}
+use Rattle.kv_model.proofs.Found.{last_revision-kept, or_empty, unless_empty-long, unless_empty-none, unless_empty-some}
+use Rattle.kv_model.proofs.Keeping.{kept_other, kept_revisions_same, kept_seal, retained_count, retained_seal}
+use Rattle.kv_model.proofs.Numbered.{CountsFrom, accepted_is_next, counts_from_lawful, writes_of-seal, writes_of-wrote}
 
 -- ---- acts
 

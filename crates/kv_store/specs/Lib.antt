@@ -1,13 +1,3 @@
-pub mod Acceptance
-pub mod Acts
-pub mod Bounds
-pub mod Configuration
-pub mod Inside
-pub mod Next
-pub mod Putting
-pub mod Reads
-pub mod Requests
-pub mod Retained
-pub mod Selected
 pub mod Standing
 pub mod Stored
+pub mod inside

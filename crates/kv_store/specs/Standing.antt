@@ -1,10 +1,10 @@
 -- Which lists of acts a version stands for.
 use Rattle.std.specs.Prelude.{◌≡◌, ℕ, List, length}
-use Rattle.kv_store.specs.Acceptance.{IsLawful}
-use Rattle.kv_store.specs.Acts.{Act, writes_of, is_sealed}
-use Rattle.kv_store.specs.Configuration.{IsLegal}
-use Rattle.kv_store.specs.Reads.{unless_empty, write_at_of}
-use Rattle.kv_store.specs.Retained.{kept, retained, revisions}
+use Rattle.kv_model.specs.Acceptance.{IsLawful}
+use Rattle.kv_model.specs.Acts.{Act, writes_of, is_sealed}
+use Rattle.kv_model.specs.Configuration.{IsLegal}
+use Rattle.kv_model.specs.Reads.{unless_empty, write_at_of}
+use Rattle.kv_model.specs.Retained.{kept, retained, revisions}
 use Rattle.kv_store.specs.Stored.{Stored, kept_at, write_at}
 
 -- a version stands for lawful acts under its legal configuration: it stores their writes by revision, of each key the kept revisions in order, and nothing else, and it is sealed where they hold a seal

@@ -2,8 +2,8 @@
 use Rattle.std.specs.Prelude.{ℕ, Bool, List, Option, ◌==◌}
 use Rattle.std.specs.Map.{lookup}
 use Rattle.std.specs.Str.{bytes_eq}
-use Rattle.kv_store.specs.Acts.{Write}
-use Rattle.kv_store.specs.Configuration.{Configuration}
+use Rattle.kv_model.specs.Acts.{Write}
+use Rattle.kv_model.specs.Configuration.{Configuration}
 
 -- the entries of the two tries: of each key its kept revisions, of each revision its write
 pub record Stored : Type 0 where

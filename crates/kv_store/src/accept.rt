@@ -5,16 +5,15 @@ ghost use Rattle.std.specs.List.{last_or};
 ghost use Rattle.std.specs.Option.{option_copied};
 ghost use Rattle.kv_keys.specs.Outcome.{Refuses};
 ghost use Rattle.kv_keys.specs.declared.error.KvError.TheVariants.{KeyExists};
-ghost use Rattle.kv_store.specs.Acceptance.{accept, has_value, is_full, next_write, objection, unless_last, unless_last_or_none};
-ghost use Rattle.kv_store.specs.Acts.{Act};
-ghost use Rattle.kv_store.specs.Requests.{asked};
-ghost use Rattle.kv_store.specs.Retained.{last_revision, last_write};
+ghost use Rattle.kv_model.specs.Acceptance.{accept, has_value, is_full, next_write, objection, unless_last, unless_last_or_none};
+ghost use Rattle.kv_model.specs.Acts.{Act};
+ghost use Rattle.kv_model.specs.Requests.{asked};
+ghost use Rattle.kv_model.specs.Retained.{last_revision, last_write};
 ghost use Rattle.kv_store.specs.Standing.{StandsFor};
 
-use crate::request::Request;
 use crate::version::Version;
-use crate::write::Write;
 use kv_keys::{Key, KvError};
+use kv_model::{Request, Write};
 
 fn last_or_zero(revisions: &[u64]) -> u64
     ensures { result ≡ unwrap_or (last_or None revisions.now) 0 }
@@ -36,7 +35,8 @@ fn unless_value(has_value: bool) -> Option<KvError>
 }
 
 fn unless_last(revision: u64, last: u64) -> Option<KvError>
-    ensures { (key : List ℕ) (acts : List Act) → last ≡ last_revision key acts → result ≡ unless_last revision key acts }
+    ensures { (key : List ℕ) (acts : List Act) → last ≡ last_revision key acts →
+        result ≡ unless_last revision key acts }
 {
     if revision == last {
         None
@@ -46,7 +46,8 @@ fn unless_last(revision: u64, last: u64) -> Option<KvError>
 }
 
 fn unless_last_or_none(revision: Option<u64>, last: u64) -> Option<KvError>
-    ensures { (key : List ℕ) (acts : List Act) → last ≡ last_revision key acts → result ≡ unless_last_or_none revision key acts }
+    ensures { (key : List ℕ) (acts : List Act) → last ≡ last_revision key acts →
+        result ≡ unless_last_or_none revision key acts }
 {
     match revision {
         Some(revision) => unless_last(revision, last),

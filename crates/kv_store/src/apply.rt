@@ -3,18 +3,17 @@
 ghost use Rattle.std.specs.Prelude.{◌≡◌, ◌+◌, ◌<◌, List, [], ◌∷◌, ◌++◌, unwrap_or, IfErr, IfOk, OnErr, OnOk};
 ghost use Rattle.kv_keys.specs.Outcome.{Refuses};
 ghost use Rattle.kv_keys.specs.declared.error.KvError.TheVariants.{OutOfMemory};
-ghost use Rattle.kv_store.specs.Acceptance.{accept};
-ghost use Rattle.kv_store.specs.Acts.{Act, Wrote, Write as AWrite};
-ghost use Rattle.kv_store.specs.Next.{HasOneMore, kept_before};
-ghost use Rattle.kv_store.specs.Requests.{asked};
+ghost use Rattle.kv_model.specs.Acceptance.{accept};
+ghost use Rattle.kv_model.specs.Acts.{Act, Wrote, Write as AWrite};
+ghost use Rattle.kv_store.specs.inside.Next.{HasOneMore, kept_before};
+ghost use Rattle.kv_model.specs.Requests.{asked};
 ghost use Rattle.kv_store.specs.Standing.{StandsFor};
 
-use crate::journal::put_both;
 use crate::kept::next_kept;
-use crate::request::Request;
+use crate::put::put_write;
 use crate::version::Version;
-use crate::write::Write;
 use kv_keys::{Key, KvError};
+use kv_model::{Request, Write};
 use std::alloc::Global;
 
 impl Version {
@@ -27,7 +26,8 @@ impl Version {
         }
     }
 
-    // Adds this write. The number of entries goes up by those that are kept of the key now, and down by those that were.
+    // Adds this write. The number of entries goes up by those that are kept of the key now, and down by those that
+    // were.
     pub(crate) fn add(&mut self, alloc: Global, write: Write) -> Result<(), KvError>
         requires room { self.old.last < self.old.config.revision_limit }
         requires revision { write.revision ≡ self.old.last + 1 }
@@ -40,7 +40,7 @@ impl Version {
         let kept = next_kept(alloc, self.history, write.op(), revision, before)?;
         let entries = (self.values + kept.len() as u64).saturating_sub(before.len() as u64);
         let key = write.key().copy(alloc)?;
-        put_both(
+        put_write(
             alloc,
             &mut self.by_key,
             &mut self.by_revision,
@@ -62,7 +62,8 @@ impl Version {
     pub fn apply(&self, alloc: Global, request: &Request) -> Result<Version, KvError>
         ensures config { IfOk result (λ next. next.config ≡ self.now.config) }
         ensures ok { IfOk result (λ next. (acts : List Act) → StandsFor acts self.now →
-            (w : AWrite) × ((accept self.now.config (asked request.now) acts ≡ Ok w) × StandsFor (acts ++ Wrote w ∷ []) next)) }
+            (w : AWrite)
+            × ((accept self.now.config (asked request.now) acts ≡ Ok w) × StandsFor (acts ++ Wrote w ∷ []) next)) }
         ensures refused { IfErr result (λ e. (acts : List Act) → StandsFor acts self.now →
             Refuses e (accept self.now.config (asked request.now) acts)) }
     {

@@ -5,20 +5,21 @@ ghost use Rattle.std.specs.List.{filter_map};
 ghost use Rattle.std.specs.Option.{ok_or};
 ghost use Rattle.kv_keys.specs.Outcome.{Refuses};
 ghost use Rattle.kv_keys.specs.declared.error.KvError.TheVariants.{KeyNotFound, OutOfMemory};
-ghost use Rattle.kv_store.specs.Acts.{Act};
-ghost use Rattle.kv_store.specs.Reads.{history_of};
+ghost use Rattle.kv_model.specs.Acts.{Act};
+ghost use Rattle.kv_model.specs.Reads.{history_of};
 ghost use Rattle.kv_store.specs.Standing.{StandsFor};
 ghost use Rattle.kv_store.specs.Stored.{write_at};
 
 use crate::version::Version;
-use crate::write::Write;
 use kv_keys::{Key, KvError};
+use kv_model::Write;
 use std::alloc::Global;
 
 impl Version {
     // The writes that are stored of these revisions, in this order.
     fn writes_at(&self, alloc: Global, revisions: &[u64]) -> Result<Vec<&Write>, KvError>
-        ensures ok { IfOk result (λ found. map (λ w. w.now) found.items ≡ filter_map (λ r. write_at r self.now) revisions.now) }
+        ensures ok { IfOk result
+            (λ found. map (λ w. w.now) found.items ≡ filter_map (λ r. write_at r self.now) revisions.now) }
         ensures err { IfErr result (λ e. e ≡ OutOfMemory) }
     {
         let mut found = Vec::with_capacity(alloc, revisions.len())?;

@@ -8,15 +8,16 @@ ghost use Rattle.std.specs.Ordering.{nat_cmp};
 ghost use Rattle.kv_keys.specs.declared.error.KvError.TheVariants.{OutOfMemory};
 ghost use Rattle.kv_keys.specs.Places.{fnv32_of};
 ghost use Rattle.kv_trie.specs.Form.{Ascends, order};
-ghost use Rattle.kv_store.specs.Acts.{Act};
-ghost use Rattle.kv_store.specs.Retained.{revisions};
-ghost use Rattle.kv_store.specs.Selected.{selected, selected_revisions, selected_of};
+ghost use Rattle.kv_model.specs.Acts.{Act};
+ghost use Rattle.kv_model.specs.Retained.{revisions};
+ghost use Rattle.kv_model.specs.Given.{initial};
+ghost use Rattle.kv_store.specs.inside.Selected.{initial_revisions, initial_of};
 ghost use Rattle.kv_store.specs.Standing.{StandsFor};
 
-use crate::selection::Selection;
 use crate::version::Version;
 use crate::wanted::Wanted;
 use kv_keys::{Key, KvError};
+use kv_model::Start;
 use kv_trie::{Trie, Visit};
 use std::alloc::Global;
 
@@ -24,7 +25,7 @@ use std::alloc::Global;
 #[derive(Drop)]
 struct Gather<'w, W> {
     wanted: &'w W,
-    selection: Selection,
+    start: Start,
     found: Vec<u64>,
 }
 
@@ -41,56 +42,55 @@ fn add_from(found: &mut Vec<u64>, first: u64, revisions: &[u64]) -> Result<(), K
     Ok(())
 }
 
-// Adds those of a key's revisions that the selection asks for.
-fn add_selected(
-    found: &mut Vec<u64>,
-    selection: Selection,
-    revisions: &[u64],
-) -> Result<(), KvError>
-    ensures ok { IfOk result (λ _. found.new.items ≡ found.old.items ++ selected_revisions selection revisions.now) }
+// Adds those of a key's revisions that a watch begins with.
+fn add_selected(found: &mut Vec<u64>, start: Start, revisions: &[u64]) -> Result<(), KvError>
+    ensures ok { IfOk result (λ _. found.new.items ≡ found.old.items ++ initial_revisions start revisions.now) }
     ensures err { IfErr result (λ error. error ≡ OutOfMemory) }
 {
-    match selection {
-        Selection::Latest => {
+    match start {
+        Start::Latest => {
             if let Some(last) = revisions.last() {
                 found.push(*last)?;
             }
         }
-        Selection::Retained => found.extend_from_slice(revisions)?,
-        Selection::From(first) => add_from(found, first, revisions)?,
+        Start::History => found.extend_from_slice(revisions)?,
+        Start::Updates => {}
+        Start::From(first) => add_from(found, first, revisions)?,
     }
     Ok(())
 }
 
 impl<'w, W: Wanted> Visit<Key, Vec<u64>> for Gather<'w, W> {
     ghost shows = { λ old key revisions result new.
-        (new.wanted ≡ old.wanted) × (new.selection ≡ old.selection)
-        × IfOk result (λ _. new.found.items ≡ old.found.items ++ selected_of (W.wants_key old.wanted.now) old.selection (key, revisions))
+        (new.wanted ≡ old.wanted) × (new.start ≡ old.start)
+        × IfOk result
+        (λ _. new.found.items ≡ old.found.items ++ initial_of (W.wants_key old.wanted.now) old.start (key, revisions))
         × IfErr result (λ error. error ≡ OutOfMemory) };
 
     fn pair(&mut self, key: &Key, revisions: &Vec<u64>) -> Result<(), KvError> {
         if self.wanted.wants(key) {
-            add_selected(&mut self.found, self.selection, revisions)?;
+            add_selected(&mut self.found, self.start, revisions)?;
         }
         Ok(())
     }
 }
 
-// The selected revisions of wanted keys, in order.
+// The revisions of wanted keys that a watch begins with, in order.
 fn selected_revisions_of<W: Wanted>(
     alloc: Global,
     by_key: &Trie<Key, Vec<u64>>,
     wanted: &W,
-    selection: Selection,
+    start: Start,
 ) -> Result<Vec<u64>, KvError>
     ensures keys { Ascends (order (slice_cmp nat_cmp) fnv32_of 7) by_key.now }
-    ensures same { IfOk result (λ found. IsPermutation (flat_map (selected_of (W.wants_key wanted.now) selection) by_key.now) found.items) }
+    ensures same { IfOk result
+        (λ found. IsPermutation (flat_map (initial_of (W.wants_key wanted.now) start) by_key.now) found.items) }
     ensures sorted { IfOk result (λ found. IsSorted nat_cmp found.items) }
     ensures err { IfErr result (λ error. error ≡ OutOfMemory) }
 {
     let mut gather = Gather {
         wanted,
-        selection,
+        start,
         found: Vec::new(alloc),
     };
     by_key.each(&mut gather)?;
@@ -100,18 +100,19 @@ fn selected_revisions_of<W: Wanted>(
 }
 
 impl Version {
-    /// The revisions of the selected entries whose keys are wanted, in order. It looks at each key once, and sorts what
-    /// it takes of the wanted ones.
+    /// The revisions of the entries whose keys are wanted and that a watch with this start begins with, in order. It
+    /// looks at each key once, and sorts what it takes of the wanted ones.
     pub fn revisions_where<W: Wanted>(
         &self,
         alloc: Global,
         wanted: &W,
-        selection: Selection,
+        start: Start,
     ) -> Result<Vec<u64>, KvError>
         ensures ok { IfOk result (λ found. (acts : List Act) → StandsFor acts self.now →
-            found.items ≡ revisions (filter (λ w. W.wants_key wanted.now w.key) (selected self.now.config.history selection acts))) }
+            found.items ≡ revisions (filter
+            (λ w. W.wants_key wanted.now w.key) (initial self.now.config.history start acts))) }
         ensures err { IfErr result (λ error. error ≡ OutOfMemory) }
     {
-        selected_revisions_of(alloc, self.by_key(), wanted, selection)
+        selected_revisions_of(alloc, self.by_key(), wanted, start)
     }
 }

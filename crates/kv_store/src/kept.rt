@@ -1,10 +1,10 @@
 //! Which revisions of a key are kept after one more write.
 
 ghost use Rattle.std.specs.Prelude.{◌≡◌, ◌<◌, ◌∷◌, [], ◌++◌, IfOk};
-ghost use Rattle.kv_store.specs.Next.{next_kept};
-ghost use Rattle.kv_store.specs.Retained.{last_n};
+ghost use Rattle.kv_store.specs.inside.Next.{next_kept};
+ghost use Rattle.kv_model.specs.Retained.{last_n};
 
-use crate::write::Op;
+use kv_model::Op;
 use std::alloc::{AllocError, Global};
 
 // The last of these revisions and one more, as many as are kept.

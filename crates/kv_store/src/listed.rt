@@ -4,15 +4,14 @@ ghost use Rattle.std.specs.Prelude.{◌≡◌, List, map, IfOk, IfErr};
 ghost use Rattle.std.specs.List.{filter_map};
 ghost use Rattle.std.specs.Option.{option_copied};
 ghost use Rattle.kv_keys.specs.declared.error.KvError.TheVariants.{OutOfMemory};
-ghost use Rattle.kv_store.specs.Acts.{Act};
-ghost use Rattle.kv_store.specs.Reads.{keys_of};
-ghost use Rattle.kv_store.specs.Selected.{key_put};
+ghost use Rattle.kv_model.specs.Acts.{Act};
+ghost use Rattle.kv_model.specs.Reads.{keys_of};
+ghost use Rattle.kv_store.specs.inside.Selected.{key_put};
 ghost use Rattle.kv_store.specs.Standing.{StandsFor};
 
-use crate::selection::Selection;
 use crate::version::Version;
-use crate::write::Op;
 use kv_keys::{Filter, Key, KvError};
+use kv_model::{Op, Start};
 use std::alloc::Global;
 
 impl Version {
@@ -32,7 +31,8 @@ impl Version {
 
     // The keys of the puts among the writes of these revisions, in this order.
     fn keys_at(&self, alloc: Global, revisions: &[u64]) -> Result<Vec<&Key>, KvError>
-        ensures ok { IfOk result (λ found. map (λ k. k.now) found.items ≡ filter_map (λ r. key_put r self.now) revisions.now) }
+        ensures ok { IfOk result
+            (λ found. map (λ k. k.now) found.items ≡ filter_map (λ r. key_put r self.now) revisions.now) }
         ensures err { IfErr result (λ e. e ≡ OutOfMemory) }
     {
         let mut found = Vec::new(alloc);
@@ -47,10 +47,12 @@ impl Version {
     /// The keys that match and whose latest entry is a put, in the order of those puts' revisions. It looks at each
     /// key once, sorts the latest revisions of those that match, and looks up one write for each.
     pub fn keys(&self, alloc: Global, filter: &Filter) -> Result<Vec<&Key>, KvError>
-        ensures ok { IfOk result (λ found. (acts : List Act) → StandsFor acts self.now → map (λ k. k.now) found.items ≡ keys_of filter.now acts) }
+        ensures ok { IfOk result
+            (λ found. (acts : List Act) → StandsFor acts self.now →
+            map (λ k. k.now) found.items ≡ keys_of filter.now acts) }
         ensures err { IfErr result (λ e. e ≡ OutOfMemory) }
     {
-        let revisions = self.revisions_where(alloc, filter, Selection::Latest)?;
+        let revisions = self.revisions_where(alloc, filter, Start::Latest)?;
         self.keys_at(alloc, &revisions)
     }
 }

@@ -4,16 +4,15 @@ ghost use Rattle.std.specs.Prelude.{◌≡◌, ℕ, ◌==◌, List, [], unwrap_o
 ghost use Rattle.std.specs.List.{find, list_any};
 ghost use Rattle.std.specs.Option.{option_and_then, option_copied};
 ghost use Rattle.kv_keys.specs.declared.error.KvError.TheVariants.{KeyNotFound};
-ghost use Rattle.kv_store.specs.Acts.{Act};
-ghost use Rattle.kv_store.specs.Next.{kept_before};
-ghost use Rattle.kv_store.specs.Reads.{get_at_of, get_of, if_put, status_of};
-ghost use Rattle.kv_store.specs.Retained.{kept};
+ghost use Rattle.kv_model.specs.Acts.{Act};
+ghost use Rattle.kv_store.specs.inside.Next.{kept_before};
+ghost use Rattle.kv_model.specs.Reads.{get_at_of, get_of, if_put, status_of};
+ghost use Rattle.kv_model.specs.Retained.{kept};
 ghost use Rattle.kv_store.specs.Standing.{StandsFor};
 
-use crate::status::Status;
 use crate::version::Version;
-use crate::write::Write;
 use kv_keys::{Key, KvError};
+use kv_model::{Status, Write};
 
 fn if_put(write: Option<&Write>) -> Result<&Write, KvError>
     ensures { MatchResult result

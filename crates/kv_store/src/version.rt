@@ -6,24 +6,23 @@ ghost use Rattle.std.specs.Option.{option_copied};
 ghost use Rattle.std.specs.Str.{bytes_eq};
 ghost use Rattle.kv_keys.specs.Outcome.{Refuses};
 ghost use Rattle.kv_keys.specs.declared.error.KvError.TheVariants.{OutOfMemory};
-ghost use Rattle.kv_store.specs.Acts.{Act, Seal, is_sealed, writes_of};
-ghost use Rattle.kv_store.specs.Configuration.{configure};
-ghost use Rattle.kv_store.specs.Reads.{unless_empty, write_at_of};
-ghost use Rattle.kv_store.specs.Retained.{kept, revisions};
+ghost use Rattle.kv_model.specs.Acts.{Act, Seal, is_sealed, writes_of};
+ghost use Rattle.kv_model.specs.Configuration.{configure};
+ghost use Rattle.kv_model.specs.Reads.{unless_empty, write_at_of};
+ghost use Rattle.kv_model.specs.Retained.{kept, revisions};
 ghost use Rattle.kv_store.specs.Standing.{StandsFor};
 ghost use Rattle.kv_store.specs.Stored.{kept_at, write_at};
 
-use crate::config::Config;
 use crate::rev::Rev;
-use crate::write::Write;
 use kv_keys::{Key, KvError};
+use kv_model::{Config, Write};
 use kv_trie::Trie;
 use std::alloc::Global;
 use std::marker::Model;
 use std::sync::Arc;
 
-/// A version of a bucket. `apply` and `seal` make another one, which shares what both have, and leave this one as it is;
-/// `write` changes this one, and no other.
+/// A version of a bucket. `apply` and `seal` make another one, which shares what both have, and leave this one as it
+/// is; `write` changes this one, and no other.
 ///
 /// Contracts see what it stores, and say which lists of accepted acts that stands for.
 #[derive(Drop)]
@@ -45,8 +44,8 @@ impl Model for Version {
 
     ghost Value = { Stored };
 
-    ghost use Rattle.kv_store.specs.Bounds.{IsBounded};
-    ghost use Rattle.kv_store.specs.Inside.{stored_of};
+    ghost use Rattle.kv_store.specs.inside.Bounds.{IsBounded};
+    ghost use Rattle.kv_store.specs.inside.Fields.{stored_of};
 
     ghost view = { stored_of };
 
@@ -54,8 +53,8 @@ impl Model for Version {
 }
 
 impl Version {
-    ghost use Rattle.kv_store.specs.Bounds.{IsBounded};
-    ghost use Rattle.kv_store.specs.Inside.{kept_entries};
+    ghost use Rattle.kv_store.specs.inside.Bounds.{IsBounded};
+    ghost use Rattle.kv_store.specs.inside.Fields.{kept_entries};
 
     /// The version of a new bucket: no write, not sealed. The name is checked before the numbers, and both before any
     /// request for memory.
@@ -131,7 +130,8 @@ impl Version {
     /// The sealed version, which refuses writes. A version that is sealed already is so again.
     pub fn seal(&self, _alloc: Global) -> Result<Version, KvError>
         ensures ok { IfOk result (λ version. version ≡ record self.now { sealed = true }) }
-        ensures stands { IfOk result (λ version. (acts : List Act) → StandsFor acts self.now → StandsFor (acts ++ Seal ∷ []) version) }
+        ensures stands { IfOk result
+            (λ version. (acts : List Act) → StandsFor acts self.now → StandsFor (acts ++ Seal ∷ []) version) }
         ensures err { IfErr result (λ e. e ≡ OutOfMemory) }
     {
         self.share(true)
@@ -165,7 +165,8 @@ impl Version {
     pub fn by_key(&self) -> &Trie<Key, Vec<u64>>
         ensures value { kept_entries result.now ≡ self.now.by_key }
         ensures acts { (acts : List Act) → StandsFor acts self.now → (key : List ℕ) →
-            lookup (λ k. bytes_eq key k) (kept_entries result.now) ≡ unless_empty (revisions (kept self.now.config.history key acts)) }
+            lookup (λ k. bytes_eq key k) (kept_entries result.now)
+            ≡ unless_empty (revisions (kept self.now.config.history key acts)) }
     {
         &self.by_key
     }

@@ -7,14 +7,18 @@ use kv_keys::KvError;
 
 /// Something else that is to happen with a change of a map: both do, or neither.
 ///
-/// `done old new` says what its happening makes of it, and `kept old new` what a refusal leaves of it.
-pub trait Companion {
+/// `ready` says when it can, `done old new` what its happening makes of it, and `kept old new` what a refusal leaves of
+/// it.
+pub(crate) trait Companion {
+    ghost ready: { Self → Type 0 };
+
     ghost done: { Self → Self → Type 0 };
 
     ghost kept: { Self → Self → Type 0 };
 
     /// Lets it happen. It is called at most once, when the change itself can't be refused any more.
     fn commit(&mut self) -> Result<(), KvError>
+        requires { ready self.old }
         ensures done { OnOk result (done self.old self.new) }
         ensures kept { OnErr result (kept self.old self.new) }
         ensures err { IfErr result (λ error. error ≡ OutOfMemory) };
@@ -25,6 +29,8 @@ pub trait Companion {
 pub(crate) struct Alone;
 
 impl Companion for Alone {
+    ghost ready = { λ companion. Unit {0} };
+
     ghost done = { λ old new. Unit {0} };
 
     ghost kept = { λ old new. Unit {0} };

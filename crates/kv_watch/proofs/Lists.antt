@@ -1,5 +1,5 @@
 -- Lemmas on lists that std has not.
-use Rattle.std.proofs.Common.{◌≡◌, ℕ, suc, zero, ◌+◌, ◌-◌, List, [], ◌∷◌, ◌++◌, Option, Some, None, length, take, drop, refl, ap, arith}
+use Rattle.std.proofs.Common.{◌≡◌, ℕ, suc, zero, ◌+◌, ◌-◌, ◌≤◌, ◌↔◌, List, [], ◌∷◌, ◌++◌, Option, Some, None, length, take, drop, refl, ap, arith}
 use Rattle.std.specs.List.{slice_get, last_or}
 use Rattle.std.proofs.lemmas.List.{drop_all}
 use Rattle.std.proofs.lemmas.Option.{slice_get-get_or}
@@ -50,3 +50,11 @@ last_front (y ∷ z ∷ zs) x h =
 pub no_last : {X : Type 0} (xs : List X) → slice_get xs (length xs - 1) ≡ None → xs ≡ []
 no_last [] h = refl
 no_last (y ∷ ys) h = let there = slice_get-get_or (y ∷ ys) (length (y ∷ ys) - 1) y (omega arith) in cc
+
+-- nothing stands at a place exactly where it is the end
+pub none_at_end : {X : Type 0} (xs : List X) (n : ℕ) → n ≤ length xs → (slice_get xs n ≡ None) ↔ (n ≡ length xs)
+none_at_end [] n l = (λ h. omega (arith, l), λ e. refl)
+none_at_end (y ∷ ys) zero l = (λ h. cc, λ e. absurd (omega (arith, e)))
+none_at_end (y ∷ ys) (suc n) l =
+    let rest = none_at_end ys n (omega (arith, l)) in
+    (λ h. ap suc (rest.0 h), λ e. rest.1 (omega (arith, e)))

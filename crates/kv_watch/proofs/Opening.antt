@@ -3,18 +3,18 @@ use Rattle.std.proofs.Common.{◌≡◌, ℕ, suc, ◌+◌, ◌-◌, ◌≤◌, 
 use Rattle.std.specs.List.{Contains, last_or, cons_option}
 use Rattle.std.specs.Option.{option_map_or}
 use Rattle.std.proofs.lemmas.List.{drop-append-le, take-append-le}
-use Rattle.kv_store.specs.Acts.{Act, Write, IsPrefix, writes_of, is_put}
-use Rattle.kv_store.specs.Retained.{revisions}
+use Rattle.kv_model.specs.Acts.{Act, Write, IsPrefix, writes_of, is_put}
+use Rattle.kv_model.specs.Retained.{revisions}
 use Rattle.kv_store.specs.Standing.{StandsFor}
 use Rattle.kv_store.specs.Stored.{Stored, write_at}
-use Rattle.kv_store.proofs.Members.{Contains-here, Contains-there, Contains-from_filter}
-use Rattle.kv_store.proofs.Numbered.{writes_of-append}
-use Rattle.kv_watch.specs.declared.options.Options.{Options}
-use Rattle.kv_watch.specs.declared.options.Start.{Start}
+use Rattle.kv_model.proofs.Members.{Contains-here, Contains-there, Contains-from_filter}
+use Rattle.kv_model.proofs.Numbered.{writes_of-append}
+use Rattle.kv_model.specs.declared.options.Options.{Options}
+use Rattle.kv_model.specs.declared.options.Start.{Start}
 use Rattle.kv_watch.specs.Following.{Following, InPlace, marker_if, shown_behind, one_more, given_to, live_to}
-use Rattle.kv_watch.specs.Given.{AnEntry, entry_of, matching, all_shown, initial, ending, given, item_revisions}
-use Rattle.kv_watch.specs.Showing.{is_put_at}
-use Rattle.kv_watch.proofs.GivenLaws.{matching_initial, given-append, live-append, all_shown-matching-append, no_fewer_writes}
+use Rattle.kv_model.specs.Given.{AnEntry, entry_of, matching, all_shown, initial, ending, given, item_revisions}
+use Rattle.kv_watch.specs.inside.Showing.{is_put_at}
+use Rattle.kv_model.proofs.GivenLaws.{matching_initial, given-append, live-append, all_shown-matching-append, no_fewer_writes}
 use Rattle.kv_watch.proofs.Placing.{found_in, few_writes}
 use Rattle.kv_watch.proofs.Walks.{counts, behind_counted}
 

@@ -2,32 +2,33 @@
 use Rattle.std.proofs.Common.{◌≡◌, ℕ, suc, zero, ◌+◌, ◌-◌, ◌<◌, ◌≤◌, Bool, true, false, cond, ◌&&◌, not, nat_lt, List, [], ◌∷◌, ◌++◌, Option, Some, None, unwrap_or, Result, Ok, Err, ◌||◌, length, take, drop, filter, reverse, refl, sym, ap, ◌∙◌, subst, arith, length-append, length-drop, append_assoc, append-nil, add-one}
 use Rattle.std.specs.Prelude.{nat_le}
 use Rattle.std.specs.List.{Contains, slice_get, cons_option, last_or}
-use Rattle.std.specs.Option.{option_len}
+use Rattle.std.specs.Option.{option_len, option_map}
 use Rattle.std.proofs.lemmas.Bool.{and_parts, leb-true, leb-false}
 use Rattle.std.proofs.lemmas.List.{drop_all, reverse-append}
 use Rattle.std.proofs.lemmas.List.Elements.{filter_map-append}
 use Rattle.std.proofs.lemmas.Option.{slice_get-get_or, slice_get_within}
 use Rattle.kv_keys.specs.Matching.{any_matches}
 use Rattle.kv_keys.specs.declared.error.KvError.TheVariants.{ValueTooLarge, Sealed, JournalFull}
-use Rattle.kv_store.specs.Requests.{Asked, value_of}
-use Rattle.kv_store.specs.Acceptance.{LawfulFrom, accept, is_full, objection, next_write, unless}
-use Rattle.kv_store.specs.Acts.{Act, Wrote, Seal, Write, IsPrefix, writes_of, is_put, is_sealed, stored_writes}
-use Rattle.kv_store.specs.Configuration.{Configuration}
-use Rattle.kv_store.specs.Reads.{write_at_of}
+use Rattle.kv_model.specs.Requests.{Asked, value_of}
+use Rattle.kv_model.specs.Acceptance.{LawfulFrom, accept, is_full, objection, next_write, unless}
+use Rattle.kv_model.specs.Acts.{Act, Wrote, Seal, Write, IsPrefix, writes_of, is_put, is_sealed, stored_writes}
+use Rattle.kv_model.specs.Configuration.{Configuration}
+use Rattle.kv_model.specs.Reads.{write_at_of}
 use Rattle.kv_store.specs.Standing.{StandsFor}
 use Rattle.kv_store.specs.Stored.{Stored, write_at}
-use Rattle.kv_store.proofs.Members.{Contains-here, Contains-there, Contains-from_filter}
-use Rattle.kv_store.proofs.Numbered.{CountsFrom, find_counted, writes_of-wrote, writes_of-seal}
-use Rattle.kv_watch.specs.declared.options.Options.{Options}
-use Rattle.kv_watch.specs.declared.options.Start.{Start}
-use Rattle.kv_watch.specs.declared.options.Start.TheVariants.{Latest, History, Updates, From}
-use Rattle.kv_watch.specs.Following.{InPlace, marker_if, shown_behind, one_more, behind}
-use Rattle.kv_watch.specs.Given.{Item, AnEntry, EndMarker, Entry, entry_of, matching, all_shown, initial, ending, item_revisions, revision_of}
-use Rattle.kv_watch.specs.Showing.{is_shown}
+use Rattle.kv_model.proofs.Members.{Contains-here, Contains-there, Contains-from_filter}
+use Rattle.kv_model.proofs.Numbered.{CountsFrom, find_counted, writes_of-wrote, writes_of-seal}
+use Rattle.kv_model.specs.declared.event.Event.{Event}
+use Rattle.kv_model.specs.declared.options.Options.{Options}
+use Rattle.kv_model.specs.declared.options.Start.{Start}
+use Rattle.kv_model.specs.declared.options.Start.TheVariants.{Latest, History, Updates, From}
+use Rattle.kv_watch.specs.Following.{Following, InPlace, marker_if, shown_behind, one_more, behind}
+use Rattle.kv_model.specs.Given.{Item, AnEntry, EndMarker, Entry, entry_of, matching, all_shown, initial, ending, item_revisions, revision_of, event_of}
+use Rattle.kv_model.specs.Showing.{is_shown}
 use Rattle.kv_watch.specs.Taking.{entry_item}
-use Rattle.kv_watch.proofs.GivenLaws.{matching_initial}
+use Rattle.kv_model.proofs.GivenLaws.{matching_initial}
 use Rattle.kv_watch.proofs.Lists.{drop-append, head_of_drop, get_from_drop, rest_from_drop, take_push, last_or-push, last_front, no_last}
-use Rattle.kv_watch.proofs.Walks.{counts, revision_at, shown_front, hidden_front, behind_counted}
+use Rattle.kv_watch.proofs.Walks.{counts, drop_past, live_end, revision_at, shown_front, hidden_front, behind_counted}
 
 -- ---- items that are entries of stored writes
 
@@ -348,9 +349,14 @@ module _ (began acts : List Act) (base now : Stored) (filters : List (List ℕ))
         next = one_within e.revision (omega (arith, low, few_writes acts now at.now_stands)) ∙ add-one e.revision ∙ sym (ap suc (ap (λ o. unwrap_or o (length (writes_of began))) (ap (λ k. last_or None (item_revisions (take k lives))) more ∙ last)));
       }
 
+  -- the cursor behind an item, if there was one
+  abbrev moved : Option Item → Following → Following
+  moved None cursor = cursor
+  moved (Some x) cursor = behind (event_of x) cursor
+
   -- behind its next item a cursor is in place again
-  pub passed : (n : ℕ) (owed : List ℕ) (marker : Bool) (seen next handed : ℕ) (item : Option Item) → At n owed marker seen next handed → item ≡ slice_get all_given n
-      → InPlace began acts (n + option_len item) base now (behind item (record { filters = filters; options = options; owed = owed; marker = marker; seen = seen; next = next; handed = handed }))
+  passed : (n : ℕ) (owed : List ℕ) (marker : Bool) (seen next handed : ℕ) (item : Option Item) → At n owed marker seen next handed → item ≡ slice_get all_given n
+      → InPlace began acts (n + option_len item) base now (moved item (record { filters = filters; options = options; owed = owed; marker = marker; seen = seen; next = next; handed = handed }))
   passed n owed marker seen next handed None at e = let same : n + 0 ≡ n = omega arith in rw same at
   passed n (r ∷ rs) marker seen next handed (Some (AnEntry entry)) at e = behind_owed n r rs marker seen next handed at
   passed n (r ∷ rs) marker seen next handed (Some EndMarker) at e = let there = (next_owed n r rs marker seen next handed at).2 in cc
@@ -359,10 +365,68 @@ module _ (began acts : List Act) (base now : Stored) (filters : List (List ℕ))
   passed n [] false seen next handed (Some item) at e = live_case item (shown_behind seen acts filters options) refl (e ∙ next_live_item n seen next handed at)
     where
       live_case : (x : Item) (xs : List Item) → shown_behind seen acts filters options ≡ xs → Some x ≡ slice_get xs 0
-          → InPlace began acts (n + 1) base now (behind (Some x) (record { filters = filters; options = options; owed = []; marker = false; seen = seen; next = next; handed = handed }))
+          → InPlace began acts (n + 1) base now (moved (Some x) (record { filters = filters; options = options; owed = []; marker = false; seen = seen; next = next; handed = handed }))
       live_case x [] shown f = cc
       live_case (AnEntry entry) (y ∷ ys) shown f = let same : AnEntry entry ≡ y = cc in behind_live n seen next handed entry ys at (shown ∙ ap (λ z. z ∷ ys) (sym same))
       live_case EndMarker (y ∷ ys) shown f =
           let same : EndMarker ≡ y = cc in
           let found = next_shown acts now at.now_stands filters options seen y ys shown in
           let clash : EndMarker ≡ AnEntry (entry_of options.headers_only found.0) = same ∙ found.1 in cc
+
+  -- the same by the event of that item
+  pub passed_event : (n : ℕ) (owed : List ℕ) (marker : Bool) (seen next handed : ℕ) (item : Option Item) (event : Event) → At n owed marker seen next handed → item ≡ slice_get all_given n
+      → option_map event_of item ≡ Some event
+      → InPlace began acts (n + option_len item) base now (behind event (record { filters = filters; options = options; owed = owed; marker = marker; seen = seen; next = next; handed = handed }))
+  passed_event n owed marker seen next handed None event at e f = cc
+  passed_event n owed marker seen next handed (Some x) event at e f =
+      let same : event_of x ≡ event = cc in
+      subst (λ v. InPlace began acts (n + 1) base now (behind v (record { filters = filters; options = options; owed = owed; marker = marker; seen = seen; next = next; handed = handed }))) same
+      (passed n owed marker seen next handed (Some x) at e)
+
+  -- the same where only the event is known
+  pub passed_by : (n : ℕ) (owed : List ℕ) (marker : Bool) (seen next handed : ℕ) (event : Event) → At n owed marker seen next handed → Some event ≡ option_map event_of (slice_get all_given n)
+      → InPlace began acts (n + 1) base now (behind event (record { filters = filters; options = options; owed = owed; marker = marker; seen = seen; next = next; handed = handed }))
+  passed_by n owed marker seen next handed event at e = by_item (slice_get all_given n) refl (sym e)
+    where
+      by_item : (item : Option Item) → item ≡ slice_get all_given n → option_map event_of item ≡ Some event
+          → InPlace began acts (n + 1) base now (behind event (record { filters = filters; options = options; owed = owed; marker = marker; seen = seen; next = next; handed = handed }))
+      by_item None there f = cc
+      by_item (Some x) there f = passed_event n owed marker seen next handed (Some x) event at there f
+
+  -- where there is no next item all live writes were looked at
+  looked : (n : ℕ) (owed : List ℕ) (marker : Bool) (seen next handed : ℕ) → At n owed marker seen next handed → slice_get all_given n ≡ None → At n owed marker now.last next handed
+  looked n owed marker seen next handed at e =
+      let rest = drop n initials ++ (marker_if marker ++ shown_behind seen acts filters options) in
+      let over : [] ≡ rest = sym (drop_past all_given n e) ∙ whole n owed marker seen next handed at in
+      let none : shown_behind seen acts filters options ≡ [] = drop_all_of (shown_behind seen acts filters options) (omega (
+        arith,
+        ap length over,
+        length-append (drop n initials) (marker_if marker ++ shown_behind seen acts filters options),
+        length-append (marker_if marker) (shown_behind seen acts filters options),
+      )) in
+      record {
+        base_stands = at.base_stands;
+        now_stands = at.now_stands;
+        same_config = at.same_config;
+        prefix = at.prefix;
+        handed = at.handed;
+        taken = at.taken;
+        owed = at.owed;
+        marker = at.marker;
+        left = live_end acts now at.now_stands filters options now.last (omega (arith, at.now_stands.last)) ∙ sym none ∙ at.left;
+        seen = omega (arith, at.now_stands.last);
+        next = at.next;
+      }
+    where
+      drop_all_of : (xs : List Item) → length xs ≡ 0 → xs ≡ []
+      drop_all_of [] l = refl
+      drop_all_of (x ∷ xs) l = cc
+
+  pub looked_by : (n : ℕ) (owed : List ℕ) (marker : Bool) (seen next handed : ℕ) → At n owed marker seen next handed → None ≡ option_map event_of (slice_get all_given n) → At (n + 0) owed marker now.last next handed
+  looked_by n owed marker seen next handed at e =
+      let same : n + 0 ≡ n = omega arith in
+      rw same (looked n owed marker seen next handed at (no_event (slice_get all_given n) e))
+    where
+      no_event : (item : Option Item) → None ≡ option_map event_of item → item ≡ None
+      no_event None e = refl
+      no_event (Some x) e = cc

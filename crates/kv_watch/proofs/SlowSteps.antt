@@ -6,18 +6,19 @@ use Rattle.std.specs.Str.{bytes_eq}
 use Rattle.std.proofs.lemmas.List.{drop_more, take_more, map-append, take-map, drop-map, length-map}
 use Rattle.std.proofs.lemmas.List.Elements.{filter-append}
 use Rattle.kv_keys.specs.Matching.{any_matches}
-use Rattle.kv_store.specs.Acts.{Act, Write, Wrote, writes_of, is_put, is_purge}
-use Rattle.kv_store.specs.Retained.{writes_of_key, last_write, since_purge, revisions}
-use Rattle.kv_watch.specs.declared.event.Event.{Event}
-use Rattle.kv_watch.specs.declared.event.Event.TheVariants as events
-use Rattle.kv_watch.specs.declared.options.Options.{Options}
-use Rattle.kv_watch.specs.Given.{AnEntry, matching, all_shown, entry_of, initial, ending, given, event_of}
-use Rattle.kv_watch.specs.Listing.{revisions_after}
-use Rattle.kv_watch.specs.Showing.{events_where, is_initial, is_shown, wrote_all}
-use Rattle.kv_store.proofs.Keeping.{since_purge-push}
-use Rattle.kv_store.proofs.Members.{filter-filter}
-use Rattle.kv_store.proofs.Numbered.{writes_of-append}
-use Rattle.kv_watch.proofs.GivenLaws.{initial_selects}
+use Rattle.kv_model.specs.Acts.{Act, Write, Wrote, writes_of, is_put, is_purge}
+use Rattle.kv_model.specs.Retained.{writes_of_key, last_write, since_purge, revisions}
+use Rattle.kv_model.specs.declared.event.Event.{Event}
+use Rattle.kv_model.specs.declared.event.Event.TheVariants as events
+use Rattle.kv_model.specs.declared.options.Options.{Options}
+use Rattle.kv_model.specs.Given.{AnEntry, matching, all_shown, entry_of, initial, ending, given, event_of}
+use Rattle.kv_watch.specs.inside.Listing.{revisions_after}
+use Rattle.kv_model.specs.Showing.{is_initial, is_shown}
+use Rattle.kv_watch.specs.inside.Showing.{events_where, wrote_all}
+use Rattle.kv_model.proofs.Keeping.{since_purge-push}
+use Rattle.kv_model.proofs.Members.{filter-filter}
+use Rattle.kv_model.proofs.Numbered.{writes_of-append}
+use Rattle.kv_model.proofs.GivenLaws.{initial_selects}
 use Rattle.kv_watch.proofs.Lists.{last_or-push}
 
 -- the writes behind the references

@@ -4,15 +4,15 @@ use Rattle.std.specs.Prelude.{nat_lt}
 use Rattle.std.specs.List.{slice_get}
 use Rattle.std.proofs.lemmas.Bool.{ltb-true, ltb-false}
 use Rattle.std.proofs.lemmas.List.{drop_all}
-use Rattle.kv_store.specs.Acts.{Act, Write, writes_of}
-use Rattle.kv_store.specs.Reads.{write_at_of}
+use Rattle.kv_model.specs.Acts.{Act, Write, writes_of}
+use Rattle.kv_model.specs.Reads.{write_at_of}
 use Rattle.kv_store.specs.Standing.{StandsFor}
 use Rattle.kv_store.specs.Stored.{Stored}
-use Rattle.kv_store.proofs.Numbered.{CountsFrom, counts_from_lawful, write_at_counted}
-use Rattle.kv_watch.specs.declared.options.Options.{Options}
+use Rattle.kv_model.proofs.Numbered.{CountsFrom, counts_from_lawful, write_at_counted}
+use Rattle.kv_model.specs.declared.options.Options.{Options}
 use Rattle.kv_watch.specs.Following.{shown_behind}
-use Rattle.kv_watch.specs.Given.{AnEntry, entry_of, matching, all_shown}
-use Rattle.kv_watch.specs.Showing.{is_shown}
+use Rattle.kv_model.specs.Given.{AnEntry, entry_of, matching, all_shown}
+use Rattle.kv_model.specs.Showing.{is_shown}
 
 -- of writes that count from m + 1 on, those behind revision k
 behind_from : (k m : ℕ) (ws : List Write) → CountsFrom (suc m) ws → filter (λ w. nat_lt k w.revision) ws ≡ drop (k - m) ws

@@ -1,11 +1,13 @@
 -- Where a cursor stands in what its watch is given.
-use Rattle.std.specs.Prelude.{◌≡◌, ℕ, suc, ◌+◌, ◌-◌, ◌^◌, ◌≤◌, Bool, true, false, nat_lt, min, List, [], ◌∷◌, length, drop, filter, take, Option, Some, None, unwrap_or}
+use Rattle.std.specs.Prelude.{◌≡◌, ℕ, suc, ◌+◌, ◌-◌, ◌^◌, ◌≤◌, Bool, true, false, nat_lt, min, List, [], ◌∷◌, length, drop, filter, take, None, unwrap_or}
 use Rattle.std.specs.List.{last_or}
-use Rattle.kv_store.specs.Acts.{Act, IsPrefix, writes_of}
+use Rattle.kv_model.specs.Acts.{Act, IsPrefix, writes_of}
 use Rattle.kv_store.specs.Standing.{StandsFor}
 use Rattle.kv_store.specs.Stored.{Stored}
-use Rattle.kv_watch.specs.declared.options.Options.{Options}
-use Rattle.kv_watch.specs.Given.{Item, AnEntry, EndMarker, matching, all_shown, initial, ending, given, item_revisions}
+use Rattle.kv_model.specs.declared.event.Event.{Event}
+use Rattle.kv_model.specs.declared.event.Event.TheVariants as events
+use Rattle.kv_model.specs.declared.options.Options.{Options}
+use Rattle.kv_model.specs.Given.{Item, EndMarker, matching, all_shown, initial, ending, given, item_revisions}
 
 -- what a cursor keeps: which initial entries it still owes, by their revisions, and whether it owes the end marker; up to which revision it has looked at live writes; one more than the revision of the last live entry that it handed out; and how many items it handed out
 pub record Following : Type 0 where
@@ -33,6 +35,10 @@ live_to began acts cursor = all_shown cursor.options (matching cursor.filters (d
 abbrev pub live_count : ℕ → List Act → ℕ → Following → ℕ
 live_count h began n cursor = n - length (initial_to h began cursor) - length (ending cursor.options.start)
 
+-- one more than the revision of the last live entry among the first n items; where there is none, one more than the last revision of the beginning
+abbrev pub next_behind : ℕ → List Act → List Act → ℕ → Following → ℕ
+next_behind h began acts n cursor = suc (unwrap_or (last_or None (item_revisions (take (live_count h began n cursor) (live_to began acts cursor)))) (length (writes_of began)))
+
 -- the end marker, if it is owed
 abbrev pub marker_if : Bool → List Item
 marker_if true = EndMarker ∷ []
@@ -54,7 +60,7 @@ pub record InPlace (began acts : List Act) (n : ℕ) (base now : Stored) (cursor
   pub marker : marker_if cursor.marker ≡ drop (n - length (initial_to base.config.history began cursor)) (ending cursor.options.start)
   pub left : shown_behind cursor.seen acts cursor.filters cursor.options ≡ drop (live_count base.config.history began n cursor) (live_to began acts cursor)
   pub seen : cursor.seen ≤ length (writes_of acts)
-  pub next : cursor.next ≡ suc (unwrap_or (last_or None (item_revisions (take (live_count base.config.history began n cursor) (live_to began acts cursor)))) (length (writes_of began)))
+  pub next : cursor.next ≡ next_behind base.config.history began acts n cursor
 
 -- one more, within 64 bits
 abbrev pub one_more : ℕ → ℕ
@@ -65,8 +71,7 @@ abbrev pub behind_entry : ℕ → List ℕ → Following → Following
 behind_entry revision (r ∷ owed) cursor = record cursor { owed = owed; handed = one_more cursor.handed }
 behind_entry revision [] cursor = record cursor { seen = revision; next = one_more revision; handed = one_more cursor.handed }
 
--- a cursor behind the item that was its next one, if there was one
-abbrev pub behind : Option Item → Following → Following
-behind None cursor = cursor
-behind (Some EndMarker) cursor = record cursor { marker = false; handed = one_more cursor.handed }
-behind (Some (AnEntry entry)) cursor = behind_entry entry.revision cursor.owed cursor
+-- a cursor behind the item that was its next one, of which this is the event
+abbrev pub behind : Event → Following → Following
+behind events.Marker cursor = record cursor { marker = false; handed = one_more cursor.handed }
+behind (events.Entry revision) cursor = behind_entry revision cursor.owed cursor

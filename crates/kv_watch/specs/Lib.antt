@@ -1,6 +1,3 @@
-pub mod Flags
 pub mod Following
-pub mod Given
-pub mod Listing
-pub mod Showing
 pub mod Taking
+pub mod inside

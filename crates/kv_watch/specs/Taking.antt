@@ -1,10 +1,10 @@
 -- What a take hands out, as an item of what the watch is given.
 use Rattle.std.specs.Prelude.{Bool, Option, Some, None}
-use Rattle.kv_store.specs.Acts.{Write}
+use Rattle.kv_model.specs.Acts.{Write}
 use Rattle.kv_watch.specs.declared.shown.Shown.{Shown}
 use Rattle.kv_watch.specs.declared.taken.Taken.{Taken}
 use Rattle.kv_watch.specs.declared.taken.Taken.TheVariants as taken
-use Rattle.kv_watch.specs.Given.{Entry, Item, AnEntry, EndMarker, entry_of}
+use Rattle.kv_model.specs.Given.{Entry, Item, AnEntry, EndMarker, entry_of}
 
 -- the entry that is lent of a write
 abbrev pub entry_shown : Shown → Entry

@@ -1,21 +1,20 @@
-//! What a watch is given, computed slowly from all the writes, for audits: the function `given`. The module has the name of
-//! its use, since a module and a function beside it may not share one.
+//! What a watch is given, computed slowly from all the writes, for audits: the function `given`. The module has the
+//! name of its use, since a module and a function beside it may not share one.
 
 ghost use Rattle.std.specs.Prelude.{◌≡◌, ◌==◌, ◌++◌, ◌≤◌, ◌&&◌, IfOk, IfErr, OnOk, [], ◌∷◌, length, map, take};
-ghost use Rattle.kv_store.specs.Acts.{is_purge};
-ghost use Rattle.kv_store.specs.Retained.{is_kept, is_latest, kept, last_n, last_write, revisions};
-ghost use Rattle.kv_watch.specs.Given.{ending, event_of, given};
-ghost use Rattle.kv_watch.specs.Listing.{revisions_after};
-ghost use Rattle.kv_watch.specs.Showing.{events_where, is_initial, is_shown, wrote_all};
+ghost use Rattle.kv_model.specs.Acts.{is_purge};
+ghost use Rattle.kv_model.specs.Retained.{is_kept, is_latest, kept, last_n, last_write, revisions};
+ghost use Rattle.kv_model.specs.Given.{ending, event_of, given};
+ghost use Rattle.kv_watch.specs.inside.Listing.{revisions_after};
+ghost use Rattle.kv_model.specs.Showing.{is_initial, is_shown};
+ghost use Rattle.kv_watch.specs.inside.Showing.{events_where, wrote_all};
 ghost use Rattle.std.specs.List.{list_any};
 ghost use Rattle.std.specs.Option.{option_copied};
 ghost use Rattle.kv_keys.specs.declared.error.KvError.TheVariants.{OutOfMemory};
 
-use crate::event::Event;
-use crate::options::{Options, Start};
 use crate::shown::is_shown;
 use kv_keys::{Filters, Key, KvError};
-use kv_store::{Op, Write};
+use kv_model::{Event, Op, Options, Start, Write};
 use std::alloc::{AllocError, Global};
 
 /// What a watch is given that began behind the first `base` of the writes, once there are the first `end`: for audits.
@@ -52,7 +51,9 @@ fn listed(
     options: Options,
 ) -> Result<Vec<Event>, AllocError>
     ensures { IfOk result (λ events. events.items
-        ≡ events_where (λ w. is_initial history options.start (wrote_all began.now) w && is_shown filters.now options w) (map (λ w. w.now) began.now)
+        ≡ events_where
+        (λ w. is_initial history options.start (wrote_all began.now) w && is_shown filters.now options w) (map
+        (λ w. w.now) began.now)
         ++ map event_of (ending options.start)
         ++ events_where (is_shown filters.now options) (map (λ w. w.now) live.now)) }
 {
@@ -82,7 +83,9 @@ fn push_initial(
     options: Options,
 ) -> Result<(), AllocError>
     ensures { OnOk result (events.new.items ≡ events.old.items
-        ++ events_where (λ w. is_initial history options.start (wrote_all began.now) w && is_shown filters.now options w) (map (λ w. w.now) began.now)) }
+        ++ events_where
+        (λ w. is_initial history options.start (wrote_all began.now) w && is_shown filters.now options w) (map
+        (λ w. w.now) began.now)) }
 {
     for write in began {
         push_begun(alloc, events, began, history, write, filters, options)?;
@@ -115,7 +118,8 @@ fn push_begun(
     options: Options,
 ) -> Result<(), AllocError>
     ensures { OnOk result (events.new.items ≡ events.old.items
-        ++ events_where (λ w. is_initial history options.start (wrote_all began.now) w && is_shown filters.now options w) (write.now ∷ [])) }
+        ++ events_where
+        (λ w. is_initial history options.start (wrote_all began.now) w && is_shown filters.now options w) (write.now ∷ [])) }
 {
     if begins(alloc, began, history, options.start, write)? {
         push_shown(events, write, filters, options)?;
@@ -129,7 +133,8 @@ fn push_shown(
     filters: &Filters,
     options: Options,
 ) -> Result<(), AllocError>
-    ensures { OnOk result (events.new.items ≡ events.old.items ++ events_where (is_shown filters.now options) (write.now ∷ [])) }
+    ensures { OnOk result (events.new.items
+        ≡ events.old.items ++ events_where (is_shown filters.now options) (write.now ∷ [])) }
 {
     if is_shown(filters, options, write) {
         events.push(Event::Entry {

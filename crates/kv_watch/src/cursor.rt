@@ -1,30 +1,31 @@
 //! Cursors: how far a watch has come in what it is given.
 
 ghost use Rattle.std.specs.Prelude.{◌≡◌, ℕ, ◌+◌, ◌↔◌, List, None, IfOk, IfErr, length, slice_get, IsNone};
-ghost use Rattle.std.specs.Option.{option_len};
+ghost use Rattle.std.specs.Option.{option_len, option_map};
 ghost use Rattle.kv_keys.specs.declared.error.KvError.TheVariants.{OutOfMemory};
-ghost use Rattle.kv_store.specs.Acts.{Act};
+ghost use Rattle.kv_model.specs.Acts.{Act};
 ghost use Rattle.kv_store.specs.Standing.{StandsFor};
 ghost use Rattle.kv_store.specs.Stored.{Stored, write_at};
-ghost use Rattle.kv_watch.specs.Following.{given_to, behind, InPlace};
+ghost use Rattle.kv_watch.specs.Following.{given_to, behind, next_behind, InPlace};
+ghost use Rattle.kv_model.specs.Given.{event_of};
 ghost use Rattle.kv_watch.specs.Taking.{entry_item, item_taken};
 
 use crate::live::{next_live, settled};
-use crate::options::Options;
 use crate::owed::{owed_at_opening, owes_marker};
 use crate::shown::Shown;
 use crate::taken::Taken;
 use kv_keys::{Filters, KvError};
+use kv_model::{Event, Options};
 use kv_store::Version;
 use std::alloc::Global;
 use std::marker::Model;
 
-/// How far a watch has come in what it is given. It keeps no version: each call is handed the one that it was opened on and
-/// the present one, and is exact where the cursor is in place for these two. It is so at its opening, stays so behind each
-/// item, and for every later version of the bucket (see `laws::in_place_later`).
+/// How far a watch has come in what it is given. It keeps no version: each call is handed the one that it was opened on
+/// and the present one, and is exact where the cursor is in place for these two. It is so at its opening, stays so
+/// behind each item, and for every later version of the bucket (see `laws::in_place_later`).
 ///
-/// It owes its initial entries as a list of revisions, made when it is opened: a take of one is a single look-up. Of live
-/// writes it remembers how far it has looked.
+/// It owes its initial entries as a list of revisions, made when it is opened: a take of one is a single look-up. Of
+/// live writes it remembers how far it has looked.
 #[derive(Drop)]
 pub struct Cursor {
     filters: Filters,
@@ -55,8 +56,8 @@ impl Model for Cursor {
 }
 
 impl Cursor {
-    /// A cursor before the first item of a watch that begins at this version. It costs the keys, which are looked at once,
-    /// and what it will hand out.
+    /// A cursor before the first item of a watch that begins at this version. It costs the keys, which are looked at
+    /// once, and what it will hand out.
     pub fn open(
         alloc: Global,
         base: &Version,
@@ -100,8 +101,8 @@ impl Cursor {
         }
     }
 
-    /// Hands out the next item, lent from the versions, and moves on behind it. Where there is none it is `Empty`, and the
-    /// cursor stays as it is.
+    /// Hands out the next item, lent from the versions, and moves on behind it. Where there is none it is `Empty`, and
+    /// the cursor stays as it is.
     pub fn take<'a>(&mut self, base: &'a Version, now: &'a Version) -> Taken<'a>
         ensures filters { self.new.filters ≡ self.old.filters }
         ensures options { self.new.options ≡ self.old.options }
@@ -116,33 +117,55 @@ impl Cursor {
         ensures none { item_taken result ≡ None → self.new ≡ self.old }
     {
         let taken = self.peek(base, now);
-        self.pass(&taken);
+        if let Some(event) = taken.event() {
+            self.step(event);
+        }
         taken
     }
 
-    // Moves on behind the item that was the next one. No bucket has so many writes that a number would end: the sums stop
-    // there so that they need no condition.
-    fn pass(&mut self, taken: &Taken)
-        ensures { self.new ≡ behind (item_taken taken.now) self.old }
+    // Moves on behind the item that was the next one. No bucket has so many writes that a number would end: the sums
+    // stop there so that they need no condition.
+    fn step(&mut self, next: Event)
+        ensures { self.new ≡ behind next self.old }
     {
-        match taken {
-            Taken::Empty => return,
-            Taken::Marker => self.marker = false,
-            Taken::Entry(shown) => {
+        match next {
+            Event::Marker => self.marker = false,
+            Event::Entry { revision } => {
                 if self.owed.pop().is_none() {
-                    self.seen = shown.revision();
-                    self.next = shown.revision().saturating_add(1);
+                    self.seen = revision;
+                    self.next = revision.saturating_add(1);
                 }
             }
         }
         self.handed = self.handed.saturating_add(1);
     }
 
-    /// Notes that all live writes were looked at, where `take` would hand out nothing. No later answer changes by it: later
-    /// takes begin behind those writes.
+    /// Moves on behind the item that `peek` showed, and doesn't look it up again. Where it showed none all live writes
+    /// were looked at, which it notes: later takes begin behind those writes.
+    ///
+    /// So what is shown can be copied first, and an item is lost by no want of memory: peek, copy, and then pass.
+    pub fn pass(&mut self, peeked: Option<Event>, now: &Version)
+        ensures filters { self.new.filters ≡ self.old.filters }
+        ensures options { self.new.options ≡ self.old.options }
+        // Where it is the next item that was peeked, the cursor is in place behind it.
+        ensures in_place { (n : ℕ) (began acts : List Act) (base : Stored) →
+            InPlace began acts n base now.now self.old →
+            peeked ≡ option_map event_of (slice_get (given_to base.config.history began acts self.old) n) →
+            InPlace began acts (n + option_len peeked) base now.now self.new }
+        ensures none { peeked ≡ None → self.new ≡ record self.old { seen = now.now.last } }
+    {
+        match peeked {
+            Some(event) => self.step(event),
+            None => self.seen = now.revision(),
+        }
+    }
+
+    /// Notes that all live writes were looked at, where `take` would hand out nothing. No later answer changes by it:
+    /// later takes begin behind those writes.
     pub fn settle(&mut self, now: &Version)
         ensures same { self.new ≡ record self.old { seen = self.new.seen } }
-        ensures in_place { (n : ℕ) (began acts : List Act) (base : Stored) → InPlace began acts n base now.now self.old →
+        ensures in_place { (n : ℕ) (began acts : List Act) (base : Stored) →
+            InPlace began acts n base now.now self.old →
             InPlace began acts n base now.now self.new }
         ensures looked { (n : ℕ) (began acts : List Act) (base : Stored) → InPlace began acts n base now.now self.old →
             n ≡ length (given_to base.config.history began acts self.old) → self.new.seen ≡ now.now.last }
@@ -150,6 +173,26 @@ impl Cursor {
         if self.owed.is_empty() && !self.marker {
             self.seen = settled(now, &self.filters, self.options, self.seen);
         }
+    }
+
+    /// As `take` does. Where there is none it notes how far it looked, as `settle` does, so that what was looked at in
+    /// vain is not looked at again. It looks once.
+    pub fn take_settled<'a>(&mut self, base: &'a Version, now: &'a Version) -> Taken<'a>
+        ensures filters { self.new.filters ≡ self.old.filters }
+        ensures options { self.new.options ≡ self.old.options }
+        ensures next { (n : ℕ) (began acts : List Act) → InPlace began acts n base.now now.now self.old →
+            item_taken result ≡ slice_get (given_to base.now.config.history began acts self.old) n }
+        ensures in_place { (n : ℕ) (began acts : List Act) → InPlace began acts n base.now now.now self.old →
+            InPlace began acts (n + option_len (item_taken result)) base.now now.now self.new }
+        // Where there was none, nothing but how far it has looked changes, and it has looked at all.
+        ensures none { item_taken result ≡ None → self.new ≡ record self.old { seen = self.new.seen } }
+        ensures looked { item_taken result ≡ None → (n : ℕ) (began acts : List Act) →
+            InPlace began acts n base.now now.now self.old →
+            self.new.seen ≡ now.now.last }
+    {
+        let taken = self.peek(base, now);
+        self.pass(taken.event(), now);
+        taken
     }
 
     /// What its watch begins with, and how it shows writes.
@@ -162,15 +205,18 @@ impl Cursor {
     /// How many items were handed out, the end marker counted.
     pub fn handed(&self) -> u64
         ensures value { result ≡ self.now.handed }
-        ensures given { (n : ℕ) (began acts : List Act) (base now : Stored) → InPlace began acts n base now self.now → result ≡ n }
+        ensures given { (n : ℕ) (began acts : List Act) (base now : Stored) → InPlace began acts n base now self.now →
+            result ≡ n }
     {
         self.handed
     }
 
-    /// One more than the revision of the last live entry that was handed out; where there was none, one more than the last
-    /// revision at the opening.
+    /// One more than the revision of the last live entry that was handed out; where there was none, one more than the
+    /// last revision at the opening.
     pub fn next(&self) -> u64
-        ensures { result ≡ self.now.next }
+        ensures value { result ≡ self.now.next }
+        ensures given { (n : ℕ) (began acts : List Act) (base now : Stored) → InPlace began acts n base now self.now →
+            result ≡ next_behind base.config.history began acts n self.now }
     {
         self.next
     }

@@ -3,17 +3,13 @@
 
 mod audit;
 mod cursor;
-mod event;
 pub mod laws;
 mod live;
-mod options;
 mod owed;
 mod shown;
 mod taken;
 
 pub use audit::given;
 pub use cursor::Cursor;
-pub use event::Event;
-pub use options::{Options, Start};
 pub use shown::Shown;
 pub use taken::Taken;

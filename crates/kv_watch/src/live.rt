@@ -1,18 +1,18 @@
 //! The live writes of a watch: those behind its beginning.
 
 ghost use Rattle.std.specs.Prelude.{◌≡◌, ◌≤◌, List, [], ◌∷◌, length, MatchOption};
-ghost use Rattle.kv_store.specs.Acts.{Act, writes_of};
+ghost use Rattle.kv_model.specs.Acts.{Act, writes_of};
 ghost use Rattle.kv_store.specs.Standing.{StandsFor};
 ghost use Rattle.kv_watch.specs.Following.{shown_behind};
-ghost use Rattle.kv_watch.specs.Given.{AnEntry, entry_of};
+ghost use Rattle.kv_model.specs.Given.{AnEntry, entry_of};
 
-use crate::options::Options;
 use crate::shown::is_shown;
 use kv_keys::Filters;
-use kv_store::{Version, Write};
+use kv_model::{Options, Write};
+use kv_store::Version;
 
-/// The first write behind a revision that a watch with these filters and options shows. It looks at each write up to that
-/// one.
+/// The first write behind a revision that a watch with these filters and options shows. It looks at each write up to
+/// that one.
 pub(crate) fn next_live<'a>(
     now: &'a Version,
     filters: &Filters,

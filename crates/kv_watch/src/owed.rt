@@ -3,21 +3,21 @@
 ghost use Rattle.std.specs.Prelude.{◌≡◌, false, List, filter, reverse, IfOk, IfErr};
 ghost use Rattle.std.specs.Option.{option_map_or};
 ghost use Rattle.kv_keys.specs.declared.error.KvError.TheVariants.{OutOfMemory};
-ghost use Rattle.kv_store.specs.Acts.{Act};
-ghost use Rattle.kv_store.specs.Retained.{revisions};
+ghost use Rattle.kv_model.specs.Acts.{Act};
+ghost use Rattle.kv_model.specs.Retained.{revisions};
 ghost use Rattle.kv_store.specs.Standing.{StandsFor};
 ghost use Rattle.kv_watch.specs.Following.{marker_if};
-ghost use Rattle.kv_watch.specs.Given.{all_shown, ending, initial, item_revisions, matching};
-ghost use Rattle.kv_watch.specs.Showing.{is_put_at};
+ghost use Rattle.kv_model.specs.Given.{all_shown, ending, initial, item_revisions, matching};
+ghost use Rattle.kv_watch.specs.inside.Showing.{is_put_at};
 
-use crate::options::{Options, Start};
 use crate::shown::is_put;
 use kv_keys::{Filters, KvError};
-use kv_store::{Selection, Version};
+use kv_model::{Options, Start};
+use kv_store::Version;
 use std::alloc::Global;
 
-/// The revisions of the entries that a watch begins with, the first one last. It looks at each key once, and where deletes
-/// are ignored at each write that is found.
+/// The revisions of the entries that a watch begins with, the first one last. It looks at each key once, and where
+/// deletes are ignored at each write that is found.
 pub(crate) fn owed_at_opening(
     alloc: Global,
     base: &Version,
@@ -25,7 +25,8 @@ pub(crate) fn owed_at_opening(
     options: Options,
 ) -> Result<Vec<u64>, KvError>
     ensures ok { IfOk result (λ owed. (acts : List Act) → StandsFor acts base.now →
-        reverse owed.items ≡ item_revisions (all_shown options (matching filters.now (initial base.now.config.history options.start acts)))) }
+        reverse owed.items
+        ≡ item_revisions (all_shown options (matching filters.now (initial base.now.config.history options.start acts)))) }
     ensures err { IfErr result (λ e. e ≡ OutOfMemory) }
 {
     let mut owed = initial_revisions(alloc, base, filters, options.start)?;
@@ -60,10 +61,10 @@ fn initial_revisions(
     ensures err { IfErr result (λ e. e ≡ OutOfMemory) }
 {
     match start {
-        Start::Latest => base.revisions_where(alloc, filters, Selection::Latest),
-        Start::History => base.revisions_where(alloc, filters, Selection::Retained),
+        Start::Latest | Start::History | Start::From(_) => {
+            base.revisions_where(alloc, filters, start)
+        }
         Start::Updates => Ok(Vec::new(alloc)),
-        Start::From(revision) => base.revisions_where(alloc, filters, Selection::From(revision)),
     }
 }
 

@@ -2,19 +2,18 @@
 
 ghost use Rattle.std.specs.Prelude.{◌≡◌};
 ghost use Rattle.std.specs.Option.{option_copied};
-ghost use Rattle.kv_store.specs.Acts.{is_put};
-ghost use Rattle.kv_watch.specs.Given.{entry_of};
-ghost use Rattle.kv_watch.specs.Showing.{is_shown};
+ghost use Rattle.kv_model.specs.Acts.{is_put};
+ghost use Rattle.kv_model.specs.Given.{entry_of};
+ghost use Rattle.kv_model.specs.Showing.{is_shown};
 ghost use Rattle.kv_watch.specs.Taking.{entry_shown};
 
-use crate::options::Options;
 use kv_keys::{Filters, Key};
-use kv_store::{Op, Write};
+use kv_model::{Op, Options, Write};
 
 /// A write as a watch shows it, lent from the version: nothing is copied.
 ///
-/// Contracts see the entry that it shows as `entry_shown`. It has no model of its own, since a call that lends it from what
-/// it changes can then say what is left behind.
+/// Contracts see the entry that it shows as `entry_shown`. It has no model of its own, since a call that lends it from
+/// what it changes can then say what is left behind.
 #[derive(Drop)]
 pub struct Shown<'a> {
     write: &'a Write,

@@ -2,13 +2,13 @@
 
 ghost use Rattle.std.specs.Prelude.{◌≡◌, OnOk, IfErr};
 ghost use Rattle.kv_keys.specs.declared.error.KvError.TheVariants.{OutOfMemory};
-ghost use Rattle.kv_race_script.specs.Planning.{after_line, nothing};
+ghost use Rattle.kv_run.specs.Planning.{after_line, nothing};
 ghost use Rattle.kv_run.specs.Races.{no_text};
-ghost use Rattle.kv_replay.specs.Reading.{after_bytes, beginning, line_ended, step};
+ghost use Rattle.kv_run.specs.inside.Reading.{after_bytes, beginning, line_ended, step};
 
+use crate::races::plan::Plan;
+use crate::scripts::lines::KEPT_BYTES;
 use kv_keys::KvError;
-use kv_race_script::Plan;
-use kv_replay::KEPT_BYTES;
 use std::alloc::Global;
 use std::marker::Model;
 
@@ -20,8 +20,8 @@ pub(crate) struct Notes {
 }
 
 impl Model for Notes {
-    ghost use Rattle.kv_race_script.specs.Planning.{Planned};
-    ghost use Rattle.kv_replay.specs.Reading.{Reading};
+    ghost use Rattle.kv_run.specs.Planning.{Planned};
+    ghost use Rattle.kv_run.specs.inside.Reading.{Reading};
 
     ghost Value = { Reading Planned };
 
@@ -29,7 +29,7 @@ impl Model for Notes {
 }
 
 impl Notes {
-    ghost use Rattle.kv_replay.specs.declared.script.TheConstants.{KEPT_BYTES};
+    ghost use Rattle.kv_run.specs.declared.scripts.lines.TheConstants.{KEPT_BYTES};
 
     /// Before the first line.
     pub(crate) fn new(alloc: Global) -> Notes

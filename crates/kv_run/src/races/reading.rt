@@ -3,18 +3,19 @@
 ghost use Rattle.std.specs.Prelude.{◌≡◌, ◌<◌, ◌⊎◌, ℕ, List, length, false, IfOk, IfErr, IsErrOf, OnErr};
 ghost use Rattle.std.specs.Io.KnownBytes.{Consumes, IsAtEnd};
 ghost use Rattle.kv_keys.specs.declared.error.KvError.TheVariants.{OutOfMemory, ReadFault};
-ghost use Rattle.kv_race_script.specs.Planning.{nothing};
+ghost use Rattle.kv_run.specs.Planning.{nothing};
 ghost use Rattle.kv_run.specs.Races.{plan_of};
-ghost use Rattle.kv_replay.specs.Reading.{beginning};
+ghost use Rattle.kv_run.specs.inside.Reading.{beginning};
 
 use crate::races::notes::Notes;
+use crate::races::plan::Plan;
+use crate::scripts::bounded_input::BoundedInput;
+use crate::scripts::engine::{BUFFER_BYTES, new_buffer};
 use kv_keys::KvError;
-use kv_race_script::Plan;
-use kv_replay::{BUFFER_BYTES, Source, new_buffer};
 use std::alloc::Global;
 
 /// Reads the source to its end.
-fn read_lines<S: Source>(
+fn read_lines<S: BoundedInput>(
     mut notes: Notes,
     alloc: Global,
     buffer: &mut [u8],
@@ -24,7 +25,10 @@ fn read_lines<S: Source>(
     requires begins { notes ≡ beginning nothing }
     ensures same { S.goes_on source.old source.new }
     ensures in_time { S.has_ended source.old ≡ false → S.was_asked_late source.new ≡ S.was_asked_late source.old }
-    ensures ok { IfOk result (λ plan. (input : List ℕ) × (Consumes (S.left source.old) (S.left source.new) input × (IsAtEnd (S.left source.new) × (plan ≡ plan_of input)))) }
+    ensures ok { IfOk result
+        (λ plan. (input : List ℕ)
+        × (Consumes (S.left source.old) (S.left source.new) input
+        × (IsAtEnd (S.left source.new) × (plan ≡ plan_of input)))) }
     ensures part { OnErr result ((input : List ℕ) × Consumes (S.left source.old) (S.left source.new) input) }
     ensures read_fault { IsErrOf result KvError.ReadFault → S.failed_between source.old source.new }
     ensures fault { IfErr result (λ e. (e ≡ OutOfMemory) ⊎ (e ≡ ReadFault)) }
@@ -40,10 +44,13 @@ fn read_lines<S: Source>(
 }
 
 /// Reads a script to its end, and answers what its lines ask for.
-pub(crate) fn read_plan<S: Source>(alloc: Global, source: &mut S) -> Result<Plan, KvError>
+pub(crate) fn read_plan<S: BoundedInput>(alloc: Global, source: &mut S) -> Result<Plan, KvError>
     ensures same { S.goes_on source.old source.new }
     ensures in_time { S.has_ended source.old ≡ false → S.was_asked_late source.new ≡ S.was_asked_late source.old }
-    ensures ok { IfOk result (λ plan. (input : List ℕ) × (Consumes (S.left source.old) (S.left source.new) input × (IsAtEnd (S.left source.new) × (plan ≡ plan_of input)))) }
+    ensures ok { IfOk result
+        (λ plan. (input : List ℕ)
+        × (Consumes (S.left source.old) (S.left source.new) input
+        × (IsAtEnd (S.left source.new) × (plan ≡ plan_of input)))) }
     ensures part { OnErr result ((input : List ℕ) × Consumes (S.left source.old) (S.left source.new) input) }
     ensures read_fault { IsErrOf result KvError.ReadFault → S.failed_between source.old source.new }
     ensures fault { IfErr result (λ e. (e ≡ OutOfMemory) ⊎ (e ≡ ReadFault)) }

@@ -2,27 +2,29 @@
 
 ghost use Rattle.std.specs.Prelude.{map, OnOk, OnErr, IfErr, IsErrOf};
 ghost use Rattle.std.specs.Io.KnownBytes.{Appends};
-ghost use Rattle.kv_bucket.specs.Answers.{answer_of};
-ghost use Rattle.kv_race_script.specs.Reporting.{numbered, replies_text, report_text, seen_text};
-ghost use Rattle.kv_replay.specs.Faults.{IsWriteOrMemory};
-ghost use Rattle.kv_replay.specs.Written.{Puts};
+ghost use Rattle.kv_bucket.specs.Replies.{answer_of};
+ghost use Rattle.kv_run.specs.Reporting.{numbered, replies_text, report_text, seen_text};
+ghost use Rattle.kv_run.specs.Faults.{IsWriteOrMemory};
+ghost use Rattle.kv_run.specs.inside.Written.{Puts};
 
+use crate::races::reporting::{append_replies, append_seen};
+use crate::scripts::output::Output;
 use kv_bucket::Reply;
 use kv_keys::KvError;
 use kv_race::Report;
-use kv_race_script::{append_replies, append_seen};
-use kv_replay::Sink;
 use std::alloc::Global;
 
 /// Writes the replies, worker by worker.
-fn write_replies<K: Sink>(
+fn write_replies<K: Output>(
     alloc: Global,
     replies: &[Vec<Result<u64, KvError>>],
     sink: &mut K,
 ) -> Result<(), KvError>
     ensures same { K.goes_on sink.old sink.new }
-    ensures ok { OnOk result (Appends (K.held sink.old) (K.held sink.new) (numbered replies_text 1 (map (λ some. some.items) replies.now))) }
-    ensures err { OnErr result (Puts (numbered replies_text 1 (map (λ some. some.items) replies.now)) (K.held sink.old) (K.held sink.new)) }
+    ensures ok { OnOk result (Appends (K.held sink.old) (K.held sink.new) (numbered replies_text 1 (map
+        (λ some. some.items) replies.now))) }
+    ensures err { OnErr result (Puts (numbered replies_text 1 (map
+        (λ some. some.items) replies.now)) (K.held sink.old) (K.held sink.new)) }
     ensures failed { IsErrOf result KvError.WriteFault → K.failed_between sink.old sink.new }
     ensures fault { IfErr result IsWriteOrMemory }
 {
@@ -35,10 +37,12 @@ fn write_replies<K: Sink>(
 }
 
 /// Writes what was handed out, watch by watch.
-fn write_seen<K: Sink>(alloc: Global, seen: &[Vec<Reply>], sink: &mut K) -> Result<(), KvError>
+fn write_seen<K: Output>(alloc: Global, seen: &[Vec<Reply>], sink: &mut K) -> Result<(), KvError>
     ensures same { K.goes_on sink.old sink.new }
-    ensures ok { OnOk result (Appends (K.held sink.old) (K.held sink.new) (numbered seen_text 1 (map (λ some. map answer_of some.items) seen.now))) }
-    ensures err { OnErr result (Puts (numbered seen_text 1 (map (λ some. map answer_of some.items) seen.now)) (K.held sink.old) (K.held sink.new)) }
+    ensures ok { OnOk result (Appends (K.held sink.old) (K.held sink.new) (numbered seen_text 1 (map
+        (λ some. map answer_of some.items) seen.now))) }
+    ensures err { OnErr result (Puts (numbered seen_text 1 (map
+        (λ some. map answer_of some.items) seen.now)) (K.held sink.old) (K.held sink.new)) }
     ensures failed { IsErrOf result KvError.WriteFault → K.failed_between sink.old sink.new }
     ensures fault { IfErr result IsWriteOrMemory }
 {
@@ -51,15 +55,17 @@ fn write_seen<K: Sink>(alloc: Global, seen: &[Vec<Reply>], sink: &mut K) -> Resu
 }
 
 /// Writes what a race answered: the replies, and then what was handed out.
-pub(crate) fn write_report<K: Sink>(
+pub(crate) fn write_report<K: Output>(
     alloc: Global,
     report: &Report,
     sink: &mut K,
 ) -> Result<(), KvError>
     ensures same { K.goes_on sink.old sink.new }
     ensures ok { OnOk result (Appends (K.held sink.old) (K.held sink.new)
-        (report_text (map (λ some. some.items) report.now.replies.items) (map (λ some. map answer_of some.items) report.now.seen.items))) }
-    ensures err { OnErr result (Puts (report_text (map (λ some. some.items) report.now.replies.items) (map (λ some. map answer_of some.items) report.now.seen.items))
+        (report_text (map (λ some. some.items) report.now.replies.items) (map
+        (λ some. map answer_of some.items) report.now.seen.items))) }
+    ensures err { OnErr result (Puts (report_text (map (λ some. some.items) report.now.replies.items) (map
+        (λ some. map answer_of some.items) report.now.seen.items))
         (K.held sink.old) (K.held sink.new)) }
     ensures failed { IsErrOf result KvError.WriteFault → K.failed_between sink.old sink.new }
     ensures fault { IfErr result IsWriteOrMemory }

@@ -1,5 +1,5 @@
 use Rattle.std.proofs.Common.{◌≡◌, map, take}
-use Rattle.kv_bucket.specs.State.{read_entry}
+use Rattle.kv_model.specs.State.{read_entry}
 use Rattle.kv_bucket.proofs.reading.copy_writes.Given as goal
 
 abbrev pub invariant-loop-write : goal.invariant-loop-write

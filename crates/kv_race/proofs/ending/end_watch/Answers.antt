@@ -1,6 +1,6 @@
 use Rattle.std.proofs.Common.{◌≤◌, inr, length, arith}
 use Rattle.std.proofs.lemmas.Result.{err_from_is_err_and}
-use Rattle.kv_history.specs.Feeding.{given_by}
+use Rattle.kv_live.specs.Feeding.{given_by}
 use Rattle.kv_race.proofs.Ended.{ended, last_of}
 use Rattle.kv_race.proofs.ending.end_watch.Goals as goal
 

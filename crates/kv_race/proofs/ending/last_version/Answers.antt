@@ -1,7 +1,7 @@
 use Rattle.std.proofs.Common.{subst}
 use Rattle.std.proofs.lemmas.Result.{IfOk-weaker}
-use Rattle.kv_store.specs.Acts.{IsPrefix}
-use Rattle.kv_history.specs.Known.{Known}
+use Rattle.kv_model.specs.Acts.{IsPrefix}
+use Rattle.kv_live.specs.Known.{Known}
 use Rattle.kv_race.specs.Telling.{HasAll}
 use Rattle.kv_race.proofs.ending.last_version.Goals as goal
 

@@ -1,6 +1,6 @@
 use Rattle.std.proofs.Common.{List, IfSome, map, subst, sym, ◌∙◌, ◌≡◌}
 use Rattle.std.specs.List.{AllZip}
-use Rattle.kv_store.specs.Requests.{asked}
+use Rattle.kv_model.specs.Requests.{asked}
 use Rattle.kv_race.specs.Telling.{HasLast, IsEnded, reply_of}
 use Rattle.kv_race.proofs.Raced.{raced}
 use Rattle.kv_race.proofs.racing.run.Goals as goal

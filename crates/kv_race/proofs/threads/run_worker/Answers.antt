@@ -1,7 +1,7 @@
 use Rattle.std.proofs.Common.{List, map, subst}
 use Rattle.std.specs.List.{AllZip}
 use Rattle.std.proofs.lemmas.Result.{IfOk-weaker}
-use Rattle.kv_store.specs.Requests.{asked}
+use Rattle.kv_model.specs.Requests.{asked}
 use Rattle.kv_race.specs.Telling.{IsTold}
 use Rattle.kv_race.proofs.Writing.{told_each}
 use Rattle.kv_race.proofs.threads.run_worker.Goals as goal

@@ -1,5 +1,5 @@
 use Rattle.std.proofs.Common.{◌≡◌, ◌≤◌, length, map, take, vec_capacity, vec_len}
-use Rattle.kv_store.specs.Requests.{asked}
+use Rattle.kv_model.specs.Requests.{asked}
 use Rattle.kv_race.specs.Working.{Works}
 use Rattle.kv_race.proofs.worker.work.Given as goal
 

@@ -1,6 +1,6 @@
 use Rattle.std.proofs.Common.{refl}
 use Rattle.serde_json.specs.Data.{no_members}
-use Rattle.kv_bucket.specs.State.{read_entry}
+use Rattle.kv_model.specs.State.{read_entry}
 use Rattle.kv_script.proofs.Lines.{entry_line, entry_no_float}
 use Rattle.kv_script.proofs.entries.append_entry.Goals as goal
 

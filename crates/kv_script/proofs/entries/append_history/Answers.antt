@@ -1,5 +1,5 @@
 use Rattle.std.proofs.Common.{map}
-use Rattle.kv_bucket.specs.State.{read_entry}
+use Rattle.kv_model.specs.State.{read_entry}
 use Rattle.kv_script.proofs.Lines.{history_line, history_no_float}
 use Rattle.kv_script.proofs.entries.append_history.Goals as goal
 

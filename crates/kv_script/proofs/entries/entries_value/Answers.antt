@@ -3,8 +3,8 @@ use Rattle.std.proofs.lemmas.List.{take_all}
 use Rattle.serde_json.specs.Data.{array}
 use Rattle.serde_json.specs.View.{items_of}
 use Rattle.serde_json.proofs.Views.{view-Array}
-use Rattle.kv_bucket.specs.State.{read_entry}
-use Rattle.kv_script.specs.Fields.{entry_object}
+use Rattle.kv_model.specs.State.{read_entry}
+use Rattle.kv_script.specs.inside.Fields.{entry_object}
 use Rattle.kv_script.proofs.Lines.{entry_items-of}
 use Rattle.kv_script.proofs.entries.entries_value.Goals as goal
 

@@ -1,7 +1,7 @@
 use Rattle.std.proofs.Common.{◌≡◌, map, take}
 use Rattle.serde_json.specs.View.{view}
-use Rattle.kv_bucket.specs.State.{read_entry}
-use Rattle.kv_script.specs.Fields.{entry_object}
+use Rattle.kv_model.specs.State.{read_entry}
+use Rattle.kv_script.specs.inside.Fields.{entry_object}
 use Rattle.kv_script.proofs.entries.entries_value.Given as goal
 
 abbrev pub invariant-loop-write : goal.invariant-loop-write

@@ -1,5 +1,5 @@
 use Rattle.std.proofs.Common.{refl}
-use Rattle.kv_script.specs.Fields.{worker_field}
+use Rattle.kv_script.specs.inside.Fields.{worker_field}
 use Rattle.kv_script.proofs.Lines.{worker_refusal_line, refusal_no_float}
 use Rattle.kv_script.proofs.refusals.append_worker_refusal.Goals as goal
 

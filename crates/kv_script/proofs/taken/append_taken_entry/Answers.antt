@@ -1,5 +1,5 @@
 use Rattle.std.specs.Option.{option_copied}
-use Rattle.kv_script.specs.Fields.{parts_entry}
+use Rattle.kv_script.specs.inside.Fields.{parts_entry}
 use Rattle.kv_script.proofs.Lines.{taken_entry_line}
 use Rattle.kv_script.proofs.taken.append_taken_entry.Goals as goal
 

@@ -1,5 +1,5 @@
 use Rattle.std.proofs.Common.{unwrap_or, ap, ◌∙◌}
-use Rattle.kv_store.proofs.Lasts.{last_get}
+use Rattle.kv_model.proofs.Lasts.{last_get}
 use Rattle.kv_store.proofs.accept.last_or_zero.Goals as goal
 
 pub returns-in-Some : goal.returns-in-Some

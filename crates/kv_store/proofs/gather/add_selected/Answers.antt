@@ -1,6 +1,6 @@
 use Rattle.std.proofs.Common.{◌≡◌, ◌++◌, Some, sym, ap, ◌∙◌}
 use Rattle.std.specs.Option.{option_to_list}
-use Rattle.kv_store.proofs.Lasts.{last_get}
+use Rattle.kv_model.proofs.Lasts.{last_get}
 use Rattle.kv_store.proofs.gather.add_selected.Goals as goal
 
 pub returns-in_ok-push-in-Latest-clause-ok : goal.returns-in_ok-push-in-Latest-clause-ok

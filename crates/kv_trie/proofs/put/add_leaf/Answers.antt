@@ -1,7 +1,7 @@
 use Rattle.std.proofs.Common.{◌≡◌, length, ap, ◌∙◌, arith}
 use Rattle.std.specs.Arc.{arc_value}
 use Rattle.std.specs.List.{insert}
-use Rattle.kv_trie.specs.Bits.{set_bits, rank}
+use Rattle.kv_trie.specs.inside.Bits.{set_bits, rank}
 use Rattle.kv_trie.specs.Form.{leaf}
 use Rattle.kv_trie.specs.Stored.{shape_of, child_shapes}
 use Rattle.kv_trie.proofs.Branches.{slots_insert}

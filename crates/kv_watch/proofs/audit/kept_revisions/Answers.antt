@@ -1,10 +1,10 @@
 use Rattle.std.proofs.Common.{ℕ, ◌≤◌, List, length, sym, ap, ◌∙◌, arith}
 use Rattle.std.proofs.lemmas.List.{take_all}
 use Rattle.std.proofs.lemmas.Result.{IfOk-weaker}
-use Rattle.kv_store.specs.Retained.{writes_of_key, since_purge, last_n, revisions}
-use Rattle.kv_watch.specs.Listing.{revisions_after}
-use Rattle.kv_watch.specs.Showing.{wrote_all}
-use Rattle.kv_store.proofs.Keeping.{revisions-last_n}
+use Rattle.kv_model.specs.Retained.{writes_of_key, since_purge, last_n, revisions}
+use Rattle.kv_watch.specs.inside.Listing.{revisions_after}
+use Rattle.kv_watch.specs.inside.Showing.{wrote_all}
+use Rattle.kv_model.proofs.Keeping.{revisions-last_n}
 use Rattle.kv_watch.proofs.SlowSteps.{revisions_more}
 use Rattle.kv_watch.proofs.audit.kept_revisions.Goals as goal
 

@@ -1,7 +1,7 @@
 use Rattle.std.proofs.Common.{◌≡◌, take}
 use Rattle.std.specs.Option.{option_copied}
-use Rattle.kv_store.specs.Retained.{last_write}
-use Rattle.kv_watch.specs.Showing.{wrote_all}
+use Rattle.kv_model.specs.Retained.{last_write}
+use Rattle.kv_watch.specs.inside.Showing.{wrote_all}
 use Rattle.kv_watch.proofs.audit.last_write.Given as goal
 
 abbrev pub invariant-loop-write : goal.invariant-loop-write

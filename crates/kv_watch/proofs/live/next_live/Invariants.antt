@@ -1,5 +1,5 @@
 use Rattle.std.proofs.Common.{◌≡◌, List}
-use Rattle.kv_store.specs.Acts.{Act}
+use Rattle.kv_model.specs.Acts.{Act}
 use Rattle.kv_store.specs.Standing.{StandsFor}
 use Rattle.kv_watch.specs.Following.{shown_behind}
 use Rattle.kv_watch.proofs.live.next_live.Given as goal

@@ -1,8 +1,8 @@
 use Rattle.std.proofs.Common.{◌≡◌, ℕ, List, cond, filter, reverse, refl, ap, ◌∙◌}
 use Rattle.std.proofs.lemmas.List.{reverse-reverse}
-use Rattle.kv_store.specs.Retained.{revisions}
-use Rattle.kv_watch.specs.Given.{matching, initial}
-use Rattle.kv_watch.specs.Showing.{is_put_at}
+use Rattle.kv_model.specs.Retained.{revisions}
+use Rattle.kv_model.specs.Given.{matching, initial}
+use Rattle.kv_watch.specs.inside.Showing.{is_put_at}
 use Rattle.kv_watch.proofs.Opening.{owed_shown}
 use Rattle.kv_watch.proofs.owed.owed_at_opening.Goals as goal
 use Rattle.kv_watch.proofs.owed.owed_at_opening.Goals.{then-options, else-options}

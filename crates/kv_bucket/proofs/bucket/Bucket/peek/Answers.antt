@@ -4,7 +4,7 @@ use Rattle.std.proofs.lemmas.Option.{get_or_from_slice_get}
 use Rattle.kv_watch.specs.Taking.{item_taken}
 use Rattle.kv_bucket.specs.Held.{Holding, has_number}
 use Rattle.kv_bucket.proofs.Answering.{take_none, peeked}
-use Rattle.kv_bucket.proofs.Finds.{found_there}
+use Rattle.kv_model.proofs.Finds.{found_there}
 use Rattle.kv_bucket.proofs.bucket.Bucket.peek.Goals as goal
 
 pub returns-in_default-clause-refused : goal.returns-in_default-clause-refused

@@ -1,8 +1,9 @@
 use Rattle.std.proofs.Common.{◌≡◌, ◌+◌, ◌≤◌, [], ◌∷◌, ◌++◌, length, take, sym, ap, ◌∙◌, subst, arith}
 use Rattle.std.specs.Prelude.{List}
 use Rattle.std.proofs.lemmas.List.{take_more, take_all}
-use Rattle.kv_bucket.specs.declared.call.Call.{Call}
+use Rattle.kv_model.specs.declared.call.Call.{Call}
 use Rattle.kv_bucket.specs.declared.reply.Reply.{Reply}
+use Rattle.kv_bucket.specs.Held.{Bucketed}
 use Rattle.kv_bucket.specs.Stepping.{IsRun}
 use Rattle.kv_bucket.proofs.Running.{run_push, run_tells, tells_early}
 use Rattle.kv_bucket.proofs.bucket.Bucket.run.Goals as goal
@@ -33,5 +34,6 @@ returns-in_err-reserve-clause-told_early c =
 pub returns-in_err-answer-clause-told_early : goal.returns-in_err-answer-clause-told_early
 returns-in_err-answer-clause-told_early c =
     let calls = take c.loop-call.call-index c.args.calls.now in
-    tells_early c.from_residual-in_err-answer.result c.args.self.now c.loop-call.self c.args.calls.now c.args.replies.now.items c.reserve.new.self.items c.loop-call.call-index c.loop-call-test.true
-    (subst (λ (replies : List Reply). IsRun c.args.self.now calls c.args.replies.now.items replies c.loop-call.self) (sym c.in_ok-reserve.ensures.items) c.loop-call.invariant)
+    tells_early c.from_residual-in_err-answer.result c.args.self.now c.answer.new.self c.args.calls.now c.args.replies.now.items c.reserve.new.self.items c.loop-call.call-index c.loop-call-test.true
+    (subst (λ (bucket : Bucketed). IsRun c.args.self.now calls c.args.replies.now.items c.reserve.new.self.items bucket) (sym c.in_err-answer.ensures.unchanged)
+    (subst (λ (replies : List Reply). IsRun c.args.self.now calls c.args.replies.now.items replies c.loop-call.self) (sym c.in_ok-reserve.ensures.items) c.loop-call.invariant))

@@ -1,5 +1,5 @@
 use Rattle.std.proofs.Common.{refl, ap}
-use Rattle.kv_store.specs.Acts.{Seal}
+use Rattle.kv_model.specs.Acts.{Seal}
 use Rattle.kv_store.specs.Stored.{Stored}
 use Rattle.kv_bucket.proofs.Later.{later}
 use Rattle.kv_bucket.proofs.Representing.{represents_act}

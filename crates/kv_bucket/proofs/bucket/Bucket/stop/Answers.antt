@@ -2,10 +2,10 @@ use Rattle.std.proofs.Common.{◌≡◌, Some, None, refl, sym, ap, ◌∙◌, n
 use Rattle.std.specs.List.{position}
 use Rattle.std.proofs.lemmas.Fn.{filter_same}
 use Rattle.std.proofs.lemmas.Option.{get_or_from_slice_get}
-use Rattle.kv_bucket.specs.Answers.{Ended}
+use Rattle.kv_model.specs.Answers.{Ended}
 use Rattle.kv_bucket.specs.Held.{Holding, has_number}
 use Rattle.kv_bucket.proofs.Answering.{stop_none, stop_some}
-use Rattle.kv_bucket.proofs.Finds.{found_there}
+use Rattle.kv_model.proofs.Finds.{found_there}
 use Rattle.kv_bucket.proofs.bucket.Bucket.stop.Goals as goal
 
 pub returns-in_default-clause-refused : goal.returns-in_default-clause-refused

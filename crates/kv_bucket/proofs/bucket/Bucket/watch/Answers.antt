@@ -1,6 +1,6 @@
 use Rattle.std.proofs.Common.{◌≡◌, refl, true, sym, subst, ◌∙◌}
 use Rattle.kv_bucket.specs.Held.{Represents}
-use Rattle.kv_bucket.specs.State.{has_room}
+use Rattle.kv_model.specs.State.{has_room}
 use Rattle.kv_bucket.proofs.Answering.{watch_done, opened_follows}
 use Rattle.kv_bucket.proofs.bucket.Bucket.watch.Goals as goal
 

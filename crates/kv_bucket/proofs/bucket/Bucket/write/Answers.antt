@@ -1,4 +1,4 @@
-use Rattle.kv_store.specs.Requests.{asked}
+use Rattle.kv_model.specs.Requests.{asked}
 use Rattle.kv_bucket.proofs.Answering.{write_done}
 use Rattle.kv_bucket.proofs.bucket.Bucket.write.Goals as goal
 

@@ -7,7 +7,7 @@ use Rattle.clap.specs.Simple.{is_simple, matches_of}
 use Rattle.clap.specs.Walk.{Row, Text, rows_of, first_of, one_of}
 use Rattle.clap.proofs.WalkLemmas.{first_value-rows, one_text-rows}
 use Rattle.kv_run.specs.Arguments.{number_in, program_app, race_of, text_in}
-use Rattle.kv_run.proofs.Options.{number_found, option_number, program_is_free, program_is_simple, unwrap_text}
+use Rattle.kv_run.proofs.ArgumentOptions.{number_found, option_number, program_is_free, program_is_simple, unwrap_text}
 use Rattle.kv_run.proofs.arguments.Arguments.parse.Goals as goal
 
 pub returns : goal.returns

@@ -1,8 +1,8 @@
 use Rattle.std.proofs.Common.{◌<◌, ◌++◌, length, ap, arith, ◌∙◌}
 use Rattle.std.proofs.KnownBytes.{Consumes-trans}
-use Rattle.kv_race_script.specs.Planning.{after_line}
+use Rattle.kv_run.specs.Planning.{after_line}
 use Rattle.kv_run.proofs.Plans.{plan_of-read, plan_on, read_on}
-use Rattle.kv_replay.proofs.Progress.{in_time_still, not_ended, on_err}
+use Rattle.kv_run.proofs.Progress.{in_time_still, not_ended, on_err}
 use Rattle.kv_run.proofs.races.reading.read_lines.Goals as goal
 
 pub returns-then-count-eq0-clause-ok : goal.returns-then-count-eq0-clause-ok
@@ -16,7 +16,7 @@ returns-then-count-eq0-clause-ok g c =
 
 pub reads-preserved : goal.reads-preserved
 reads-preserved g c = record {
-  same = g.met.S.Source.goes_on_later _ _ _ c.reads.invariant.same c.in_ok-count.ensures.same;
+  same = g.met.S.BoundedInput.goes_on_later _ _ _ c.reads.invariant.same c.in_ok-count.ensures.same;
   in_time = λ begins.
       let so_far = c.reads.invariant.in_time begins in (
         not_ended _ _ _ c.in_ok-count.ensures.ended so_far.0 c.if-count-eq0.false,
@@ -38,4 +38,4 @@ returns-in_err-take_bytes-clause-part g c =
     on_err c.from_residual-in_err-take_bytes.result (so_far.0 ++ _, Consumes-trans _ _ _ so_far.0 _ so_far.1.0 c.in_ok-count.ensures.bytes.0)
 
 pub returns-in_err-count-clause-read_fault : goal.returns-in_err-count-clause-read_fault
-returns-in_err-count-clause-read_fault g c = λ fault. g.met.S.Source.failed_later _ _ _ c.reads.invariant.same c.in_err-count.ensures.failed
+returns-in_err-count-clause-read_fault g c = λ fault. g.met.S.BoundedInput.failed_later _ _ _ c.reads.invariant.same c.in_err-count.ensures.failed

@@ -1,7 +1,7 @@
 use Rattle.std.proofs.Common.{◌≡◌, ◌+◌, ◌<◌, [], length, map, get_or, ap, sym, arith, rules, ◌∙◌}
 use Rattle.std.proofs.lemmas.List.{get_or-map, length-map}
-use Rattle.kv_race_script.specs.Reporting.{replies_text}
-use Rattle.kv_replay.proofs.Progress.{on_err}
+use Rattle.kv_run.specs.Reporting.{replies_text}
+use Rattle.kv_run.proofs.Progress.{on_err}
 use Rattle.kv_run.proofs.Reporting.{text_made, told_more, told_part}
 use Rattle.kv_run.proofs.races.writing.write_replies.Goals as goal
 
@@ -28,10 +28,10 @@ loop-n-preserved g c =
     let text : c.deref-in-loop-n.result.now ≡ replies_text (n + 1) (c.index-replies-n.result.items) =
     text_made _ _ _ _ c.deref-in-loop-n.ensures.value c.in_ok-append_replies.ensures.ok c.new-out.ensures.items ∙ ap (λ items. replies_text (n + 1) items) c.deref.ensures.value in
     record {
-      same = g.met.K.Sink.goes_on_later _ _ _ c.loop-n.invariant.same c.in_ok-write.ensures.same;
+      same = g.met.K.Output.goes_on_later _ _ _ c.loop-n.invariant.same c.in_ok-write.ensures.same;
       told = told_more replies_text (map (λ some. some.items) all) _ _ n c.loop-n.invariant.told _ (c.index-replies-n.result.items) _ (rw (length-map all (λ some. some.items)) within) is
           text c.in_ok-write.ensures.ok;
     }
 
 pub returns-in_err-write-clause-failed : goal.returns-in_err-write-clause-failed
-returns-in_err-write-clause-failed g c = λ fault. g.met.K.Sink.failed_later _ _ _ c.loop-n.invariant.same c.in_err-write.ensures.failed
+returns-in_err-write-clause-failed g c = λ fault. g.met.K.Output.failed_later _ _ _ c.loop-n.invariant.same c.in_err-write.ensures.failed

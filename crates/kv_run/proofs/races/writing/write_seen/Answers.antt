@@ -1,8 +1,8 @@
 use Rattle.std.proofs.Common.{◌≡◌, ◌+◌, ◌<◌, [], length, map, get_or, ap, sym, arith, rules, ◌∙◌}
 use Rattle.std.proofs.lemmas.List.{get_or-map, length-map}
-use Rattle.kv_bucket.specs.Answers.{answer_of}
-use Rattle.kv_race_script.specs.Reporting.{seen_text}
-use Rattle.kv_replay.proofs.Progress.{on_err}
+use Rattle.kv_bucket.specs.Replies.{answer_of}
+use Rattle.kv_run.specs.Reporting.{seen_text}
+use Rattle.kv_run.proofs.Progress.{on_err}
 use Rattle.kv_run.proofs.Reporting.{text_made, told_more, told_part}
 use Rattle.kv_run.proofs.races.writing.write_seen.Goals as goal
 
@@ -29,10 +29,10 @@ loop-n-preserved g c =
     let text : c.deref-in-loop-n.result.now ≡ seen_text (n + 1) (map answer_of c.index-seen-n.result.items) =
     text_made _ _ _ _ c.deref-in-loop-n.ensures.value c.in_ok-append_seen.ensures.ok c.new-out.ensures.items ∙ ap (λ items. seen_text (n + 1) (map answer_of items)) c.deref.ensures.value in
     record {
-      same = g.met.K.Sink.goes_on_later _ _ _ c.loop-n.invariant.same c.in_ok-write.ensures.same;
+      same = g.met.K.Output.goes_on_later _ _ _ c.loop-n.invariant.same c.in_ok-write.ensures.same;
       told = told_more seen_text (map (λ some. map answer_of some.items) all) _ _ n c.loop-n.invariant.told _ (map answer_of c.index-seen-n.result.items) _ (rw (length-map all (λ some. map answer_of some.items)) within) is
           text c.in_ok-write.ensures.ok;
     }
 
 pub returns-in_err-write-clause-failed : goal.returns-in_err-write-clause-failed
-returns-in_err-write-clause-failed g c = λ fault. g.met.K.Sink.failed_later _ _ _ c.loop-n.invariant.same c.in_err-write.ensures.failed
+returns-in_err-write-clause-failed g c = λ fault. g.met.K.Output.failed_later _ _ _ c.loop-n.invariant.same c.in_err-write.ensures.failed

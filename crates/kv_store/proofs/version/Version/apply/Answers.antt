@@ -1,5 +1,5 @@
 use Rattle.std.proofs.Common.{ap}
-use Rattle.kv_store.specs.Requests.{asked}
+use Rattle.kv_model.specs.Requests.{asked}
 use Rattle.kv_store.specs.Stored.{Stored}
 use Rattle.kv_store.proofs.Standings.{stands_after}
 use Rattle.kv_store.proofs.version.Version.apply.Goals as goal

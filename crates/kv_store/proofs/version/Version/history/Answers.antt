@@ -1,6 +1,6 @@
 use Rattle.std.proofs.Common.{map, sym}
 use Rattle.std.specs.List.{filter_map}
-use Rattle.kv_store.specs.Reads.{history_of}
+use Rattle.kv_model.specs.Reads.{history_of}
 use Rattle.kv_store.specs.Stored.{write_at}
 use Rattle.kv_store.proofs.Outcomes.{reads_there}
 use Rattle.kv_store.proofs.Reading.{history_there}

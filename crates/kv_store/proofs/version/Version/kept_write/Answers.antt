@@ -1,8 +1,8 @@
 use Rattle.std.proofs.Common.{◌≡◌, ◌==◌, true, false, sym, ap, ◌∙◌}
 use Rattle.std.specs.List.{list_any}
-use Rattle.kv_store.specs.Retained.{kept, revisions}
-use Rattle.kv_store.proofs.Found.{find_kept, find_unkept}
-use Rattle.kv_store.proofs.Numbered.{counts_from_lawful}
+use Rattle.kv_model.specs.Retained.{kept, revisions}
+use Rattle.kv_model.proofs.Found.{find_kept, find_unkept}
+use Rattle.kv_model.proofs.Numbered.{counts_from_lawful}
 use Rattle.kv_store.proofs.Standings.{kept_before-is}
 use Rattle.kv_store.proofs.version.Version.kept_write.Goals as goal
 

@@ -1,6 +1,6 @@
 use Rattle.std.proofs.Common.{ap, ◌∙◌}
 use Rattle.std.specs.List.{filter_map}
-use Rattle.kv_store.specs.Selected.{key_put}
+use Rattle.kv_store.specs.inside.Selected.{key_put}
 use Rattle.kv_store.proofs.Outcomes.{then_ok}
 use Rattle.kv_store.proofs.Reading.{keys_found}
 use Rattle.kv_store.proofs.version.Version.keys.Goals as goal

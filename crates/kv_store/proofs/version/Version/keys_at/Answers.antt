@@ -1,5 +1,5 @@
 use Rattle.std.proofs.Common.{Some, None, sym, append-nil, arith}
-use Rattle.kv_store.specs.Selected.{key_put}
+use Rattle.kv_store.specs.inside.Selected.{key_put}
 use Rattle.kv_store.proofs.Reading.{read_more}
 use Rattle.kv_store.proofs.version.Version.keys_at.Goals as goal
 use Rattle.kv_store.proofs.version.Version.keys_at.Goals.{in-Some+in_ok-push, in_default}

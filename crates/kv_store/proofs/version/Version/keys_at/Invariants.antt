@@ -1,6 +1,6 @@
 use Rattle.std.proofs.Common.{◌≡◌, map, take}
 use Rattle.std.specs.List.{filter_map}
-use Rattle.kv_store.specs.Selected.{key_put}
+use Rattle.kv_store.specs.inside.Selected.{key_put}
 use Rattle.kv_store.proofs.version.Version.keys_at.Given as goal
 
 abbrev pub invariant-loop-revision : goal.invariant-loop-revision

@@ -1,7 +1,7 @@
 use Rattle.std.proofs.Common.{ap, ◌∙◌}
-use Rattle.kv_store.specs.Reads.{write_at_of}
-use Rattle.kv_store.proofs.Found.{write_at-last}
-use Rattle.kv_store.proofs.Numbered.{counts_from_lawful}
+use Rattle.kv_model.specs.Reads.{write_at_of}
+use Rattle.kv_model.proofs.Found.{write_at-last}
+use Rattle.kv_model.proofs.Numbered.{counts_from_lawful}
 use Rattle.kv_store.proofs.version.Version.last_write.Goals as goal
 
 pub returns : goal.returns

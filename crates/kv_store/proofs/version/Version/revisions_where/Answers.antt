@@ -1,6 +1,6 @@
 use Rattle.kv_keys.specs.Places.{fnv32_of}
-use Rattle.kv_store.proofs.Naming.{gathered_are_selected}
-use Rattle.kv_store.proofs.Numbered.{counts_from_lawful}
+use Rattle.kv_store.proofs.Naming.{gathered_are_initial}
+use Rattle.kv_model.proofs.Numbered.{counts_from_lawful}
 use Rattle.kv_store.proofs.Outcomes.{both_ok}
 use Rattle.kv_store.proofs.Reading.{history_some}
 use Rattle.kv_store.proofs.version.Version.revisions_where.Goals as goal
@@ -10,5 +10,5 @@ returns-clause-ok g c =
     let version = c.args.self.now in
     let wants = g.W.Wanted.wants_key c.args.wanted.now in
     both_ok c.selected_revisions_of.result _ _ _ c.selected_revisions_of.ensures.same c.selected_revisions_of.ensures.sorted (λ found p s acts stands.
-    gathered_are_selected version.config.history acts (history_some version.config stands.legal) (counts_from_lawful version.config acts stands.lawful) wants c.args.selection fnv32_of c.by_key.result.now
+    gathered_are_initial version.config.history acts (history_some version.config stands.legal) (counts_from_lawful version.config acts stands.lawful) wants c.args.start fnv32_of c.by_key.result.now
     (c.by_key.ensures.acts acts stands) c.selected_revisions_of.ensures.keys found.items p s)

@@ -1,6 +1,6 @@
 use Rattle.std.proofs.Common.{◌≡◌, ◌++◌, ◌∷◌, [], List, sym, subst, true}
 use Rattle.std.proofs.lemmas.Result.{IfOk-weaker}
-use Rattle.kv_store.specs.Acts.{Act, Seal}
+use Rattle.kv_model.specs.Acts.{Act, Seal}
 use Rattle.kv_store.specs.Standing.{StandsFor}
 use Rattle.kv_store.specs.Stored.{Stored}
 use Rattle.kv_store.proofs.Standings.{stands_for_seal}

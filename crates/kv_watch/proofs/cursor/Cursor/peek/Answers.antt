@@ -1,6 +1,6 @@
 use Rattle.std.proofs.Common.{sym, ap, ◌∙◌, Some}
 use Rattle.std.specs.List.{slice_get}
-use Rattle.kv_watch.specs.Given.{AnEntry, Entry}
+use Rattle.kv_model.specs.Given.{AnEntry, Entry}
 use Rattle.kv_watch.proofs.Placing.{peek_owed, peek_marker, peek_live}
 use Rattle.kv_watch.proofs.cursor.Cursor.peek.Goals as goal
 

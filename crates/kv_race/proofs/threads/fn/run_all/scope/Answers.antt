@@ -5,9 +5,9 @@ use Rattle.std.proofs.Crossing.{crosses}
 use Rattle.std.specs.List.{AllZip}
 use Rattle.std.specs.Vec.Iter.{into_iter_items}
 use Rattle.std.proofs.lemmas.Grind.{common_steps}
-use Rattle.kv_store.proofs.request.Request.TheSendSync as request
-use Rattle.kv_store.specs.Requests.{asked}
-use Rattle.kv_bucket.proofs.Sent.{feed_send, live_sync}
+use Rattle.kv_model.proofs.request.Request.TheSendSync as request
+use Rattle.kv_model.specs.Requests.{asked}
+use Rattle.kv_live.proofs.Sent.{feed_send, live_sync}
 use Rattle.kv_bucket.proofs.reply.Reply.TheSendSync as reply
 use Rattle.kv_race.specs.Telling.{IsFollowed, IsTold}
 use Rattle.kv_race.proofs.Zips.{zip_kept}

@@ -1,8 +1,8 @@
 use Rattle.std.proofs.Common.{◌≡◌, drop}
-use Rattle.kv_race_script.specs.Planning.{after_line}
+use Rattle.kv_run.specs.Planning.{after_line}
 use Rattle.kv_run.specs.Races.{no_text}
-use Rattle.kv_replay.specs.Reading.{after_bytes}
-use Rattle.kv_replay.specs.declared.script.TheConstants.{KEPT_BYTES}
+use Rattle.kv_run.specs.inside.Reading.{after_bytes}
+use Rattle.kv_run.specs.declared.scripts.lines.TheConstants.{KEPT_BYTES}
 use Rattle.kv_run.proofs.races.notes.Notes.take_bytes.Given as goal
 
 -- the bytes so far were taken

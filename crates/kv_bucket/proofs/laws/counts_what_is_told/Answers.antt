@@ -1,7 +1,0 @@
-use Rattle.std.proofs.Common.{[]}
-use Rattle.kv_bucket.specs.State.{empty}
-use Rattle.kv_bucket.proofs.Told.{nothing_yet, told_run}
-use Rattle.kv_bucket.proofs.laws.counts_what_is_told.Goals as goal
-
-pub returns : goal.returns
-returns c = λ config calls number. told_run (empty config) number [] calls (nothing_yet config number)

@@ -1,9 +1,0 @@
-use Rattle.kv_bucket.specs.State.{after}
-use Rattle.kv_bucket.specs.declared.call.Call.TheVariants.{Stop}
-use Rattle.kv_bucket.proofs.Others.{none_after_stop, stopped_now}
-use Rattle.kv_bucket.proofs.laws.tells_none_when_stopped.Goals as goal
-
-pub returns : goal.returns
-returns c = λ state number handed calls ended. (
-    let at = stopped_now state number handed ended in
-    none_after_stop (after state (Stop number)) number calls (at.0, at.1, at.2))

@@ -1,0 +1,5 @@
+pub mod AsBox
+pub mod AsView
+pub mod Boxed
+pub mod Crossing
+pub mod Taken

@@ -1,0 +1,26 @@
+-- A slot may go to another thread, since the box may that it stands for.
+use mir.Raw.{raw}
+use base.Shift.{Keyless}
+use denote.Memory.{lone}
+use denote.RawPtr.{Ptr}
+use denote.Struct.Struct.{exits_of}
+use denote.Struct.Owning.{shape, fields, to}
+use denote.Param.Send.{IsSend, AllSend, owning_send, struct_send, sendable}
+use Rattle.std.specs.Prelude.{None, Some}
+use Rattle.std.specs.Global.{Global}
+use Rattle.std.proofs.Crossing.{frees}
+use Rattle.std_alloc.proofs.SendSync.{quiet, lies}
+use Rattle.std_heap.proofs.Global.TheSendSync as heap
+use Rattle.kv_store.specs.contracts.version.Version as Version
+use Rattle.kv_store.proofs.Sent.{version_send}
+use Rattle.kv_c.specs.OwnedView.{Held, view_owns}
+use Rattle.kv_c.specs.contracts.view_slot.ViewSlot.{the_row, the_type}
+
+owned : (alloc : Global) (at : Ptr) (held : Held) → Keyless (view_owns alloc at held)
+owned alloc at None = tt
+owned alloc at (Some version) = (lies Version.the_row version_send at version, frees.frees alloc (raw (lone (Version.the_row).mir)) at)
+
+pub send : IsSend the_row
+send =
+    let all : AllSend (fields the_type) = (search sendable, (heap.the_field_send, tt)) in
+    owning_send the_type all (λ slot. owned slot.alloc slot.at slot.held) (λ k. quiet (to the_type) (exits_of k (fields the_type)) ((struct_send (shape the_type) all).leaving k))

@@ -1,0 +1,34 @@
+-- The two fields move, and what they own goes with them.
+use Rattle.kv_c.proofs.Boxed.{refl, [], ◌∷◌, List, ◌++◌, Val, emp, id⊢, ftrue, fsep, tables, WpFn, prop, ‵, raw, ◌⊛◌, ◌$◌, ◌∵◌, !, qed, done, move, drop, use1, split, join, fsplit, fjoin, regoal, suffices, whole, sub, agg, enter, of_opd, stop, fld, no_more, and_then, returns, alloc_all, pass_all, free_all, look_at, get, get_in, sets, yes, nothing, Stays, walk_of, says, stay_dropped, Goes-dropped, ends_at, proved_at, D, B, word, box_typed, box_out, box_in}
+use Rattle.std.specs.Prelude.{Some}
+use Rattle.kv_c.proofs.AsView.{E, FromParts as From}
+use Rattle.kv_c.specs.contracts.view_slot.ViewSlot.{the_row as To}
+use Rattle.kv_c.specs.contracts.view_slot.ViewSlot.of_parts as f
+use Rattle.kv_c.proofs.view_slot.ViewSlot.of_parts.Statement.{statement}
+use Rattle.kv_c.proofs.view_slot.ViewSlot.of_parts.Code as code
+
+abbrev stayed : Stays f.ended.signature.params f.ended.kept
+stayed = (stay_dropped From yes, tt)
+
+pub of_parts_spec : {M : Type 1} → statement M
+of_parts_spec 𝓤 𝓛 𝓜 𝓡 wired =
+    let c = f.clauses 𝓛 𝓜.mem 𝓡.returns in let W = walk_of 𝓛 f.ended stayed c in let 𝓣 = tables 𝓤 𝓛.H 𝓜 𝓡 𝓡.env in
+    proved_at 𝓛 f.ended stayed c 𝓜 𝓡 (Goes-dropped 𝓛 0 From yes (λ κs x w. refl), tt)
+    f.Key.name code.function (code.unfolded 𝓤 𝓛.H 𝓜 𝓡 wired) (λ y are.
+    let parts = y.0.3.0 in
+    let box : D E = record { ptr = parts.ptr; alloc = parts.alloc; value = parts.value } in
+    let made : To.Denot = record { at = parts.ptr; alloc = parts.alloc; held = Some parts.value } in
+    qed 𝓛 ((‵ ftrue ⊛ ‵ (fsep ((B E).own_val box y.0.4.0) ftrue)) ∷ raw (emp 𝓤) ∷ []) ∵ split ! $ drop ! $ fsplit ! $
+    box_out E ! box y.0.4.0 (λ b o hv is spelt fits.
+    let w = word E hv b o in
+    regoal ! (λ (us : List Val). prop (WpFn 𝓤 𝓛.H 𝓣.C 𝓣.Λ code.function (us ++ []) (W.post y))) spelt refl $
+    box_in E ! box b o box.value is refl $ use1 𝓛 (‵ (To.own_val made (w ∷ []))) (id⊢ 𝓤 _) $ move ! (1 ∷ 2 ∷ []) $ drop ! $ drop ! $
+    enter ! _ _ _ _ _ $ alloc_all ! (λ l. pass_all ! refl (box_typed E hv b o fits, tt) $
+    sets ! (of_opd ! (get_in ! (fld ! refl (stop !)) (sub ! 0 refl (whole !)))) refl (tt, tt) $
+    sets ! (of_opd ! (get_in ! (fld ! refl (stop !)) (sub ! 1 refl (whole !)))) refl fits $
+    -- the cast changes nothing
+    sets ! (of_opd ! (get ! refl)) refl (tt, tt) $
+    sets ! (agg ! (and_then ! (get ! refl) (and_then ! (get ! refl) (no_more !)))) refl (box_typed E hv b o fits) $
+    returns ! (look_at ! 0 refl) $ free_all ! refl $
+    suffices ! _ (ends_at 𝓛 f.ended stayed c y w made (tt, tt) (tt, tt)) $ says ! refl $
+    nothing ! $ nothing ! $ fjoin ! $ join ! $ nothing ! $ join ! $ done !)))

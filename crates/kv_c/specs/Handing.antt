@@ -1,0 +1,34 @@
+-- What C reads from an item and the memory that it gave.
+use Rattle.std.specs.Prelude.{◌≡◌, ℕ, Option, List, Some, None, length, take, ◌==◌, if◌then◌else◌}
+use Rattle.kv_model.specs.Answers.{Answer, AnsweredEntry, Marker, Empty, Numbers as Told}
+use Rattle.kv_c.specs.declared.handing.Item.{Item}
+use Rattle.kv_c.specs.declared.numbers.Numbers.{Numbers}
+use Rattle.kv_model.specs.Acts.{Write, is_put}
+use Rattle.kv_model.specs.declared.write.Op.{Op}
+use Rattle.kv_model.specs.declared.write.Op.TheVariants.{Put, Delete, Purge}
+use Rattle.kv_model.specs.Given.{Entry}
+
+abbrev pub op_named : ℕ → Op
+op_named n = if n == 0 then Put else (if n == 1 then Delete else Purge)
+
+-- the entry, of the first bytes of what was given for its key and its value
+abbrev pub entry_told : Item → List ℕ → List ℕ → Entry
+entry_told item keys values = record {
+  key = take item.key_size keys;
+  op = op_named item.op;
+  revision = item.revision;
+  size = item.size;
+  value = if item.has_value then Some (take item.value_size values) else None;
+}
+
+abbrev pub told : Item → List ℕ → List ℕ → Answer
+told item keys values = if item.kind == 0 then Empty else (if item.kind == 1 then Marker else AnsweredEntry (entry_told item keys values))
+
+abbrev pub numbers_told : Numbers → Answer
+numbers_told n = Told (record { history = n.history; last = n.last; sealed = n.sealed; stored = n.stored; values = n.values }) n.watches
+
+-- the item tells of this write, without its key, or that there is none
+abbrev pub IsEntry : Option Write → Item → List ℕ → Type 0
+IsEntry None item room = item.kind ≡ 0
+IsEntry (Some w) item room = (item.kind ≡ 2) × (op_named item.op ≡ w.op) × (item.revision ≡ w.revision)
+    × (item.size ≡ length w.value) × (item.has_value ≡ is_put w.op) × (take item.value_size room ≡ w.value)

@@ -1,0 +1,98 @@
+-- What a feed keeps when it goes on.
+use Rattle.std.proofs.Common.{◌≡◌, ℕ, ◌+◌, ◌≤◌, ◌<◌, ◌⊎◌, ⊎_elim, List, Option, Some, None, length, get_or, refl, ap, sym, subst, ◌∙◌, arith}
+use Rattle.std.specs.List.{slice_get}
+use Rattle.std.specs.Option.{option_len, option_map}
+use Rattle.std.proofs.lemmas.Option.{slice_get_past, slice_get_cases}
+use Rattle.kv_model.specs.Acceptance.{IsLawful}
+use Rattle.kv_model.specs.Acts.{Act, IsPrefix}
+use Rattle.kv_model.specs.Configuration.{Configuration}
+use Rattle.kv_store.specs.Standing.{StandsFor}
+use Rattle.kv_model.specs.declared.options.Options.{Options}
+use Rattle.kv_model.specs.Given.{Item, event_of, given}
+use Rattle.kv_watch.specs.Following.{Following, InPlace}
+use Rattle.kv_watch.proofs.Opening.{in_place_later}
+use Rattle.kv_live.specs.inside.Fed.{IsFed, acts_on, feeding_of}
+use Rattle.kv_live.specs.Feeding.{Feeding, HasSeenMore, IsRefreshed, given_by, next_of, after_item}
+use Rattle.kv_live.specs.Known.{Known}
+use Rattle.kv_live.specs.inside.Shelves.{Shelved}
+use Rattle.kv_live.proofs.Prefixes.{prefix_self, prefix_trans}
+
+-- a feed that goes on to what its reader has seen by now
+pub fed_later : (config : Configuration) (before after : Known) (base now next : Shelved) (cursor : Following) → IsFed config before base now cursor → IsPrefix before.seen after.seen
+    → acts_on next ≡ after.seen → next.version.config ≡ config → StandsFor after.seen next.version → IsFed config after base next cursor
+fed_later config before after base now next cursor fed grows seen same stands =
+    let config_now : now.version.config ≡ config = fed.place.same_config ∙ fed.same_config in
+    let later = in_place_later cursor.handed (acts_on base) (acts_on now) after.seen base.version now.version next.version cursor fed.place stands (same ∙ sym config_now)
+    (prefix_trans (acts_on now) before.seen after.seen fed.seen grows) in record {
+      same_config = fed.same_config;
+      seen = subst (λ (acts : List Act). IsPrefix acts after.seen) (sym seen) (prefix_self after.seen);
+      place = subst (λ (acts : List Act). InPlace (acts_on base) acts cursor.handed base.version next.version cursor) (sym seen) later;
+    }
+
+pub refreshed : (before after : Known) (base now next : Shelved) (cursor : Following) → HasSeenMore before after → IsPrefix (acts_on now) before.seen → acts_on next ≡ after.seen
+    → IsPrefix before.told after.seen → IsRefreshed (feeding_of before base now cursor) (feeding_of after base next cursor)
+refreshed before after base now next cursor more low seen told = record {
+  reader = more;
+  grows = subst (IsPrefix (acts_on now)) (sym seen) (prefix_trans (acts_on now) before.seen after.seen low more.0);
+  told = subst (IsPrefix before.told) (sym seen) told;
+  same = ap (λ (acts : List Act). let f : Feeding = record { reader = after; began = acts_on base; acts = acts; filters = cursor.filters; options = cursor.options; handed = cursor.handed } in f) seen;
+}
+
+-- what a feed went on to is lawful
+pub lawful_fed : (config : Configuration) (reader : Known) (base now : Shelved) (cursor : Following) → IsFed config reader base now cursor → IsLawful config (acts_on now)
+lawful_fed config reader base now cursor fed =
+    let same : now.version.config ≡ config = fed.place.same_config ∙ fed.same_config in
+    subst (λ (c : Configuration). IsLawful c (acts_on now)) same fed.place.now_stands.lawful
+
+-- there is no next item exactly where as many were handed out as there are
+differ : (x : Item) → Some x ≡ None → ⊥
+differ x e = cc
+
+ends_at : (xs : List Item) (n : ℕ) → n ≤ length xs → slice_get xs n ≡ None → ((x : Item) × (n < length xs) × (slice_get xs n ≡ Some x) × (get_or xs n x ≡ x)) ⊎ ((length xs ≤ n) × (slice_get xs n ≡ None)) → n ≡ length xs
+ends_at xs n within none cases =
+    let there : ((x : Item) × (n < length xs) × (slice_get xs n ≡ Some x) × (get_or xs n x ≡ x)) → n ≡ length xs = λ t. absurd (differ t.0 (sym t.2 ∙ none)) in
+    let past : ((length xs ≤ n) × (slice_get xs n ≡ None)) → n ≡ length xs = λ p. omega (arith, p.0) in ⊎_elim there past cases
+
+pub ends : (xs : List Item) (n : ℕ) → n ≤ length xs → (slice_get xs n ≡ None → n ≡ length xs) × (n ≡ length xs → slice_get xs n ≡ None)
+ends xs n within = (λ none. ends_at xs n within none (slice_get_cases xs n).1, λ all. slice_get_past xs n (omega arith))
+
+counted : (feed : Feeding) (n : ℕ) (item : Option Item) → n ≡ feed.handed + option_len item → record feed { handed = n } ≡ after_item feed item
+counted feed n None e =
+    let same : n ≡ feed.handed = omega arith in ap (λ (k : ℕ). let f : Feeding = record feed { handed = k } in f) same
+counted feed n (Some item) e = ap (λ (k : ℕ). let f : Feeding = record feed { handed = k } in f) e
+
+-- a take: what was lent is the next item, there is none exactly where all was handed out, and the feed counts it
+pub took : (config : Configuration) (reader : Known) (base now : Shelved) (old new : Following) (item : Option Item) → IsFed config reader base now old
+    → new.filters ≡ old.filters → new.options ≡ old.options
+    → item ≡ slice_get (given base.version.config.history (acts_on base) (acts_on now) old.filters old.options) old.handed
+    → new.handed ≡ old.handed + option_len item
+    → (item ≡ next_of config.history (feeding_of reader base now old))
+    × ((item ≡ None → old.handed ≡ length (given_by config.history (feeding_of reader base now old))) × (old.handed ≡ length (given_by config.history (feeding_of reader base now old)) → item ≡ None))
+    × (feeding_of reader base now new ≡ after_item (feeding_of reader base now old) item)
+took config reader base now old new item fed filters options is_next counts =
+    let feed = feeding_of reader base now old in
+    let all = given base.version.config.history (acts_on base) (acts_on now) old.filters old.options in
+    let same_all : all ≡ given_by config.history feed = ap (λ (c : Configuration). given c.history (acts_on base) (acts_on now) old.filters old.options) fed.same_config in
+    let value : item ≡ next_of config.history feed = is_next ∙ ap (λ (xs : List Item). slice_get xs old.handed) same_all in
+    let within : old.handed ≤ length (given_by config.history feed) = subst (λ (xs : List Item). old.handed ≤ length xs) same_all fed.place.taken in
+    let stop = ends (given_by config.history feed) old.handed within in
+    let moved : feeding_of reader base now new ≡ record feed { handed = new.handed } =
+    ap (λ (fs : List (List ℕ)). let f : Feeding = record { reader = reader; began = acts_on base; acts = acts_on now; filters = fs; options = new.options; handed = new.handed } in f) filters
+    ∙ ap (λ (o : Options). let f : Feeding = record { reader = reader; began = acts_on base; acts = acts_on now; filters = old.filters; options = o; handed = new.handed } in f) options in (
+      value,
+      (λ none. stop.0 (sym value ∙ none), λ end. value ∙ stop.1 end),
+      moved ∙ counted feed new.handed item counts,
+    )
+
+-- a feed that shows no next item has handed out all
+no_event : (item : Option Item) → None ≡ option_map event_of item → item ≡ None
+no_event None e = refl
+no_event (Some x) e = cc
+
+pub all_handed : (config : Configuration) (reader : Known) (base now : Shelved) (cursor : Following) → IsFed config reader base now cursor
+    → None ≡ option_map event_of (next_of config.history (feeding_of reader base now cursor)) → cursor.handed ≡ length (given_by config.history (feeding_of reader base now cursor))
+all_handed config reader base now cursor fed e =
+    let feed = feeding_of reader base now cursor in
+    let within : cursor.handed ≤ length (given_by config.history feed) =
+    subst (λ (xs : List Item). cursor.handed ≤ length xs) (ap (λ (c : Configuration). given c.history (acts_on base) (acts_on now) cursor.filters cursor.options) fed.same_config) fed.place.taken in
+    (ends (given_by config.history feed) cursor.handed within).0 (no_event (next_of config.history feed) e)

@@ -1,0 +1,168 @@
+-- What an act and a quiet call make of what lies under the lock.
+use Rattle.std.proofs.Common.{◌≡◌, ℕ, ◌+◌, ◌-◌, Bool, true, false, inl, inr, cond, List, [], ◌∷◌, ◌++◌, Option, Some, None, Result, Ok, Err, length, refl, sym, ap, ◌∙◌, subst, arith, length-append}
+use Rattle.std.specs.Prelude.{IfOk, OnOk, OnErr, MatchResult}
+use Rattle.std.specs.List.{slice_get}
+use Rattle.kv_keys.specs.declared.error.KvError.{KvError}
+use Rattle.kv_model.specs.Acceptance.{accept}
+use Rattle.kv_model.specs.Acts.{Act, Wrote, Write, writes_of}
+use Rattle.kv_model.specs.Configuration.{Configuration}
+use Rattle.kv_model.specs.Requests.{Asked}
+use Rattle.kv_store.specs.Standing.{StandsFor}
+use Rattle.kv_store.specs.Stored.{Stored, write_at}
+use Rattle.kv_model.proofs.Numbered.{accepted_is_next, writes_of-wrote, write_at_counted, counts_from_lawful}
+use Rattle.kv_live.specs.Posted.{Posted, Posts, PostsNothing, showing, without}
+use Rattle.kv_model.specs.declared.options.Options.{Options}
+use Rattle.kv_model.specs.Given.{Item}
+use Rattle.kv_model.specs.declared.call.Call.{Call}
+use Rattle.kv_model.specs.declared.call.Call.TheVariants as calls
+use Rattle.kv_model.specs.Answers.{Answer, Revision}
+use Rattle.kv_bucket.specs.Held.{Bucketed}
+use Rattle.kv_live.specs.Keeping.{Kept, kept_of, IsAt, state_of, IsSomewhere, IsKeptStep, PublishesWrite}
+use Rattle.kv_model.specs.State.{State, Watch, add_act, add_watch, opened, open_at, has_room, next_of, after, after_write, after_stop, after_item, after_take, answer_write}
+use Rattle.kv_bucket.specs.Stepping.{IsStep}
+use Rattle.kv_bucket.proofs.Answering.{write_done}
+use Rattle.kv_bucket.proofs.Later.{later}
+use Rattle.kv_bucket.proofs.Representing.{represents_act}
+
+-- the value under the lock after one more act, which the store shows
+abbrev pub kept_after : Kept → Act → Stored → Kept
+kept_after old act version = record { bucket = record old.bucket { version = version }; published = old.published ++ act ∷ []; is_open = true; noted = old.published ++ act ∷ [] }
+
+abbrev pub posted_after : Kept → Act → Posted
+posted_after old act = showing (old.published ++ act ∷ [])
+
+pub kept_same : (old : Kept) (bucket new : Bucketed) (act : Act) (version : Stored) (posted : Posted) → old.bucket ≡ bucket → posted ≡ posted_after old act → new ≡ record bucket { version = version }
+    → kept_after old act version ≡ kept_of new posted
+kept_same old bucket new act version posted is more put =
+    ap (λ (b : Bucketed). kept_of (record b { version = version }) (posted_after old act)) is
+    ∙ (ap (λ (b : Bucketed). kept_of b (posted_after old act)) (sym put)
+    ∙ ap (λ (p : Posted). kept_of new p) (sym more))
+
+-- the store has no part in the state
+pub somewhere_open : (config : Configuration) (old : Kept) (is_open : Bool) (noted : List Act) → IsSomewhere config old → IsSomewhere config (record old { is_open = is_open; noted = noted })
+somewhere_open config old is_open noted some = (some.0, record { represents = some.1.represents; published = some.1.published })
+
+pub at_act : (state : State) (old : Kept) (act : Act) (version : Stored) → IsAt state old → version.config ≡ old.bucket.version.config → StandsFor (old.published ++ act ∷ []) version → IsAt (add_act act state) (kept_after old act version)
+at_act state old act version at same stands = record {
+  represents = represents_act later state old.bucket act version at.represents same (subst (λ (acts : List Act). StandsFor (acts ++ act ∷ []) version) at.published stands);
+  published = ap (λ (acts : List Act). acts ++ act ∷ []) at.published;
+}
+
+-- it is still at some state
+pub somewhere_act : (config : Configuration) (old : Kept) (act : Act) (version : Stored) → IsSomewhere config old → version.config ≡ old.bucket.version.config → StandsFor (old.published ++ act ∷ []) version → IsSomewhere config (kept_after old act version)
+somewhere_act config old act version some same stands = (some.0, at_act (state_of config old.published some.0) old act version some.1 same stands)
+
+-- what is published stands for the bucket's version
+pub published_stands : (config : Configuration) (old : Kept) → IsSomewhere config old → StandsFor old.published old.bucket.version
+published_stands config old some = some.1.represents.version
+
+pub same_config : (config : Configuration) (old : Kept) → IsSomewhere config old → old.bucket.version.config ≡ config
+same_config config old some = some.1.represents.config
+
+-- a write that was accepted is one step
+pub at_write : (state : State) (old : Kept) (request : Asked) (w : Write) (version : Stored) (revision : ℕ) → IsAt state old → version.config ≡ old.bucket.version.config
+    → ((acts : List Act) → StandsFor acts old.bucket.version → (w : Write) × ((accept old.bucket.version.config request acts ≡ Ok w) × StandsFor (acts ++ Wrote w ∷ []) version))
+    → accept old.bucket.version.config request old.published ≡ Ok w → StandsFor (old.published ++ Wrote w ∷ []) version → revision ≡ version.last
+    → (Revision revision ≡ answer_write (accept state.config request state.acts)) × IsAt (after_write state (accept state.config request state.acts)) (kept_after old (Wrote w) version)
+at_write state old request w version revision at same ok accepted stands last =
+    let is : accept state.config request state.acts ≡ Ok w =
+    ap (λ (c : Configuration). accept c request state.acts) (sym at.represents.config) ∙ (ap (accept old.bucket.version.config request) (sym at.published) ∙ accepted) in
+    let new : Kept = kept_after old (Wrote w) version in (
+      (write_done state old.bucket request version revision at.represents same ok last).0,
+      subst (λ r. IsAt (after_write state r) new) (sym is) (at_act state old (Wrote w) version at same stands),
+    )
+
+-- the last write of a version
+get_last : {X : Type 0} (xs : List X) (x : X) → slice_get (xs ++ x ∷ []) (length xs) ≡ Some x
+get_last [] x = refl
+get_last (y ∷ xs) x = get_last xs x
+
+pub last_written : (acts : List Act) (w : Write) (version : Stored) → StandsFor (acts ++ Wrote w ∷ []) version → write_at version.last version ≡ Some w
+last_written acts w version stands =
+    let all : writes_of (acts ++ Wrote w ∷ []) ≡ writes_of acts ++ w ∷ [] = writes_of-wrote acts w in
+    let total : version.last ≡ length (writes_of acts) + 1 = stands.last ∙ (ap length all ∙ length-append (writes_of acts) (w ∷ [])) in
+    let place : version.last - 1 ≡ length (writes_of acts) = omega arith in
+    stands.written version.last
+    ∙ (write_at_counted version.last (acts ++ Wrote w ∷ []) (counts_from_lawful version.config (acts ++ Wrote w ∷ []) stands.lawful) (omega arith)
+    ∙ (ap (λ ws. slice_get ws (version.last - 1)) all ∙ (ap (slice_get (writes_of acts ++ w ∷ [])) place ∙ get_last (writes_of acts) w)))
+
+somewhere_left : (config : Configuration) (was bucket : Bucketed) (before posted : Posted) (act : Act) → IsSomewhere config (kept_of was before) → PostsNothing before act posted → bucket ≡ was → IsSomewhere config (kept_of bucket posted)
+somewhere_left config was bucket before posted act some (inl same) put =
+    subst (IsSomewhere config) (ap (λ (b : Bucketed). kept_of b before) (sym put) ∙ ap (λ (p : Posted). kept_of bucket p) (sym same)) some
+somewhere_left config was bucket before posted act some (inr ended) put =
+    subst (IsSomewhere config) (ap (λ (b : Bucketed). kept_of b (without before act)) (sym put) ∙ ap (λ (p : Posted). kept_of bucket p) (sym ended)) (somewhere_open config (kept_of was before) false (before.acts ++ act ∷ []) some)
+
+-- whether the act was kept or refused, the value under the lock is at some state
+pub somewhere_kept : (config : Configuration) (old : Kept) (was bucket : Bucketed) (act : Act) (version : Stored) (before posted : Posted) (kept : Result (Unit {0}) KvError) → IsSomewhere config old → old ≡ kept_of was before
+    → version.config ≡ old.bucket.version.config → StandsFor (old.published ++ act ∷ []) version → OnOk kept (Posts before act posted × (bucket ≡ record was { version = version }))
+    → OnErr kept (PostsNothing before act posted × (bucket ≡ was)) → IsSomewhere config (kept_of bucket posted)
+somewhere_kept config old was bucket act version before posted (Ok done) some is same stands ok err =
+    subst (IsSomewhere config)
+    (kept_same old was bucket act version posted (ap (λ (k : Kept). k.bucket) is) (ok.0.1 ∙ ap (λ (k : Kept). posted_after k act) (sym is)) ok.1)
+    (somewhere_act config old act version some same stands)
+somewhere_kept config old was bucket act version before posted (Err error) some is same stands ok err =
+    somewhere_left config was bucket before posted act (subst (IsSomewhere config) is some) err.0 err.1
+
+-- ---- calls that accept nothing
+
+-- a call keeps the configuration and the acts
+abbrev pub IsQuiet : Call → Type 0
+IsQuiet call = (state : State) → ((after state call).config ≡ state.config) × ((after state call).acts ≡ state.acts)
+
+pub quiet_watch : (filters : List (List ℕ)) (options : Options) → IsQuiet (calls.Watch filters options)
+quiet_watch filters options state =
+    let wider : State = add_watch (opened filters options state) state in
+    elim (has_room state) as (λ b. ((cond b wider state).config ≡ state.config) × ((cond b wider state).acts ≡ state.acts)) [ true ↦ (refl, refl) | false ↦ (refl, refl) ]
+
+stop_quiet : (number : ℕ) (state : State) (watch : Option Watch) → ((after_stop number state watch).config ≡ state.config) × ((after_stop number state watch).acts ≡ state.acts)
+stop_quiet number state None = (refl, refl)
+stop_quiet number state (Some watch) = (refl, refl)
+
+pub quiet_stop : (number : ℕ) → IsQuiet (calls.Stop number)
+quiet_stop number state = stop_quiet number state (open_at number state)
+
+item_quiet : (number : ℕ) (state : State) (watch : Watch) (item : Option Item) → ((after_item number state watch item).config ≡ state.config) × ((after_item number state watch item).acts ≡ state.acts)
+item_quiet number state watch None = (refl, refl)
+item_quiet number state watch (Some item) = (refl, refl)
+
+take_quiet : (number : ℕ) (state : State) (watch : Option Watch) → ((after_take number state watch).config ≡ state.config) × ((after_take number state watch).acts ≡ state.acts)
+take_quiet number state None = (refl, refl)
+take_quiet number state (Some watch) = item_quiet number state watch (next_of state.config.history state.acts watch)
+
+pub quiet_take : (number : ℕ) → IsQuiet (calls.Take number)
+quiet_take number state = take_quiet number state (open_at number state)
+
+-- such a call of the bucket is one step of what lies under the lock
+pub step_quiet : (call : Call) (answer : Answer) (old : Kept) (bucket : Bucketed) → IsQuiet call → IsStep old.bucket call answer bucket → IsKeptStep old call answer (record old { bucket = bucket })
+step_quiet call answer old bucket quiet step state at =
+    let done = step state at.represents in
+    (done.0, record { represents = done.1; published = at.published ∙ sym (quiet state).1 })
+
+pub somewhere_quiet : {X : Type 0} (call : Call) (answer : X → Answer) (config : Configuration) (old : Kept) (bucket : Bucketed) (result : Result X KvError) → IsQuiet call → IsSomewhere config old
+    → IfOk result (λ x. IsStep old.bucket call (answer x) bucket) → OnErr result (bucket ≡ old.bucket) → IsSomewhere config (record old { bucket = bucket })
+somewhere_quiet call answer config old bucket (Ok x) quiet some ok err =
+    let state : State = state_of config old.published some.0 in
+    let to : State = after state call in
+    let done = step_quiet call (answer x) old bucket quiet ok state some.1 in
+    let same : to ≡ state_of config old.published to.watches =
+    ap (λ (c : Configuration). let s : State = record { config = c; acts = to.acts; watches = to.watches } in s) (quiet state).0
+    ∙ ap (λ (acts : List Act). let s : State = record { config = config; acts = acts; watches = to.watches } in s) (quiet state).1 in
+    (to.watches, subst (λ (s : State). IsAt s (record old { bucket = bucket })) same done.1)
+somewhere_quiet call answer config old bucket (Err error) quiet some ok err =
+    subst (IsSomewhere config) (ap (λ (b : Bucketed). let k : Kept = record old { bucket = b } in k) (sym err)) some
+
+pub somewhere_taken : {X : Type 0} (call : Call) (answer : X → Answer) (config : Configuration) (old : Kept) (bucket : Bucketed) (result : Result X KvError) → IsQuiet call → IsSomewhere config old
+    → MatchResult result (λ x. IsStep old.bucket call (answer x) bucket) (λ e. bucket ≡ old.bucket) → IsSomewhere config (record old { bucket = bucket })
+somewhere_taken call answer config old bucket (Ok x) quiet some h = somewhere_quiet call answer config old bucket (Ok x) quiet some h tt
+somewhere_taken call answer config old bucket (Err e) quiet some h = somewhere_quiet call answer config old bucket (Err e) quiet some tt h
+
+-- ---- what a write publishes
+
+pub publishes : (config : Configuration) (old : Kept) (request : Asked) (w : Write) (version : Stored) (revision : ℕ) (published : List Act) → IsSomewhere config old
+    → accept old.bucket.version.config request old.published ≡ Ok w → StandsFor (old.published ++ Wrote w ∷ []) version → revision ≡ version.last → published ≡ old.published ++ Wrote w ∷ []
+    → PublishesWrite config request revision old.published published
+publishes config old request w version revision published some accepted stands last is =
+    let all : length (writes_of (old.published ++ Wrote w ∷ [])) ≡ length (writes_of old.published) + 1 =
+    ap length (writes_of-wrote old.published w) ∙ length-append (writes_of old.published) (w ∷ []) in
+    let number : w.revision ≡ length (writes_of old.published) + 1 = ap (λ (v : Write). v.revision) (sym (accepted_is_next old.bucket.version.config request old.published w accepted)) in
+    (w, ((ap (λ (c : Configuration). accept c request old.published) (sym (same_config config old some)) ∙ accepted), number ∙ (sym all ∙ (sym stands.last ∙ sym last)), is))

@@ -1,0 +1,56 @@
+-- What may cross threads: a reader and a feed may be handed to another, and a bucket under its lock shared, where the name of its opening may. Whoever starts threads over them cites
+-- these, and `Sent` of kv_store for versions; one `search` through the fields of them all finds no proof within its bounds.
+use denote.RattleType.{RattleType}
+use denote.Param.Send.{IsSend, IsSync, sendable}
+use Rattle.std.proofs.Crossing.{crosses}
+use Rattle.kv_store.proofs.Sent.{version_send, version_sync}
+use Rattle.kv_watch.proofs.cursor.Cursor.TheSendSync as cursor
+use Rattle.kv_live.specs.declared.history.LiveName as live_name
+use Rattle.kv_live.specs.contracts.bell.Bell as Bell
+use Rattle.kv_live.specs.contracts.copies.Copies as Copies
+use Rattle.kv_live.specs.contracts.feed.Feed as Feed
+use Rattle.kv_live.specs.contracts.publisher.Publisher as Publisher
+use Rattle.kv_live.specs.contracts.reader.Reader as Reader
+use Rattle.kv_live.specs.contracts.shelf.Shelf as Shelf
+use Rattle.kv_live.proofs.front.Front.TheSendSync as front
+use Rattle.kv_live.proofs.front.Glimpse.TheSendSync as glimpse
+use Rattle.kv_live.proofs.history.Head.TheSendSync as head
+use Rattle.left_right.proofs.reader.Reader.TheSendSync as seat
+use Rattle.left_right.proofs.writer.Writer.TheSendSync as writer
+use Rattle.kv_bucket.specs.contracts.bucket.Bucket as Bucket
+use Rattle.kv_live.specs.contracts.keeper.Keeper as Keeper
+use Rattle.kv_live.specs.contracts.live.Live as Live
+
+shelf_send : IsSend Shelf.the_row
+shelf_send = let v = version_send in search (sendable, glimpse.the_field_send) depth 20
+
+shelf_sync : IsSync Shelf.the_row
+shelf_sync = let v = version_sync in search (sendable, glimpse.the_field_sync) depth 20
+
+bell_send : IsSend Bell.the_row
+bell_send = search (sendable, crosses) depth 20
+
+bell_sync : IsSync Bell.the_row
+bell_sync = search (sendable, crosses) depth 20
+
+bucket_send : IsSend Bucket.the_row
+bucket_send = let v = version_send in let c = cursor.the_send in search (sendable, crosses) depth 20
+
+module _ (N : RattleType) (g : live_name.Ghosts N.Denot) (s : IsSend N) (y : IsSync N) where
+  pub reader_send : IsSend (Reader.the_row N g)
+  reader_send = let h = shelf_send in let i = shelf_sync in search (sendable, crosses, bell_send, seat.the_send, seat.the_field_send, front.the_send) depth 20
+
+  pub feed_send : IsSend (Feed.the_row N g)
+  feed_send = let h = shelf_send in let r = reader_send in let c = cursor.the_send in search sendable depth 20
+
+  copies_send : IsSend (Copies.the_row N g)
+  copies_send = let h = shelf_send in let i = shelf_sync in search (sendable, crosses, writer.the_send, writer.the_field_send, head.the_field_send) depth 20
+
+  publisher_send : IsSend (Publisher.the_row N g)
+  publisher_send = let h = shelf_send in let c = copies_send in search (sendable, crosses, bell_send, front.the_send) depth 20
+
+  keeper_send : IsSend (Keeper.the_row N g)
+  keeper_send = let b = bucket_send in let p = publisher_send in search (sendable, crosses) depth 20
+
+  pub live_sync : IsSync (Live.the_row N g)
+  live_sync = let k = keeper_send in search (sendable, crosses, bell_sync) depth 20

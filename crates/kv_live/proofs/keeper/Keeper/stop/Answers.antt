@@ -1,0 +1,12 @@
+use Rattle.kv_model.specs.declared.stopped.Stopped.{Stopped}
+use Rattle.kv_model.specs.declared.call.Call.TheVariants as calls
+use Rattle.kv_model.specs.Answers.{Ended}
+use Rattle.kv_live.specs.Keeping.{Kept, kept_of}
+use Rattle.kv_live.proofs.Keeping.{quiet_stop, somewhere_quiet}
+use Rattle.kv_live.proofs.keeper.Keeper.stop.Goals as goal
+
+pub invariant_of-self : goal.invariant_of-self
+invariant_of-self g c =
+    let was = c.self.inside in
+    let old : Kept = kept_of was.bucket was.publisher in
+    somewhere_quiet (calls.Stop c.args.number) (λ (stopped : Stopped). Ended stopped.handed) g.N.LiveName.opening.config old c.stop.new.self c.stop.result (quiet_stop c.args.number) c.self.invariant c.stop.ensures.ok c.stop.ensures.unchanged

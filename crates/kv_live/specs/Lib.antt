@@ -1,0 +1,7 @@
+pub mod Feeding
+pub mod Keeping
+pub mod Known
+pub mod Openings
+pub mod Owed
+pub mod Posted
+pub mod inside

@@ -1,0 +1,5 @@
+pub mod Deeds
+pub mod Fed
+pub mod Rules
+pub mod Shelves
+pub mod Views

@@ -1,0 +1,9 @@
+-- The act that a deed is.
+use Rattle.kv_model.specs.Acts.{Act}
+use Rattle.kv_model.specs.Acts as acts
+use Rattle.kv_live.specs.declared.deed.Kind.{Kind}
+use Rattle.kv_live.specs.declared.deed.Kind.TheVariants as kinds
+
+abbrev pub act_of : Kind → Act
+act_of (kinds.Wrote write) = acts.Wrote write.value
+act_of kinds.Seal = acts.Seal

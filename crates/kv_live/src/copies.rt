@@ -1,0 +1,122 @@
+//! The two copies of what is published, and the end of them that publishes.
+
+ghost use Rattle.std.specs.Prelude.{◌≡◌, ◌<◌, ◌^◌, ◌++◌, ◌∷◌, [], true, IfSome, MatchResult, length};
+ghost use Rattle.left_right.specs.Sides.{view};
+ghost use Rattle.kv_keys.specs.declared.error.KvError.TheVariants.{OutOfMemory, NoReader};
+ghost use Rattle.kv_model.specs.Acts.{IsPrefix};
+ghost use Rattle.kv_live.specs.inside.Shelves.{IsOf};
+
+use crate::deed::Deed;
+use crate::front::Front;
+use crate::history::{Head, LiveName};
+use crate::rule::{Published, Shows, View};
+use crate::shelf::Shelf;
+use kv_keys::KvError;
+use left_right::reader::Reader as Seat;
+use left_right::writer::Writer;
+use std::alloc::Global;
+use std::marker::Model;
+use std::mem::ManuallyDrop;
+use std::sync::Wait;
+
+/// The store of the opening N, with the right end of its history: there is one such end for a name, and so one store.
+/// Contracts see it as the acts that are published. It is not `Drop`: end it by `close`. The writer lies in a
+/// `ManuallyDrop`, since a lock asks how to drop what it holds, and no code can drop a writer.
+pub struct Copies<N: LiveName> {
+    writer: ManuallyDrop<Writer<Shelf, Shelf, View, Published<N>>>,
+    head: Head<N>,
+}
+
+impl<N: LiveName> Model for Copies<N> {
+    ghost use Rattle.std.specs.Prelude.{List};
+    ghost use Rattle.std.specs.Mem.{manually_drop_value};
+    ghost use Rattle.kv_model.specs.Acts.{Act};
+
+    ghost Value = { List Act };
+
+    ghost view = { λ p. (manually_drop_value p.writer).desk.shown.value.glimpse.sight.log };
+}
+
+impl<N: LiveName> Copies<N> {
+    fn of(writer: Writer<Shelf, Shelf, View, Published<N>>, head: Head<N>) -> Copies<N>
+        ensures { result ≡ writer.desk.shown.value.glimpse.sight.log }
+    {
+        // `close` and `publish` take it out again.
+        let writer = unsafe { ManuallyDrop::new_unchecked(writer) };
+        Copies { writer, head }
+    }
+
+    /// Two copies that are alike, with room for so many readers. The third shelf is the first that is pending: it makes
+    /// the room in which all later ones find a place.
+    pub fn new<R: Wait>(
+        rt: &R,
+        alloc: Global,
+        head: Head<N>,
+        first: Shelf,
+        second: Shelf,
+        third: Shelf,
+        readers: usize,
+    ) -> Result<Copies<N>, KvError>
+        requires of { IsOf N.opening first }
+        requires alike { (first.glimpse.sight ≡ second.glimpse.sight) × (first.version.config ≡ second.version.config) }
+        requires readers { (0 < readers) × (readers < 2 ^ 32) }
+        ensures { MatchResult result (λ p. p ≡ first.glimpse.sight.log) (λ e. e ≡ OutOfMemory) }
+    {
+        let mut writer = Writer::new(alloc, first, second, readers)?;
+        if writer.append(third).is_err() {
+            Copies::of(writer, head).close(rt);
+            return Err(KvError::OutOfMemory);
+        }
+        Ok(Copies::of(writer, head))
+    }
+
+    /// A new place for a reader.
+    pub fn seat(&self) -> Result<Seat<Shelf, View, Published<N>>, KvError>
+        ensures { MatchResult result (λ s. (view s.place).seen ≡ []) (λ e. e ≡ NoReader) }
+    {
+        match self.writer.factory().reader() {
+            Ok(seat) => Ok(seat),
+            Err(_) => Err(KvError::NoReader),
+        }
+    }
+
+    /// Adds an act to all that was seen of the history, and says whether it did. It did not where the history is
+    /// longer.
+    pub fn note(&self, seen: &mut Front<N>, deed: Deed) -> bool
+        requires { length seen.old < 2 ^ 62 }
+        ensures { result ≡ true → seen.new ≡ seen.old ++ deed ∷ [] }
+    {
+        seen.add(&self.head, deed)
+    }
+
+    /// Publishes a shelf. What is pending is replaced by it. It waits for those that read the other copy.
+    ///
+    /// Where it is refused the copies have ended. It never is: there is room for what is pending since the beginning,
+    /// and no version is shared as often as can be counted.
+    pub fn publish<R: Wait>(self, rt: &R, shelf: Shelf) -> Option<Copies<N>>
+        requires of { IsOf N.opening shelf }
+        requires grows { IsPrefix self shelf.glimpse.sight.log }
+        ensures { IfSome result (λ p. p ≡ shelf.glimpse.sight.log) }
+    {
+        let Copies { writer, head } = self;
+        let mut writer = ManuallyDrop::into_inner(writer);
+        if writer.append(shelf).is_err() {
+            Copies::of(writer, head).close(rt);
+            return None;
+        }
+        let (writer, published) = writer.publish_as::<Shows, R>(rt);
+        match published {
+            Ok(()) => Some(Copies::of(writer, head)),
+            Err(_) => {
+                Copies::of(writer, head).close(rt);
+                None
+            }
+        }
+    }
+
+    /// Ends it. It waits for the readers that are reading.
+    pub fn close<R: Wait>(self, rt: &R) {
+        let Copies { writer, head: _ } = self;
+        drop(ManuallyDrop::into_inner(writer).take(rt));
+    }
+}

@@ -1,0 +1,47 @@
+//! Acts as proofs see them.
+
+ghost use Rattle.std.specs.Prelude.{◌≡◌};
+ghost use Rattle.kv_model.specs.Acts.{Wrote, Seal};
+
+use kv_model::Write;
+use std::marker::Model;
+use std::snapshot::Snapshot;
+
+#[derive(Drop)]
+enum Kind {
+    Wrote(Snapshot<Write>),
+    Seal,
+}
+
+/// An act that was accepted. It has no bytes of the write: contracts alone see which act it is.
+#[derive(Drop)]
+pub struct Deed {
+    kind: Kind,
+}
+
+impl Model for Deed {
+    ghost use Rattle.kv_model.specs.Acts.{Act};
+    ghost use Rattle.kv_live.specs.inside.Deeds.{act_of};
+
+    ghost Value = { Act };
+
+    ghost view = { λ d. act_of d.kind };
+}
+
+impl Deed {
+    /// This write.
+    pub fn wrote(write: &Write) -> Deed
+        ensures { result ≡ Wrote write.now }
+    {
+        Deed {
+            kind: Kind::Wrote(Snapshot::of(write)),
+        }
+    }
+
+    /// A seal.
+    pub fn seal() -> Deed
+        ensures { result ≡ Seal }
+    {
+        Deed { kind: Kind::Seal }
+    }
+}

@@ -1,0 +1,257 @@
+//! Feeds: watches outside the lock.
+
+ghost use Rattle.std.specs.Prelude.{◌≡◌, ◌≤◌, ◌↔◌, List, [], ⊤, None, IfOk, IfErr, MatchResult, length, take};
+ghost use Rattle.std.specs.Borrow.{sem, follows_so};
+ghost use Rattle.std.specs.Option.{option_map};
+ghost use mathlib.Core.Option.{none};
+ghost use Rattle.kv_keys.specs.declared.error.KvError.TheVariants.{OutOfMemory};
+ghost use Rattle.kv_model.specs.Acceptance.{IsLawful};
+ghost use Rattle.kv_model.specs.Acts.{Act, Write, IsPrefix};
+ghost use Rattle.kv_watch.specs.Following.{InPlace};
+ghost use Rattle.kv_model.specs.Given.{event_of};
+ghost use Rattle.kv_watch.specs.Taking.{item_taken};
+ghost use Rattle.kv_live.specs.inside.Fed.{acts_on, opened};
+ghost use Rattle.kv_live.specs.Feeding.{HasSeenMore, HasLearned, IsRefreshed, IsNotRefreshed, WentOn, HandsNext, given_by, next_of, after_item};
+ghost use Rattle.kv_live.specs.Known.{IsUnread};
+ghost use Rattle.kv_live.specs.Owed.{Owes, HasOnce};
+ghost use Rattle.kv_live.specs.inside.Shelves.{IsOf};
+
+use crate::bell::Woken;
+use crate::history::LiveName;
+use crate::reader::Reader;
+use crate::receipt::Receipt;
+use crate::shelf::Shelf;
+use kv_keys::{Filters, KvError};
+use kv_model::{Event, Options, Stopped};
+use kv_watch::{Cursor, Taken};
+use std::alloc::Global;
+use std::marker::Model;
+use std::rt::Clock;
+use std::sync::Wait;
+use std::time::Duration;
+
+/// A watch that takes no lock: it goes on from version to version as it is refreshed. Contracts see its reader, the
+/// acts when it was opened, those that its version stands for, what it shows, and how many items it handed out.
+#[derive(Drop)]
+pub struct Feed<N: LiveName> {
+    reader: Reader<N>,
+    held: Held,
+    cursor: Cursor,
+}
+
+// What a feed was opened on, and what it went on to: one field, which `take` lends from.
+#[derive(Drop)]
+struct Held {
+    base: Shelf,
+    current: Shelf,
+}
+
+impl<N: LiveName> Model for Feed<N> {
+    ghost use Rattle.kv_live.specs.inside.Fed.{IsFed, feeding_of};
+    ghost use Rattle.kv_live.specs.Feeding.{Feeding};
+
+    ghost Value = { Feeding };
+
+    ghost view = { λ f. feeding_of f.reader f.held.base f.held.current f.cursor };
+
+    ghost invariant = { λ f. IsFed N.opening.config f.reader f.held.base f.held.current f.cursor };
+}
+
+// What a feed needs that begins on a shelf: a snapshot of it, and a cursor before the first item.
+fn beginning(
+    alloc: Global,
+    shelf: &Shelf,
+    filters: &Filters,
+    options: Options,
+) -> Result<(Shelf, Cursor), KvError>
+    ensures base { IfOk result
+        (λ p. (p.0.version ≡ shelf.now.version) × (p.0.glimpse.sight ≡ shelf.now.glimpse.sight)) }
+    ensures shows { IfOk result (λ p. (p.1.filters ≡ filters.now) × (p.1.options ≡ options)) }
+    ensures place { IfOk result
+        (λ p. InPlace (acts_on shelf.now) (acts_on shelf.now) 0 shelf.now.version shelf.now.version p.1) }
+    ensures err { IfErr result (λ e. e ≡ OutOfMemory) }
+{
+    let base = shelf.again()?;
+    let cursor = Cursor::open(alloc, shelf.version(), filters, options)?;
+    Ok((base, cursor))
+}
+
+// A feed that begins on a shelf.
+fn begin<N: LiveName>(
+    reader: Reader<N>,
+    shelf: Shelf,
+    filters: &Filters,
+    options: Options,
+) -> Result<Feed<N>, (Reader<N>, KvError)>
+    requires of { IsOf N.opening shelf }
+    requires seen { IsPrefix (acts_on shelf) reader.seen }
+    ensures ok { IfOk result (λ feed. feed ≡ opened reader (acts_on shelf) filters.now options) }
+    ensures err { IfErr result (λ e. (e.0 ≡ reader) × (e.1 ≡ OutOfMemory)) }
+{
+    match beginning(reader.alloc(), &shelf, filters, options) {
+        Ok((base, cursor)) => Ok(Feed {
+            reader,
+            held: Held {
+                base,
+                current: shelf,
+            },
+            cursor,
+        }),
+        Err(refusal) => Err((reader, refusal)),
+    }
+}
+
+impl<N: LiveName> Reader<N> {
+    /// A feed that begins with the version that is published. It costs an entry, the keys, and what it will hand out.
+    /// Where it is refused the reader comes back.
+    pub fn watch(self, filters: &Filters, options: Options) -> Result<Feed<N>, (Reader<N>, KvError)>
+        ensures reader { IfOk result (λ feed. HasSeenMore self feed.reader × IsPrefix self.told feed.reader.seen) }
+        ensures ok { IfOk result (λ feed. feed ≡ opened feed.reader feed.reader.seen filters.now options) }
+        ensures err { IfErr result (λ e. HasSeenMore self e.0 × IsUnread e.1) }
+    {
+        let mut reader = self;
+        match reader.shelf() {
+            Ok(shelf) => begin(reader, shelf, filters, options),
+            Err(refusal) => Err((reader, refusal)),
+        }
+    }
+
+    /// A feed that begins with the empty version, so that every accepted write is live for it. It doesn't enter: it has
+    /// nothing to hand out but the end marker before it is refreshed.
+    pub fn watch_from_empty(
+        self,
+        filters: &Filters,
+        options: Options,
+    ) -> Result<Feed<N>, (Reader<N>, KvError)>
+        ensures ok { IfOk result (λ feed. feed ≡ opened self [] filters.now options) }
+        ensures err { IfErr result (λ e. (e.0 ≡ self) × (e.1 ≡ OutOfMemory)) }
+    {
+        match self.empty_shelf() {
+            Ok(shelf) => begin(self, shelf, filters, options),
+            Err(refusal) => Err((self, refusal)),
+        }
+    }
+}
+
+impl<N: LiveName> Feed<N> {
+    ghost use Rattle.kv_live.specs.contracts.feed.Feed.{the_row};
+
+    /// Goes on to the version that is published, at once at every size. Where it is refused the feed stays on its
+    /// version.
+    pub fn refresh(&mut self) -> Result<(), KvError>
+        ensures ok { IfOk result (λ _. IsRefreshed self.old self.new) }
+        ensures refused { IfErr result (λ e. IsUnread e × IsNotRefreshed self.old self.new) }
+    {
+        let shelf = self.reader.shelf()?;
+        self.held.current = shelf;
+        Ok(())
+    }
+
+    /// What `take` would hand out.
+    pub fn peek(&self) -> Taken<'_>
+        ensures { item_taken result ≡ next_of N.opening.config.history self.now }
+    {
+        self.cursor
+            .peek(self.held.base.version(), self.held.current.version())
+    }
+
+    /// Hands out the next item, lent from the feed's version. Where all was handed out it is `Empty`, and nothing
+    /// changes.
+    pub fn take(&mut self) -> Taken<'_>
+        ensures* after { sem 𝓛 (follows_so (the_row N.row N.LiveName) (the_row N.row N.LiveName) self.entry.ghost_name none (λ _ _. ⊤)
+            (λ left. left ≡ after_item self.old (item_taken result))) }
+        ensures once { item_taken result ≡ None → (told : List Act) (w : Write) → Owes self.old told w →
+            HasOnce self.old w (take self.old.handed (given_by N.opening.config.history self.old)) }
+        ensures value { item_taken result ≡ next_of N.opening.config.history self.old }
+        ensures end { (item_taken result ≡ None) ↔ (self.old.handed
+            ≡ length (given_by N.opening.config.history self.old)) }
+    {
+        let held = &self.held;
+        self.cursor
+            .take_settled(held.base.version(), held.current.version())
+    }
+
+    /// Moves on behind the item that `peek` showed, as `take` does, and doesn't look it up again: so that what is shown
+    /// can be copied first, and want of memory loses no item.
+    pub fn pass(&mut self, peeked: Option<Event>)
+        requires next { peeked ≡ option_map event_of (next_of N.opening.config.history self.old) }
+        ensures after { self.new ≡ after_item self.old (next_of N.opening.config.history self.old) }
+        ensures once { peeked ≡ None → (told : List Act) (w : Write) → Owes self.old told w →
+            HasOnce self.old w (take self.old.handed (given_by N.opening.config.history self.old)) }
+    {
+        self.cursor.pass(peeked, self.held.current.version());
+    }
+
+    /// Sleeps until something was published since its last accepted refresh began, or the bucket was closed, and says
+    /// which. It takes no lock.
+    pub fn wait<R: Wait>(&self, rt: &R) -> Woken {
+        self.reader.wait(rt)
+    }
+
+    /// The same, for no longer than the limit. It is `None` where the time was over first, or the clock couldn't be
+    /// read.
+    pub fn wait_timeout<R: Wait + Clock>(&self, rt: &R, limit: Duration) -> Option<Woken> {
+        self.reader.wait_timeout(rt, limit)
+    }
+
+    // Goes on until there is a next item, or the bucket was closed and there will never be one.
+    fn go_on<R: Wait>(&mut self, rt: &R) -> Result<(), KvError>
+        ensures goes { WentOn self.old self.new }
+        ensures err { IfErr result IsUnread }
+    {
+        for _ in rt.forever() {
+            let Taken::Empty = self.peek() else {
+                return Ok(());
+            };
+            match self.wait(rt) {
+                Woken::Changed => self.refresh()?,
+                Woken::Closed => return Ok(()),
+            }
+        }
+        unreachable!()
+    }
+
+    /// Hands out the next item, lent from the feed's version, and waits where there is none yet. It is `Empty` once the
+    /// bucket was closed and all was handed out.
+    pub fn next<R: Wait>(&mut self, rt: &R) -> Result<Taken<'_>, KvError>
+        ensures* after { sem 𝓛 (follows_so (the_row N.row N.LiveName) (the_row N.row N.LiveName) self.entry.ghost_name none (λ _ _. ⊤)
+            (λ left. MatchResult result
+            (λ taken. HandsNext N.opening.config.history self.old (item_taken taken) left)
+            (λ e. WentOn self.old left × IsUnread e))) }
+    {
+        self.go_on(rt)?;
+        Ok(self.take())
+    }
+
+    /// How many items were handed out, the end marker counted.
+    pub fn handed(&self) -> u64
+        ensures value { result ≡ self.now.handed }
+        ensures within { result ≤ length (given_by N.opening.config.history self.now) }
+        ensures prefix { IsPrefix self.now.began self.now.acts }
+        ensures seen { IsPrefix self.now.acts self.now.reader.seen }
+        ensures lawful { IsLawful N.opening.config self.now.acts }
+    {
+        self.cursor.handed()
+    }
+
+    /// Ends the feed. Its reader comes back.
+    pub fn stop(self) -> (Reader<N>, Stopped)
+        ensures reader { result.0 ≡ self.reader }
+        ensures handed { result.1.handed ≡ self.handed }
+    {
+        let Feed {
+            reader,
+            held: _,
+            cursor,
+        } = self;
+        let handed = cursor.handed();
+        (reader, Stopped { handed })
+    }
+
+    /// Takes in a receipt. Each refresh from now on goes on to acts that begin with those that the receipt tells.
+    pub fn learn(&mut self, receipt: &Receipt<N>)
+        ensures { HasLearned receipt.now self.old self.new }
+    {
+        self.reader.learn(receipt);
+    }
+}

@@ -1,0 +1,104 @@
+//! What is published.
+
+ghost use Rattle.std.specs.Prelude.{◌≡◌, IfOk, IfErr};
+ghost use Rattle.kv_keys.specs.declared.error.KvError.TheVariants.{OutOfMemory};
+ghost use Rattle.kv_store.specs.Standing.{StandsFor};
+
+use crate::front::Glimpse;
+use crate::history::Sight;
+use kv_keys::KvError;
+use kv_model::Config;
+use kv_store::Version;
+use left_right::Absorb;
+use std::alloc::AllocError;
+use std::marker::Model;
+
+/// A version, and a glimpse of the history: the version stands for its acts.
+#[derive(Drop)]
+pub struct Shelf {
+    version: Version,
+    glimpse: Glimpse,
+}
+
+impl Model for Shelf {
+    ghost use Rattle.kv_store.specs.Standing.{StandsFor};
+    ghost use Rattle.kv_live.specs.inside.Shelves.{Shelved};
+
+    ghost Value = { Shelved };
+
+    ghost view = { λ s. record { version = s.version; glimpse = s.glimpse } };
+
+    ghost invariant = { λ s. StandsFor s.glimpse.sight.log s.version };
+}
+
+impl Shelf {
+    pub fn new(version: Version, glimpse: Glimpse) -> Shelf
+        requires { StandsFor glimpse.sight.log version }
+        ensures { result ≡ record { version = version; glimpse = glimpse } }
+    {
+        Shelf { version, glimpse }
+    }
+
+    /// Its parts.
+    pub fn version(&self) -> &Version
+        ensures value { result.now ≡ self.now.version }
+        ensures stands { StandsFor self.now.glimpse.sight.log self.now.version }
+    {
+        &self.version
+    }
+
+    pub fn glimpse(&self) -> &Glimpse
+        ensures { result.now ≡ self.now.glimpse }
+    {
+        &self.glimpse
+    }
+
+    pub fn into_version(self) -> Version
+        ensures value { result ≡ self.version }
+        ensures stands { StandsFor self.glimpse.sight.log self.version }
+    {
+        let Shelf {
+            version,
+            glimpse: _,
+        } = self;
+        version
+    }
+
+    /// An equal shelf: one snapshot of the version.
+    pub fn again(&self) -> Result<Shelf, KvError>
+        ensures ok { IfOk result (λ s. (s.version ≡ self.now.version) × (s.glimpse.sight ≡ self.now.glimpse.sight)) }
+        ensures stands { IfOk result (λ s. StandsFor self.now.glimpse.sight.log s.version) }
+        ensures err { IfErr result (λ e. e ≡ OutOfMemory) }
+    {
+        let version = self.version.snapshot()?;
+        Ok(Shelf {
+            version,
+            glimpse: self.glimpse.again(),
+        })
+    }
+}
+
+/// An operation is the whole next shelf. The two copies have the sight in common, and so what they stand for, and the
+/// configuration.
+impl Absorb<Shelf> for Shelf {
+    type State = (Sight, Config);
+
+    ghost state = { λ s. (s.glimpse.sight, s.version.config) };
+
+    ghost applied = { λ before next. (next.glimpse.sight, next.version.config) };
+
+    fn absorb_first(&mut self, next: &Shelf, _other: &Shelf) -> Result<(), AllocError> {
+        match next.again() {
+            Ok(next) => {
+                *self = next;
+                Ok(())
+            }
+            Err(_) => Err(AllocError),
+        }
+    }
+
+    fn absorb_second(&mut self, next: Shelf, _other: &Shelf) -> Result<(), Shelf> {
+        *self = next;
+        Ok(())
+    }
+}

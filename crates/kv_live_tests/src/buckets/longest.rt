@@ -1,0 +1,69 @@
+//! What is as long, or as many, as it may be. Memory suffices for it, so no call may give up on it.
+
+use super::*;
+
+const LONGEST_KEY: usize = 255;
+
+const LONGEST_VALUE: usize = 1_048_576;
+
+fn sixteen_filters(alloc: Global) -> Result<Filters, KvError> {
+    let text = "a,b,c,d.*,e,f,g,h,*,j.>,k,l,m,n,o,p";
+    match Filters::parse(alloc, text) {
+        Err(KvError::OutOfMemory) => Filters::parse(alloc, text),
+        filters => filters,
+    }
+}
+
+fn key_once(alloc: Global) -> Result<Key, KvError> {
+    let mut text = String::new(alloc);
+    for _ in 0..LONGEST_KEY {
+        text.push_str("k")?;
+    }
+    Key::parse(alloc, &text)
+}
+
+fn key(alloc: Global) -> Result<Key, KvError> {
+    match key_once(alloc) {
+        Err(KvError::OutOfMemory) => key_once(alloc),
+        key => key,
+    }
+}
+
+fn request_once(alloc: Global) -> Result<Request, KvError> {
+    let value = vec![in alloc; 7u8; LONGEST_VALUE]?;
+    Ok(Request::Put {
+        key: key(alloc)?,
+        value,
+    })
+}
+
+fn request(alloc: Global) -> Result<Request, KvError> {
+    match request_once(alloc) {
+        Err(KvError::OutOfMemory) => request_once(alloc),
+        request => request,
+    }
+}
+
+#[test]
+fn sixteen_filters_the_longest_key_and_the_longest_value(rt: HostRuntime) -> Result<(), Fail> {
+    let mut bucket = keeping(rt.alloc(), 64)?;
+    let filters = sixteen_filters(rt.alloc())?;
+    assert_eq!(rt; watch(&rt, &mut bucket, &filters)?, 1);
+    let request = request(rt.alloc())?;
+    assert_eq!(rt; write(&rt, &mut bucket, &request)?, 1);
+    let written = bucket.version().get(request.key())?;
+    assert_eq!(rt; written.value().len(), LONGEST_VALUE);
+    assert_eq!(rt; take(&mut bucket, 1), Answer::Marker);
+    assert_eq!(rt; take(&mut bucket, 1), Answer::Entry(1));
+    assert_eq!(rt; take(&mut bucket, 1), Answer::Empty);
+    Ok(())
+}
+
+#[test]
+fn a_sealed_bucket_is_sealed_again(rt: HostRuntime) -> Result<(), Fail> {
+    let mut bucket = keeping(rt.alloc(), 1)?;
+    seal(&rt, &mut bucket)?;
+    seal(&rt, &mut bucket)?;
+    assert!(rt; bucket.version().status().sealed);
+    Ok(())
+}

@@ -1,0 +1,284 @@
+//! Rows of calls in one run.
+
+use super::*;
+
+fn push_put(alloc: Global, calls: &mut Vec<Call>, key: &str, value: &str) -> Result<(), KvError> {
+    calls.push(Call::Write(put(alloc, key, value)?))?;
+    Ok(())
+}
+
+fn initial_calls_once(alloc: Global, filters: &Filters) -> Result<Vec<Call>, KvError> {
+    let mut calls = Vec::new(alloc);
+    for (key, value) in [("b", "1"), ("a", "2"), ("b", "3")] {
+        push_put(alloc, &mut calls, key, value)?;
+    }
+    calls.push(Call::Watch(filters.copy(alloc)?, LATEST))?;
+    for _ in 0..4u8 {
+        calls.push(Call::Take(1))?;
+    }
+    Ok(calls)
+}
+
+fn initial_calls(alloc: Global, filters: &Filters) -> Result<Vec<Call>, KvError> {
+    match initial_calls_once(alloc, filters) {
+        Err(KvError::OutOfMemory) => initial_calls_once(alloc, filters),
+        calls => calls,
+    }
+}
+
+fn is_entry(reply: Option<&Reply>, key: &str, value: &[u8]) -> bool {
+    match reply {
+        Some(Reply::Entry(seen)) => match &seen.value {
+            Some(shown) => seen.key.as_str() == key && shown.as_slice() == value,
+            None => false,
+        },
+        _ => false,
+    }
+}
+
+// A bucket looks like one that was asked these calls alone.
+fn looks_asked(
+    rt: &impl Abort,
+    alloc: Global,
+    history: u64,
+    calls: &[Call],
+    bucket: &Bucket,
+) -> Result<(), KvError> {
+    let mut other = keeping(alloc, history)?;
+    let mut replies = Vec::new(alloc);
+    other.run(calls, &mut replies)?;
+    assert_eq!(rt; look(bucket), look(&other));
+    Ok(())
+}
+
+// The replies to the calls of a bucket that keeps so many entries of each key. Where a request for memory is refused,
+// the calls before the refused one were done and answered, and the others go on from there.
+fn replies(
+    rt: &impl Abort,
+    alloc: Global,
+    history: u64,
+    calls: &[Call],
+) -> Result<Vec<Reply>, KvError> {
+    let mut bucket = keeping(alloc, history)?;
+    let mut replies = Vec::new(alloc);
+    if let Err(error) = bucket.run(calls, &mut replies) {
+        assert_eq!(rt; error, KvError::OutOfMemory);
+        let done = replies.len();
+        assert!(rt; done < calls.len());
+        looks_asked(rt, alloc, history, &calls[..done], &bucket)?;
+        bucket.run(&calls[done..], &mut replies)?;
+    }
+    Ok(replies)
+}
+
+fn are_answers(rt: &impl Abort, replies: &[Reply], answers: &[Answer]) {
+    assert_eq!(rt; replies.len(), answers.len());
+    for (reply, answer) in replies.iter().zip(answers) {
+        assert_eq!(rt; brief(reply), *answer);
+    }
+}
+
+fn initial_by(rt: &impl Abort, alloc: Global, filters: &Filters) -> Result<(), KvError> {
+    let calls = initial_calls(alloc, filters)?;
+    let replies = replies(rt, alloc, 1, &calls)?;
+    let answers = [
+        Answer::Revision(1),
+        Answer::Revision(2),
+        Answer::Revision(3),
+        Answer::Watch(1),
+        Answer::Entry(2),
+        Answer::Entry(3),
+        Answer::Marker,
+        Answer::Empty,
+    ];
+    are_answers(rt, &replies, &answers);
+    assert!(rt; is_entry(replies.get(4), "a", b"2"));
+    assert!(rt; is_entry(replies.get(5), "b", b"3"));
+    Ok(())
+}
+
+#[test]
+fn initial_by_revision_in_a_run(rt: HostRuntime) -> Result<(), Fail> {
+    let parsed = all_keys(rt.alloc())?;
+    initial_by(&rt, rt.alloc(), &parsed)?;
+    let single = one_filter(rt.alloc())?;
+    initial_by(&rt, rt.alloc(), &single)?;
+    Ok(())
+}
+
+fn key(alloc: Global) -> Result<Key, KvError> {
+    Key::parse(alloc, "k")
+}
+
+fn push_reads(alloc: Global, calls: &mut Vec<Call>) -> Result<(), KvError> {
+    calls.push(Call::Get(key(alloc)?))?;
+    calls.push(Call::GetAt(key(alloc)?, 1))?;
+    calls.push(Call::GetAt(key(alloc)?, 3))?;
+    calls.push(Call::History(key(alloc)?))?;
+    Ok(())
+}
+
+fn push_lists(alloc: Global, calls: &mut Vec<Call>) -> Result<(), KvError> {
+    calls.push(Call::Keys(Filter::parse(alloc, "*")?))?;
+    calls.push(Call::Watch(all_keys(alloc)?, LATEST))?;
+    Ok(())
+}
+
+fn push_numbers(calls: &mut Vec<Call>) -> Result<(), KvError> {
+    calls.push(Call::Status)?;
+    calls.push(Call::Take(2))?;
+    calls.push(Call::Stop(1))?;
+    calls.push(Call::Seal)?;
+    Ok(())
+}
+
+fn other_calls_once(alloc: Global) -> Result<Vec<Call>, KvError> {
+    let mut calls = Vec::new(alloc);
+    push_put(alloc, &mut calls, "k", "1")?;
+    push_put(alloc, &mut calls, "k", "2")?;
+    push_reads(alloc, &mut calls)?;
+    push_lists(alloc, &mut calls)?;
+    push_numbers(&mut calls)?;
+    push_put(alloc, &mut calls, "k", "3")?;
+    Ok(calls)
+}
+
+fn other_calls(alloc: Global) -> Result<Vec<Call>, KvError> {
+    match other_calls_once(alloc) {
+        Err(KvError::OutOfMemory) => other_calls_once(alloc),
+        calls => calls,
+    }
+}
+
+#[test]
+fn each_call_in_a_run(rt: HostRuntime) -> Result<(), Fail> {
+    let calls = other_calls(rt.alloc())?;
+    let replies = replies(&rt, rt.alloc(), 2, &calls)?;
+    let status = Status {
+        history: 2,
+        last: 2,
+        sealed: false,
+        stored: 2,
+        values: 2,
+    };
+    let answers = [
+        Answer::Revision(1),
+        Answer::Revision(2),
+        Answer::Entry(2),
+        Answer::Entry(1),
+        Answer::Refused(KvError::KeyNotFound),
+        Answer::Count(2),
+        Answer::Count(1),
+        Answer::Watch(1),
+        Answer::Status(status, 1),
+        Answer::Refused(KvError::NoSuchWatch),
+        Answer::Stopped(0),
+        Answer::Sealed,
+        Answer::Refused(KvError::Sealed),
+    ];
+    are_answers(&rt, &replies, &answers);
+    Ok(())
+}
+
+// A watch, and then a put and a take of it, again and again: 10,001 calls.
+fn many_calls_once(alloc: Global) -> Result<Vec<Call>, KvError> {
+    let mut calls = Vec::new(alloc);
+    calls.push(Call::Watch(all_keys(alloc)?, LATEST))?;
+    for _ in 0..5_000u64 {
+        push_put(alloc, &mut calls, "k", "1")?;
+        calls.push(Call::Take(1))?;
+    }
+    Ok(calls)
+}
+
+fn many_calls(alloc: Global) -> Result<Vec<Call>, KvError> {
+    match many_calls_once(alloc) {
+        Err(KvError::OutOfMemory) => many_calls_once(alloc),
+        calls => calls,
+    }
+}
+
+#[test]
+fn ten_thousand_calls_in_a_run(rt: HostRuntime) -> Result<(), Fail> {
+    let calls = many_calls(rt.alloc())?;
+    let replies = replies(&rt, rt.alloc(), 1, &calls)?;
+    assert_eq!(rt; replies.len(), 10_001);
+    are_answers(
+        &rt,
+        &replies[9_999..],
+        &[Answer::Revision(5_000), Answer::Entry(4_999)],
+    );
+    Ok(())
+}
+
+fn push_writes_over_a_marker(alloc: Global, calls: &mut Vec<Call>) -> Result<(), KvError> {
+    let value = Vec::new(alloc);
+    calls.push(Call::Write(Request::Create {
+        key: key(alloc)?,
+        value,
+    }))?;
+    calls.push(Call::Write(Request::Purge {
+        key: key(alloc)?,
+        last: Some(3),
+    }))?;
+    Ok(())
+}
+
+fn calls_over_a_marker_once(alloc: Global) -> Result<Vec<Call>, KvError> {
+    let mut calls = Vec::new(alloc);
+    push_put(alloc, &mut calls, "k", "1")?;
+    calls.push(Call::Write(Request::Delete {
+        key: key(alloc)?,
+        last: None,
+    }))?;
+    calls.push(Call::Get(key(alloc)?))?;
+    calls.push(Call::GetAt(key(alloc)?, 1))?;
+    calls.push(Call::GetAt(key(alloc)?, 2))?;
+    calls.push(Call::History(key(alloc)?))?;
+    push_lists(alloc, &mut calls)?;
+    calls.push(Call::Take(1))?;
+    calls.push(Call::Take(1))?;
+    push_writes_over_a_marker(alloc, &mut calls)?;
+    for _ in 0..3u8 {
+        calls.push(Call::Take(1))?;
+    }
+    calls.push(Call::Stop(1))?;
+    calls.push(Call::Seal)?;
+    calls.push(Call::Seal)?;
+    Ok(calls)
+}
+
+fn calls_over_a_marker(alloc: Global) -> Result<Vec<Call>, KvError> {
+    match calls_over_a_marker_once(alloc) {
+        Err(KvError::OutOfMemory) => calls_over_a_marker_once(alloc),
+        calls => calls,
+    }
+}
+
+#[test]
+fn each_call_over_a_marker(rt: HostRuntime) -> Result<(), Fail> {
+    let calls = calls_over_a_marker(rt.alloc())?;
+    let replies = replies(&rt, rt.alloc(), 2, &calls)?;
+    let answers = [
+        Answer::Revision(1),
+        Answer::Revision(2),
+        Answer::Refused(KvError::KeyNotFound),
+        Answer::Entry(1),
+        Answer::Refused(KvError::KeyNotFound),
+        Answer::Count(2),
+        Answer::Count(0),
+        Answer::Watch(1),
+        Answer::Entry(2),
+        Answer::Marker,
+        Answer::Revision(3),
+        Answer::Revision(4),
+        Answer::Entry(3),
+        Answer::Entry(4),
+        Answer::Empty,
+        Answer::Stopped(4),
+        Answer::Sealed,
+        Answer::Sealed,
+    ];
+    are_answers(&rt, &replies, &answers);
+    Ok(())
+}

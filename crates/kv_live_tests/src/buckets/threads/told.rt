@@ -1,0 +1,183 @@
+//! Rows of told writes. A publish that is refused leaves receipts, readers and later writes working.
+
+use super::*;
+use kv_live::Receipt;
+
+// What is told.
+#[derive(Clone, Copy)]
+pub(super) enum Row {
+    ToldWrite,
+    ToldTwice,
+    SeenInTurn,
+}
+
+pub(super) fn run_row<N: LiveName + Send + Sync, R: Threads + Wait + Abort + Sync>(
+    rt: &R,
+    alloc: Global,
+    live: &Live<N>,
+    readers: Vec<Reader<N>>,
+    row: Row,
+) -> Result<(), KvError> {
+    match row {
+        Row::ToldWrite => told_write(rt, alloc, live, readers),
+        Row::ToldTwice => told_twice(rt, alloc, live, readers),
+        Row::SeenInTurn => seen_in_turn(rt, alloc, live, readers),
+    }
+}
+
+fn write_told_once<N: LiveName, R: Wait>(
+    rt: &R,
+    live: &Live<N>,
+    request: &Request,
+) -> Result<(u64, Receipt<N>), KvError> {
+    live.write_told(rt, request)
+}
+
+fn write_told<N: LiveName, R: Wait + Abort>(
+    rt: &R,
+    live: &Live<N>,
+    request: &Request,
+) -> Result<(u64, Receipt<N>), KvError> {
+    let before = look(rt, live);
+    match write_told_once(rt, live, request) {
+        Err(KvError::OutOfMemory) => {
+            is_as_before(rt, live, before);
+            write_told_once(rt, live, request)
+        }
+        told => told,
+    }
+}
+
+fn tells<N: LiveName, R: Abort>(rt: &R, receipt: &Receipt<N>, revision: u64) {
+    assert_eq!(rt; receipt.revision(), revision);
+}
+
+// The receipt of a put, which is told at this revision.
+fn told_at<N: LiveName, R: Wait + Abort>(
+    rt: &R,
+    alloc: Global,
+    live: &Live<N>,
+    revision: u64,
+) -> Result<Receipt<N>, KvError> {
+    let request = put(alloc, "a", "1")?;
+    let (answered, receipt) = write_told(rt, live, &request)?;
+    assert_eq!(rt; answered, revision);
+    tells(rt, &receipt, revision);
+    Ok(receipt)
+}
+
+#[test]
+fn told_write_is_handed_out(rt: HostRuntime) -> Result<(), Fail> {
+    run(&rt, rt.alloc(), super::Row::Told(Row::ToldWrite))?;
+    Ok(())
+}
+
+fn told_write<N: LiveName + Send + Sync, R: Threads + Wait + Abort + Sync>(
+    rt: &R,
+    alloc: Global,
+    live: &Live<N>,
+    readers: Vec<Reader<N>>,
+) -> Result<(), KvError> {
+    let filters = all_keys(alloc)?;
+    let (first, second) = two(readers)?;
+    let feed = open_feed(first, &filters)?;
+    let (receipt, ()) = join(rt, || told_at(rt, alloc, live, 1), || ());
+    let receipt = receipt?;
+    feed_sees(rt, feed, &receipt)?;
+    reader_sees(rt, second, &receipt, 1)?;
+    Ok(())
+}
+
+fn feed_sees<N: LiveName, R: Abort>(
+    rt: &R,
+    feed: Feed<N>,
+    receipt: &Receipt<N>,
+) -> Result<(), KvError> {
+    let mut feed = feed;
+    feed.learn(receipt);
+    refresh(rt, &mut feed)?;
+    takes_one(rt, &mut feed, Answer::Marker);
+    takes_one(rt, &mut feed, Answer::Entry(1));
+    takes_one(rt, &mut feed, Answer::Empty);
+    stopped_at(rt, feed, 2);
+    Ok(())
+}
+
+fn reader_sees<N: LiveName, R: Abort>(
+    rt: &R,
+    reader: Reader<N>,
+    receipt: &Receipt<N>,
+    revision: u64,
+) -> Result<Reader<N>, KvError> {
+    let mut reader = reader;
+    reader.learn(receipt);
+    reads_up_to(rt, &mut reader, revision)?;
+    Ok(reader)
+}
+
+#[test]
+fn receipts_in_any_order(rt: HostRuntime) -> Result<(), Fail> {
+    run(&rt, rt.alloc(), super::Row::Told(Row::ToldTwice))?;
+    Ok(())
+}
+
+// Each receipt is shown to two readers: a reader that learns an older one after a newer one knows no less.
+fn told_twice<N: LiveName + Send + Sync, R: Threads + Wait + Abort + Sync>(
+    rt: &R,
+    alloc: Global,
+    live: &Live<N>,
+    readers: Vec<Reader<N>>,
+) -> Result<(), KvError> {
+    let (first, second) = two(readers)?;
+    let older = told_at(rt, alloc, live, 1)?;
+    let newer = told_at(rt, alloc, live, 2)?;
+    let first = reader_sees(rt, first, &newer, 2)?;
+    reader_sees(rt, first, &older, 2)?;
+    let second = reader_sees(rt, second, &older, 2)?;
+    reader_sees(rt, second, &newer, 2)?;
+    Ok(())
+}
+
+fn has_seen_as<N: LiveName, R: Abort>(
+    rt: &R,
+    reader: &Reader<N>,
+    receipt: &Receipt<N>,
+    expected: bool,
+) {
+    assert_eq!(rt; reader.has_seen(receipt), expected);
+}
+
+// Whether each of two readers has seen all that the other has.
+fn compare_as<N: LiveName, R: Abort>(
+    rt: &R,
+    first: &Reader<N>,
+    second: &Reader<N>,
+    expected: (bool, bool),
+) {
+    let found = (first.has_seen_all_of(second), second.has_seen_all_of(first));
+    assert_eq!(rt; found, expected);
+}
+
+#[test]
+fn readers_that_look_in_turn(rt: HostRuntime) -> Result<(), Fail> {
+    run(&rt, rt.alloc(), super::Row::Told(Row::SeenInTurn))?;
+    Ok(())
+}
+
+fn seen_in_turn<N: LiveName + Send + Sync, R: Threads + Wait + Abort + Sync>(
+    rt: &R,
+    alloc: Global,
+    live: &Live<N>,
+    readers: Vec<Reader<N>>,
+) -> Result<(), KvError> {
+    let (mut first, mut second) = two(readers)?;
+    compare_as(rt, &first, &second, (true, true));
+    let receipt = told_at(rt, alloc, live, 1)?;
+    has_seen_as(rt, &first, &receipt, false);
+    reads_up_to(rt, &mut first, 1)?;
+    has_seen_as(rt, &first, &receipt, true);
+    compare_as(rt, &first, &second, (true, false));
+    reads_up_to(rt, &mut second, 1)?;
+    compare_as(rt, &first, &second, (true, true));
+    Ok(())
+}

@@ -1,0 +1,10 @@
+//! Examples of docs/library.md, which quotes them word for word. Each test runs its example, and runs it again where a
+//! request for memory was refused.
+
+use std::alloc::Global;
+use std::process::Abort;
+use std::test::Fail;
+
+mod first_look;
+mod service;
+mod threads;

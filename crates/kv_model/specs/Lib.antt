@@ -1,0 +1,14 @@
+pub mod Acts
+pub mod Requests
+pub mod Configuration
+pub mod Acceptance
+pub mod Retained
+pub mod Reads
+pub mod Flags
+pub mod Given
+pub mod Showing
+pub mod Answers
+pub mod State
+pub mod Runs
+pub mod Told
+pub mod Meeting

@@ -1,0 +1,5 @@
+//! Laws over the definitions alone: functions with empty bodies, whose clauses are what is proved. They know no version
+//! and no cursor.
+
+pub mod runs;
+pub mod watches;

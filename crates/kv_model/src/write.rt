@@ -1,0 +1,101 @@
+//! Accepted writes.
+
+ghost use Rattle.std.specs.Prelude.{◌≡◌};
+ghost use Rattle.kv_model.specs.Acts.{is_put, is_purge};
+
+use kv_keys::Key;
+use std::marker::Model;
+
+/// What a write does to its key.
+#[derive(Clone, Copy, Debug, PartialEq, Eq)]
+pub enum Op {
+    /// Gives it a value.
+    Put,
+    /// Writes a marker that it has none, and keeps earlier entries within the history.
+    Delete,
+    /// Writes such a marker, and removes all earlier entries.
+    Purge,
+}
+
+impl Op {
+    /// Whether it gives a value; else it is a marker.
+    pub fn is_put(self) -> bool
+        ensures { result ≡ is_put self }
+    {
+        match self {
+            Op::Put => true,
+            Op::Delete => false,
+            Op::Purge => false,
+        }
+    }
+
+    /// Whether it removes earlier entries.
+    pub fn is_purge(self) -> bool
+        ensures { result ≡ is_purge self }
+    {
+        match self {
+            Op::Put => false,
+            Op::Delete => false,
+            Op::Purge => true,
+        }
+    }
+}
+
+/// An accepted write.
+#[derive(Drop)]
+pub struct Write {
+    key: Key,
+    op: Op,
+    value: Vec<u8>,
+    revision: u64,
+}
+
+impl Model for Write {
+    ghost use Rattle.kv_model.specs.Acts.{Write};
+
+    ghost Value = { Write };
+
+    ghost view = { λ w. record { key = w.key; op = w.op; value = w.value.items; revision = w.revision } };
+}
+
+impl Write {
+    /// A write by its parts.
+    pub fn new(key: Key, op: Op, value: Vec<u8>, revision: u64) -> Write
+        ensures { result ≡ record { key = key; op = op; value = value.items; revision = revision } }
+    {
+        Write {
+            key,
+            op,
+            value,
+            revision,
+        }
+    }
+
+    /// The key that was written.
+    pub fn key(&self) -> &Key
+        ensures { result.now ≡ self.now.key }
+    {
+        &self.key
+    }
+
+    /// What the write did.
+    pub fn op(&self) -> Op
+        ensures { result ≡ self.now.op }
+    {
+        self.op
+    }
+
+    /// The value, empty for a marker.
+    pub fn value(&self) -> &[u8]
+        ensures { result.now ≡ self.now.value }
+    {
+        &self.value
+    }
+
+    /// The sequence number of the write, from 1.
+    pub fn revision(&self) -> u64
+        ensures { result ≡ self.now.revision }
+    {
+        self.revision
+    }
+}

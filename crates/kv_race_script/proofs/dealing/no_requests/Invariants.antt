@@ -1,7 +1,0 @@
-use Rattle.std.proofs.Common.{◌≡◌, [], map, replicate}
-use Rattle.kv_store.specs.Requests.{asked}
-use Rattle.kv_race_script.proofs.dealing.no_requests.Given as goal
-
--- so many scripts so far
-abbrev pub invariant-loop : goal.invariant-loop
-invariant-loop l = map (λ script. map asked script.items) l.scripts.items ≡ replicate l.counter []

@@ -1,3 +1,0 @@
-pub mod Dealing
-pub mod Planning
-pub mod Reporting

@@ -1,0 +1,196 @@
+-- Of the text of a line.
+use Rattle.std.proofs.Common.{◌≡◌, ℕ, suc, zero, ◌<◌, ◌≤◌, ◌+◌, ◌-◌, nat_le, Bool, true, false, cond, codes, decimal, map, List, [], ◌∷◌, ◌++◌, ◌&&◌, length, length-append, length-take-le, take, Result, Ok, Err, refl, sym, ap, ◌∙◌, inr, arith}
+use Rattle.std.proofs.lemmas.Bool.Decides.{nat_tests}
+use Rattle.std.specs.Io.BufRead.{strip_last, ends_with_byte}
+use Rattle.std.specs.Str.{is_utf8}
+use Rattle.json.specs.Print.{quoted}
+use Rattle.kv_keys.specs.Places.{fnv32_of}
+use Rattle.kv_keys.specs.declared.error.KvError.{KvError}
+use Rattle.kv_keys.specs.declared.error.KvError.TheVariants.{BadCommand}
+use Rattle.kv_model.specs.Acceptance.{accept}
+use Rattle.kv_model.specs.Answers.{Answer, Revision, Sealed, AnsweredEntry, Entries, Keys, Numbers, Watching, Marker, Empty, Ended, Refused}
+use Rattle.kv_model.specs.State.{State, after, answer_to, answer_write}
+use Rattle.kv_model.specs.declared.call.Call.TheVariants as calls
+use Rattle.kv_script.specs.Answered.{answer_text, taken_text, ended_text}
+use Rattle.kv_script.specs.Commands.{Meaning, Write, Get, GetAt, History, Watch, Take, Stop, Status, Seal, Place, is_skipped, is_within_limits, line_command, present_words_command}
+use Rattle.kv_script.specs.Commands as commands
+use Rattle.kv_script.specs.Line.{object_text, array_text}
+use Rattle.kv_script.specs.Text.{one, entry_members, listed_text, watch_members, status_members, refusal_members, place_digits, revision_text, sealed_text, entry_text, history_text, keys_text, watch_text, taken_entry_text, marker_text, empty_text, stopped_text, status_text, refusal_text, place_text}
+use Rattle.kv_run.specs.Outcome.{IsWholeLines}
+use Rattle.kv_run.specs.Text.{Step, hands_out, takes, steps, steps_of, line_text, line_next, line_steps, steps_text, steps_next}
+use Rattle.kv_run.specs.declared.scripts.lines.TheConstants.{KEPT_BYTES}
+use Rattle.kv_run.proofs.WholeLines.{IsWholeLines-nil, IsWholeLines-append}
+
+-- ---- each answer line is whole
+
+-- a line of JSON
+ends : (text : List ℕ) → IsWholeLines (text ++ 10 ∷ [])
+ends text = inr (text, refl)
+
+refusal_whole : (error : KvError) → IsWholeLines (refusal_text error)
+unfolding refusal_text
+refusal_whole error = ends (object_text (refusal_members error []))
+
+place_whole : (place : ℕ) → IsWholeLines (place_text place)
+unfolding place_text
+place_whole place = ends (object_text (one (codes "place") (quoted (place_digits place))))
+
+answer_whole : (bucket : List ℕ) (answer : Answer) → IsWholeLines (answer_text bucket answer)
+unfolding revision_text sealed_text entry_text history_text keys_text watch_text status_text
+answer_whole bucket (Revision revision) = ends (object_text (one (codes "revision") (decimal revision)))
+answer_whole bucket Sealed = ends (object_text (one (codes "sealed") (codes "true")))
+answer_whole bucket (AnsweredEntry entry) = ends (object_text (entry_members entry []))
+answer_whole bucket (Entries entries) = ends (object_text (one (codes "entries") (array_text (map listed_text entries))))
+answer_whole bucket (Keys keys) = ends (object_text (one (codes "keys") (array_text (map quoted keys))))
+answer_whole bucket (Numbers status watches) = ends (object_text (status_members bucket status watches))
+answer_whole bucket (Watching number) = ends (object_text (watch_members number))
+answer_whole bucket Marker = IsWholeLines-nil
+answer_whole bucket Empty = IsWholeLines-nil
+answer_whole bucket (Ended handed) = IsWholeLines-nil
+answer_whole bucket (Refused error) = refusal_whole error
+
+taken_whole : (watch : ℕ) (answer : Answer) → IsWholeLines (taken_text watch answer)
+unfolding taken_entry_text marker_text empty_text
+taken_whole watch (AnsweredEntry entry) = ends (object_text (entry_members entry (watch_members watch)))
+taken_whole watch Marker = ends (object_text ((codes "marker", codes "true") ∷ watch_members watch))
+taken_whole watch Empty = ends (object_text ((codes "empty", codes "true") ∷ watch_members watch))
+taken_whole watch (Refused error) = refusal_whole error
+taken_whole watch (Revision revision) = IsWholeLines-nil
+taken_whole watch Sealed = IsWholeLines-nil
+taken_whole watch (Entries entries) = IsWholeLines-nil
+taken_whole watch (Keys keys) = IsWholeLines-nil
+taken_whole watch (Numbers status watches) = IsWholeLines-nil
+taken_whole watch (Watching number) = IsWholeLines-nil
+taken_whole watch (Ended handed) = IsWholeLines-nil
+
+ended_whole : (watch : ℕ) (answer : Answer) → IsWholeLines (ended_text watch answer)
+unfolding stopped_text
+ended_whole watch (Ended handed) = ends (object_text ((codes "handed", decimal handed) ∷ one (codes "stopped") (decimal watch)))
+ended_whole watch (Refused error) = refusal_whole error
+ended_whole watch Marker = IsWholeLines-nil
+ended_whole watch Empty = IsWholeLines-nil
+ended_whole watch (AnsweredEntry entry) = IsWholeLines-nil
+ended_whole watch (Revision revision) = IsWholeLines-nil
+ended_whole watch Sealed = IsWholeLines-nil
+ended_whole watch (Entries entries) = IsWholeLines-nil
+ended_whole watch (Keys keys) = IsWholeLines-nil
+ended_whole watch (Numbers status watches) = IsWholeLines-nil
+ended_whole watch (Watching number) = IsWholeLines-nil
+
+-- ---- and so are those of the calls of a line
+
+-- each step's text is whole
+abbrev pub AreWhole : List Step → Type 0
+AreWhole [] = Unit {0}
+AreWhole (step ∷ steps) = IsWholeLines step.0 × AreWhole steps
+
+takes_whole : (watch n : ℕ) (s : State) → AreWhole (takes watch n s)
+unfolding takes
+takes_whole watch zero s = tt
+takes_whole watch (suc n) s = (taken_whole watch (answer_to s (calls.Take watch)), more (hands_out (answer_to s (calls.Take watch))) (takes_whole watch n (after s (calls.Take watch))))
+  where
+    more : (goes_on : Bool) → AreWhole (takes watch n (after s (calls.Take watch))) → AreWhole (cond goes_on (takes watch n (after s (calls.Take watch))) [])
+    more true rest = rest
+    more false rest = tt
+
+steps_whole : (s : State) (meaning : Meaning) → AreWhole (steps s meaning)
+steps_whole s (Write asked) = (answer_whole s.config.bucket (answer_write (accept s.config asked s.acts)), tt)
+steps_whole s (Get key) = (answer_whole s.config.bucket (answer_to s (calls.Get key)), tt)
+steps_whole s (GetAt key revision) = (answer_whole s.config.bucket (answer_to s (calls.GetAt key revision)), tt)
+steps_whole s (History key) = (answer_whole s.config.bucket (answer_to s (calls.History key)), tt)
+steps_whole s (commands.Keys filtering) = (answer_whole s.config.bucket (answer_to s (calls.Keys filtering)), tt)
+steps_whole s (Watch filters options) = (answer_whole s.config.bucket (answer_to s (calls.Watch filters options)), tt)
+steps_whole s (Take watch count) = takes_whole watch count s
+steps_whole s (Stop watch) = (ended_whole watch (answer_to s (calls.Stop watch)), tt)
+steps_whole s Status = (answer_whole s.config.bucket (answer_to s calls.Status), tt)
+steps_whole s Seal = (answer_whole s.config.bucket (answer_to s calls.Seal), tt)
+steps_whole s (Place key) = (place_whole (fnv32_of key), tt)
+
+outcome_whole : (s : State) (outcome : Result Meaning KvError) → AreWhole (steps_of s outcome)
+outcome_whole s (Ok meaning) = steps_whole s meaning
+outcome_whole s (Err error) = (refusal_whole error, tt)
+
+unless_skipped : (s : State) (outcome : Result Meaning KvError) (skips : Bool) → AreWhole (cond skips [] (steps_of s outcome))
+unless_skipped s outcome true = tt
+unless_skipped s outcome false = outcome_whole s outcome
+
+pub line_steps-whole : (s : State) (line : List ℕ) → AreWhole (line_steps s line)
+unfolding line_steps
+line_steps-whole s line = unless_skipped s (line_command line) (is_skipped line)
+
+-- the text of whole steps
+pub steps_text-whole : (steps : List Step) → AreWhole steps → IsWholeLines (steps_text steps)
+steps_text-whole [] whole = IsWholeLines-nil
+steps_text-whole (step ∷ steps) (first, rest) = IsWholeLines-append step.0 (steps_text steps) first (steps_text-whole steps rest)
+
+-- the text of a line is of whole lines
+pub line_text-whole : (s : State) (line : List ℕ) → IsWholeLines (line_text s line)
+unfolding line_text
+line_text-whole s line = steps_text-whole (line_steps s (strip_last 13 line)) (line_steps-whole s (strip_last 13 line))
+
+-- ---- a line that is too long
+
+-- at most one byte is dropped
+pub strip_length : (line : List ℕ) → length line ≤ length (strip_last 13 line) + 1
+strip_length line = by_end (ends_with_byte 13 line)
+  where
+    by_end : (returns : Bool) → length line ≤ length (cond returns (take (length line - 1) line) line) + 1
+    by_end true = omega (arith, length-take-le (length line - 1) line (omega arith))
+    by_end false = omega arith
+
+and_false : (b : Bool) → (b && false) ≡ false
+and_false true = refl
+and_false false = refl
+
+-- a line of more bytes than a command has is within no limits
+too_long : (line : List ℕ) → 1400000 < length line → is_within_limits line ≡ false
+too_long line h = rw (not_le line h) (and_false (is_utf8 line))
+  where
+    not_le : (line : List ℕ) → 1400000 < length line → nat_le (length line) 1400000 ≡ false
+    not_le line h = grind (arith, nat_tests)
+
+pub long_command : (line : List ℕ) → 1400000 < length line → line_command line ≡ Err BadCommand
+unfolding line_command
+long_command line h = rw (too_long line h) refl
+
+-- the first byte of a longer line is that of its beginning
+pub skipped_more : (line more : List ℕ) → 0 < length line → is_skipped (line ++ more) ≡ is_skipped line
+skipped_more [] more h = absurd (omega arith)
+skipped_more (byte ∷ line) more h = refl
+
+skipped_take : (n : ℕ) (line : List ℕ) → is_skipped (take (suc n) line) ≡ is_skipped line
+skipped_take n [] = refl
+skipped_take n (byte ∷ line) = refl
+
+shorter : (n : ℕ) → 1 < n → n - 1 ≡ suc (n - 2)
+shorter n h = omega arith
+
+-- with at least two bytes, a carriage return at the end says nothing of the first
+pub skipped_strip : (line : List ℕ) → 1 < length line → is_skipped (strip_last 13 line) ≡ is_skipped line
+skipped_strip line h = by_end (ends_with_byte 13 line)
+  where
+    by_end : (returns : Bool) → is_skipped (cond returns (take (length line - 1) line) line) ≡ is_skipped line
+    by_end true = ap (λ n. is_skipped (take n line)) (shorter (length line) h) ∙ skipped_take (length line - 2) line
+    by_end false = refl
+
+-- of a line that is too long only the first byte counts
+long_steps : (s : State) (line : List ℕ) → KEPT_BYTES < length line → line_steps s (strip_last 13 line) ≡ cond (is_skipped line) [] (steps_of s (Err BadCommand))
+unfolding line_steps
+long_steps s line h =
+    let stripped : 1400000 < length (strip_last 13 line) = omega (arith, strip_length line) in
+    rw (skipped_strip line (omega arith), long_command (strip_last 13 line) stripped) refl
+
+long_same : (s : State) (line more : List ℕ) → KEPT_BYTES < length line → line_steps s (strip_last 13 (line ++ more)) ≡ line_steps s (strip_last 13 line)
+long_same s line more h =
+    long_steps s (line ++ more) (omega (arith, length-append line more))
+    ∙ ap (λ skips. cond skips [] (steps_of s (Err BadCommand))) (skipped_more line more (omega arith))
+    ∙ sym (long_steps s line h)
+
+-- what follows a line that is too long changes nothing
+pub line_text-long : (s : State) (line more : List ℕ) → KEPT_BYTES < length line → line_text s (line ++ more) ≡ line_text s line
+unfolding line_text
+line_text-long s line more h = ap steps_text (long_same s line more h)
+
+pub line_next-long : (s : State) (line more : List ℕ) → KEPT_BYTES < length line → line_next s (line ++ more) ≡ line_next s line
+unfolding line_next
+line_next-long s line more h = ap (steps_next s) (long_same s line more h)

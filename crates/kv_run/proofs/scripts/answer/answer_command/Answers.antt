@@ -1,0 +1,42 @@
+use Rattle.std.proofs.lemmas.Result.{on_err_weaker}
+use Rattle.kv_run.specs.Text.{takes}
+use Rattle.kv_run.proofs.Taking.{ends_at_once, ends_early, ends_once, same_take}
+use Rattle.kv_run.proofs.scripts.answer.answer_command.Goals as goal
+
+pub returns-in-Write-clause-err : goal.returns-in-Write-clause-err
+returns-in-Write-clause-err c = rw c.in-Write.is (on_err_weaker c.answer_write.result (λ same state r. ends_once state _ _ _ _ _ same.0 (same.1 state r)) c.answer_write.ensures.err)
+
+pub returns-in-Get-clause-err : goal.returns-in-Get-clause-err
+returns-in-Get-clause-err c = on_err_weaker c.answer_get.result (λ same state r. ends_at_once state _ _ _ _ same r) c.answer_get.ensures.err
+
+pub returns-in-GetAt-clause-err : goal.returns-in-GetAt-clause-err
+returns-in-GetAt-clause-err c = on_err_weaker c.answer_get_at.result (λ same state r. ends_at_once state _ _ _ _ same r) c.answer_get_at.ensures.err
+
+pub returns-in-History-clause-err : goal.returns-in-History-clause-err
+returns-in-History-clause-err c = on_err_weaker c.answer_history.result (λ same state r. ends_at_once state _ _ _ _ same r) c.answer_history.ensures.err
+
+pub returns-in-Keys-clause-err : goal.returns-in-Keys-clause-err
+returns-in-Keys-clause-err c = on_err_weaker c.answer_keys.result (λ same state r. ends_at_once state _ _ _ _ same r) c.answer_keys.ensures.err
+
+pub returns-in-Watch-clause-err : goal.returns-in-Watch-clause-err
+returns-in-Watch-clause-err c = rw c.in-Watch.is (on_err_weaker c.answer_watch.result (λ same state r. ends_once state _ _ _ _ _ same.0 (same.1 state r)) c.answer_watch.ensures.err)
+
+pub returns-in-Stop-clause-err : goal.returns-in-Stop-clause-err
+returns-in-Stop-clause-err c = rw c.in-Stop.is (on_err_weaker c.answer_stop.result (λ same state r. ends_once state _ _ _ _ _ same.0 (same.1 state r)) c.answer_stop.ensures.err)
+
+pub returns-in-Status-clause-err : goal.returns-in-Status-clause-err
+returns-in-Status-clause-err c = on_err_weaker c.answer_status.result (λ same state r. ends_at_once state _ _ _ _ same r) c.answer_status.ensures.err
+
+pub returns-in-Seal-clause-err : goal.returns-in-Seal-clause-err
+returns-in-Seal-clause-err c = rw c.in-Seal.is (on_err_weaker c.answer_seal.result (λ same state r. ends_once state _ _ _ _ _ same.0 (same.1 state r)) c.answer_seal.ensures.err)
+
+pub returns-in-Place-clause-err : goal.returns-in-Place-clause-err
+returns-in-Place-clause-err c = on_err_weaker c.answer_place.result (λ same state r. ends_at_once state _ _ _ _ same r) c.answer_place.ensures.err
+
+pub returns-in-Take-clause-err : goal.returns-in-Take-clause-err
+returns-in-Take-clause-err c =
+    rw c.in-Take.is (on_err_weaker c.answer_takes.result (λ between state r. ends_early state (takes c.in-Take.watch c.in-Take.count state) _ _ _ (between state r)) c.answer_takes.ensures.err)
+
+pub returns-in-Take-clause-shown : goal.returns-in-Take-clause-shown
+returns-in-Take-clause-shown c =
+    rw c.in-Take.is (on_err_weaker c.answer_takes.result (λ between watch count same state r. same_take state _ _ _ c.in-Take.watch c.in-Take.count watch count same (between state r)) c.answer_takes.ensures.err)

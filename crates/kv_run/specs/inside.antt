@@ -1,0 +1,3 @@
+pub mod Reading
+pub mod Scripted
+pub mod Written

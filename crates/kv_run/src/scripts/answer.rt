@@ -1,0 +1,100 @@
+//! The answer to one line.
+
+ghost use Rattle.std.specs.Prelude.{◌≡◌, ◌++◌, ℕ, Ok, OnOk, OnErr, IfErr};
+ghost use Rattle.kv_bucket.specs.Held.{Represents};
+ghost use Rattle.kv_model.specs.State.{State};
+ghost use Rattle.kv_keys.specs.declared.error.KvError.TheVariants.{OutOfMemory};
+ghost use Rattle.kv_script.specs.Commands.{Take, line_command, meaning_of};
+ghost use Rattle.kv_run.specs.Steps.{Does, EndsBetween, EndsEarly};
+ghost use Rattle.kv_run.specs.Text.{line_next, line_steps, line_text, steps, takes};
+ghost use Rattle.kv_run.specs.inside.Written.{AppendsFront};
+
+use crate::scripts::reads::{
+    answer_get, answer_get_at, answer_history, answer_keys, answer_place, answer_status,
+};
+use crate::scripts::refusals::answer_refusal;
+use crate::scripts::takes::answer_takes;
+use crate::scripts::watches::{answer_stop, answer_watch};
+use crate::scripts::writes::{answer_seal, answer_write};
+use kv_bucket::Bucket;
+use kv_keys::KvError;
+use kv_script::{Command, is_skipped, parse, without_return};
+use std::alloc::Global;
+
+/// Does one command, and appends its answer lines.
+fn answer_command(
+    alloc: Global,
+    bucket: &mut Bucket,
+    command: &Command,
+    out: &mut Vec<u8>,
+) -> Result<(), KvError>
+    ensures ok { OnOk result ((state : State) → Represents state bucket.old →
+        Does state (steps state (meaning_of command.now)) out.old.items out.new.items bucket.new) }
+    ensures err { OnErr result ((state : State) → Represents state bucket.old →
+        EndsEarly state (steps state (meaning_of command.now)) out.old.items out.new.items bucket.new) }
+    ensures shown { OnErr result ((watch count : ℕ) → meaning_of command.now ≡ Take watch count → (state : State) →
+        Represents state bucket.old →
+        EndsBetween state (takes watch count state) out.old.items out.new.items bucket.new) }
+    ensures memory { IfErr result (λ e. e ≡ OutOfMemory) }
+{
+    match command {
+        Command::Write(request) => answer_write(alloc, bucket, request, out),
+        Command::Get(key) => answer_get(alloc, bucket, key, out),
+        Command::GetAt(key, revision) => answer_get_at(alloc, bucket, key, *revision, out),
+        Command::History(key) => answer_history(alloc, bucket, key, out),
+        Command::Keys(filter) => answer_keys(alloc, bucket, filter, out),
+        Command::Watch(filters, options) => answer_watch(alloc, bucket, filters, *options, out),
+        Command::Take { watch, count } => answer_takes(alloc, bucket, *watch, *count, out),
+        Command::Stop(watch) => answer_stop(alloc, bucket, *watch, out),
+        Command::Status => answer_status(alloc, bucket, out),
+        Command::Seal => answer_seal(alloc, bucket, out),
+        Command::Place(key) => answer_place(alloc, key, out),
+    }
+}
+
+/// Answers a line without its end, and without the carriage return before that.
+///
+/// The answer lines are appended. After want of memory the first calls of the line were made, and these were answered
+/// but perhaps for the last. Only `take` makes more than one, and each that it made was answered.
+pub fn answer_line(
+    alloc: Global,
+    bucket: &mut Bucket,
+    line: &[u8],
+    out: &mut Vec<u8>,
+) -> Result<(), KvError>
+    ensures ok { OnOk result ((state : State) → Represents state bucket.old →
+        Does state (line_steps state line.now) out.old.items out.new.items bucket.new) }
+    ensures err { OnErr result ((state : State) → Represents state bucket.old →
+        EndsEarly state (line_steps state line.now) out.old.items out.new.items bucket.new) }
+    // Of takes none was made that was not shown.
+    ensures shown { OnErr result ((watch count : ℕ) → line_command line.now ≡ Ok (Take watch count) → (state : State) →
+        Represents state bucket.old →
+        EndsBetween state (takes watch count state) out.old.items out.new.items bucket.new) }
+    ensures memory { IfErr result (λ e. e ≡ OutOfMemory) }
+{
+    if is_skipped(line) {
+        return Ok(());
+    }
+    match parse(alloc, line) {
+        Ok(command) => answer_command(alloc, bucket, &command, out),
+        Err(error) => answer_refusal(alloc, error, out),
+    }
+}
+
+/// Answers a line as it was read, without its line feed.
+#[tactic(auto, unfolding(crate::specs::Text::line_text, crate::specs::Text::line_next))]
+pub(crate) fn answer_whole_line(
+    bucket: &mut Bucket,
+    alloc: Global,
+    line: &[u8],
+    out: &mut Vec<u8>,
+) -> Result<(), KvError>
+    ensures ok { OnOk result ((state : State) → Represents state bucket.old →
+        (out.new.items ≡ out.old.items ++ line_text state line.now)
+        × Represents (line_next state line.now) bucket.new) }
+    ensures err { OnErr result ((state : State) → Represents state bucket.old →
+        AppendsFront (line_text state line.now) out.old.items out.new.items) }
+    ensures memory { IfErr result (λ e. e ≡ OutOfMemory) }
+{
+    answer_line(alloc, bucket, without_return(line), out)
+}

@@ -1,0 +1,63 @@
+//! Answers to writes and seals.
+
+ghost use Rattle.std.specs.Prelude.{◌≡◌, ◌++◌, ◌⊎◌, OnOk, OnErr, IfErr};
+ghost use Rattle.kv_bucket.specs.Held.{Represents};
+ghost use Rattle.kv_model.specs.State.{State, after, after_write, answer_to, answer_write as answered};
+ghost use Rattle.kv_model.specs.declared.call.Call.TheVariants.{Seal};
+ghost use Rattle.kv_keys.specs.declared.error.KvError.TheVariants.{OutOfMemory};
+ghost use Rattle.kv_script.specs.Answered.{answer_text};
+ghost use Rattle.kv_model.specs.Acceptance.{accept};
+ghost use Rattle.kv_model.specs.Requests.{asked};
+
+use kv_bucket::Bucket;
+use kv_keys::KvError;
+use kv_model::Request;
+use kv_script::{append_refusal, append_revision, append_sealed};
+use std::alloc::Global;
+
+/// Does what is asked. After want of memory nothing was appended, and the write was accepted or not.
+pub(crate) fn answer_write(
+    alloc: Global,
+    bucket: &mut Bucket,
+    request: &Request,
+    out: &mut Vec<u8>,
+) -> Result<(), KvError>
+    ensures ok { OnOk result ((state : State) → Represents state bucket.old →
+        (out.new.items
+        ≡ out.old.items ++ answer_text state.config.bucket (answered (accept state.config (asked request.now) state.acts)))
+        × Represents (after_write state (accept state.config (asked request.now) state.acts)) bucket.new) }
+    ensures err { OnErr result ((out.new.items ≡ out.old.items) × ((state : State) → Represents state bucket.old →
+        Represents state bucket.new
+        ⊎ Represents (after_write state (accept state.config (asked request.now) state.acts)) bucket.new)) }
+    ensures memory { IfErr result (λ e. e ≡ OutOfMemory) }
+{
+    match bucket.write(request) {
+        Ok(revision) => {
+            append_revision(alloc, out, revision)?;
+            Ok(())
+        }
+        Err(KvError::OutOfMemory) => Err(KvError::OutOfMemory),
+        Err(error) => {
+            append_refusal(alloc, out, error)?;
+            Ok(())
+        }
+    }
+}
+
+/// Ends writes. After want of memory nothing was appended, and the bucket was sealed or not.
+pub(crate) fn answer_seal(
+    alloc: Global,
+    bucket: &mut Bucket,
+    out: &mut Vec<u8>,
+) -> Result<(), KvError>
+    ensures ok { OnOk result ((state : State) → Represents state bucket.old →
+        (out.new.items ≡ out.old.items ++ answer_text state.config.bucket (answer_to state Seal))
+        × Represents (after state Seal) bucket.new) }
+    ensures err { OnErr result ((out.new.items ≡ out.old.items) × ((state : State) → Represents state bucket.old →
+        Represents state bucket.new ⊎ Represents (after state Seal) bucket.new)) }
+    ensures memory { IfErr result (λ e. e ≡ OutOfMemory) }
+{
+    bucket.seal()?;
+    append_sealed(alloc, out)?;
+    Ok(())
+}

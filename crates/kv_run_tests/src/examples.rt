@@ -1,0 +1,12 @@
+//! The examples of docs/library.md, which quotes them word for word. Each test runs its example, and runs it again
+//! where a request for memory was refused.
+
+use std::alloc::Global;
+use std::process::Abort;
+use std::test::Fail;
+
+mod compare_and_set;
+mod config_service;
+mod maps;
+mod names;
+mod scripts;

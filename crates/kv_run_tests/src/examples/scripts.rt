@@ -1,0 +1,35 @@
+//! A script, as a library runs it.
+
+use super::*;
+use kv_keys::KvError;
+use kv_model::Config;
+use kv_run::{CountedReader, CountedWriter, replay};
+
+fn run_script(rt: &impl Abort, alloc: Global) -> Result<(), KvError> {
+    let config = Config::named(alloc, "settings")?;
+    let mut script: &[u8] = b"put app.port ODA=\nget app.port\nput app..port ODA=\n";
+    let mut answers: Vec<u8> = Vec::new(alloc);
+    replay(
+        alloc,
+        &mut CountedReader::new(&mut script),
+        &mut CountedWriter::new(&mut answers),
+        &config,
+    )?;
+
+    let text = concat!(
+        "{\"revision\":1}\n",
+        "{\"key\":\"app.port\",\"op\":\"PUT\",\"revision\":1,\"size\":2,\"value\":\"ODA=\"}\n",
+        "{\"code\":4,\"error\":\"BadKey\"}\n",
+    );
+    assert_eq!(rt; answers.as_slice(), text.as_bytes());
+    Ok(())
+}
+
+#[test]
+fn a_script_through_replay(rt: HostRuntime) -> Result<(), Fail> {
+    match run_script(&rt, rt.alloc()) {
+        // (a vector that finds no memory for what is written to it is a device that takes no more)
+        Err(KvError::OutOfMemory) | Err(KvError::WriteFault) => Ok(run_script(&rt, rt.alloc())?),
+        done => Ok(done?),
+    }
+}

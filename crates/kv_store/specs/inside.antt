@@ -1,0 +1,5 @@
+pub mod Bounds
+pub mod Fields
+pub mod Next
+pub mod Putting
+pub mod Selected

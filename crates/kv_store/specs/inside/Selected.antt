@@ -1,0 +1,25 @@
+-- Which revisions of a key a watch begins with.
+use Rattle.std.specs.Prelude.{ℕ, Bool, nat_le, List, [], Option, None, filter, if◌then◌else◌}
+use Rattle.std.specs.List.{last_or}
+use Rattle.std.specs.Option.{option_to_list, option_map, option_and_then}
+use Rattle.std.specs.declared.alloc.Global.{Global}
+use Rattle.std.specs.declared.vec.Vec.{Vec}
+use Rattle.kv_model.specs.declared.options.Start.{Start}
+use Rattle.kv_model.specs.declared.options.Start.TheVariants.{Latest, History, Updates, From}
+use Rattle.kv_model.specs.Reads.{if_put}
+use Rattle.kv_store.specs.Stored.{Stored, write_at}
+
+-- of the kept revisions of a key the last, all, none, or those from a revision on
+abbrev pub initial_revisions : Start → List ℕ → List ℕ
+initial_revisions Latest rs = option_to_list (last_or None rs)
+initial_revisions History rs = rs
+initial_revisions Updates rs = []
+initial_revisions (From revision) rs = filter (λ r. nat_le revision r) rs
+
+-- those of an entry whose key is asked for
+abbrev pub initial_of : (List ℕ → Bool) → Start → List ℕ × Vec ℕ Global → List ℕ
+initial_of wants start entry = if wants entry.0 then initial_revisions start entry.1.items else []
+
+-- the key of the write that is stored of a revision, where that is a put
+abbrev pub key_put : ℕ → Stored → Option (List ℕ)
+key_put revision version = option_map (λ w. w.key) (option_and_then if_put (write_at revision version))

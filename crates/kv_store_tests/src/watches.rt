@@ -1,0 +1,171 @@
+//! Tests of watches by worked rows: writes, a watch, and what it is given. Each also passes where any one request for
+//! memory is refused: then nothing has changed, and the same call, made again, goes on.
+
+use kv_keys::{Filter, Filters, Key, KvError};
+use kv_model::{Config, Event, Op, Options, Request, Start};
+use kv_store::Version;
+use kv_watch::{Cursor, Taken};
+use std::alloc::Global;
+use std::process::Abort;
+use std::test::Fail;
+
+mod driving;
+mod flags;
+mod rows;
+mod shows;
+
+const LATEST: Options = Options {
+    start: Start::Latest,
+    ignore_deletes: false,
+    headers_only: false,
+};
+
+fn started(start: Start) -> Options {
+    Options {
+        start,
+        ignore_deletes: false,
+        headers_only: false,
+    }
+}
+
+// A write of a row. A marker has no value.
+#[derive(Clone, Copy)]
+struct Deed<'a> {
+    op: Op,
+    key: &'a str,
+    value: &'a str,
+}
+
+fn put<'a>(key: &'a str, value: &'a str) -> Deed<'a> {
+    Deed {
+        op: Op::Put,
+        key,
+        value,
+    }
+}
+
+fn mark<'a>(op: Op, key: &'a str) -> Deed<'a> {
+    Deed { op, key, value: "" }
+}
+
+fn keep(config: &mut Config, history: u64) {
+    config.history = history;
+}
+
+fn empty_once(alloc: Global, history: u64) -> Result<Version, KvError> {
+    let mut config = Config::named(alloc, "kv")?;
+    keep(&mut config, history);
+    Version::empty(alloc, &config)
+}
+
+// A bucket that keeps so many entries of each key.
+fn empty(alloc: Global, history: u64) -> Result<Version, KvError> {
+    match empty_once(alloc, history) {
+        Err(KvError::OutOfMemory) => empty_once(alloc, history),
+        version => version,
+    }
+}
+
+fn request(alloc: Global, deed: Deed<'_>) -> Result<Request, KvError> {
+    let key = Key::parse(alloc, deed.key)?;
+    match deed.op {
+        Op::Put => {
+            let value = Vec::from_slice(alloc, deed.value.as_bytes())?;
+            Ok(Request::Put { key, value })
+        }
+        Op::Delete => Ok(Request::Delete { key, last: None }),
+        Op::Purge => Ok(Request::Purge { key, last: None }),
+    }
+}
+
+fn write_once(alloc: Global, version: &Version, deed: Deed<'_>) -> Result<Version, KvError> {
+    let request = request(alloc, deed)?;
+    version.apply(alloc, &request)
+}
+
+// The version with one more write.
+fn write(alloc: Global, version: &Version, deed: Deed<'_>) -> Result<Version, KvError> {
+    match write_once(alloc, version, deed) {
+        Err(KvError::OutOfMemory) => write_once(alloc, version, deed),
+        version => version,
+    }
+}
+
+// A version with these writes behind those of another.
+fn write_all(alloc: Global, version: Version, deeds: &[Deed<'_>]) -> Result<Version, KvError> {
+    let mut version = version;
+    for deed in deeds {
+        version = write(alloc, &version, *deed)?;
+    }
+    Ok(version)
+}
+
+// A bucket with these writes that keeps so many entries of each key.
+fn kept(alloc: Global, history: u64, deeds: &[Deed<'_>]) -> Result<Version, KvError> {
+    let version = empty(alloc, history)?;
+    write_all(alloc, version, deeds)
+}
+
+// A bucket with these writes that keeps one entry of each key.
+fn written(alloc: Global, deeds: &[Deed<'_>]) -> Result<Version, KvError> {
+    kept(alloc, 1, deeds)
+}
+
+fn filters(alloc: Global, text: &str) -> Result<Filters, KvError> {
+    match Filters::parse(alloc, text) {
+        Err(KvError::OutOfMemory) => Filters::parse(alloc, text),
+        filters => filters,
+    }
+}
+
+fn one_once(alloc: Global, text: &str) -> Result<Filters, KvError> {
+    let filter = Filter::parse(alloc, text)?;
+    Filters::one(alloc, &filter)
+}
+
+// The list of one filter.
+fn one(alloc: Global, text: &str) -> Result<Filters, KvError> {
+    match one_once(alloc, text) {
+        Err(KvError::OutOfMemory) => one_once(alloc, text),
+        filters => filters,
+    }
+}
+
+// A cursor at the version. A refusal leaves the version as it was.
+fn open(
+    rt: &impl Abort,
+    alloc: Global,
+    version: &Version,
+    filters: &Filters,
+    options: Options,
+) -> Result<Cursor, KvError> {
+    let before = version.status();
+    match Cursor::open(alloc, version, filters, options) {
+        Err(KvError::OutOfMemory) => {
+            assert_eq!(rt; version.status(), before);
+            Cursor::open(alloc, version, filters, options)
+        }
+        cursor => cursor,
+    }
+}
+
+fn open_on(
+    rt: &impl Abort,
+    alloc: Global,
+    version: &Version,
+    text: &str,
+    options: Options,
+) -> Result<Cursor, KvError> {
+    let filters = filters(alloc, text)?;
+    open(rt, alloc, version, &filters, options)
+}
+
+// The next item, which `peek` says before, and by which `handed` grows.
+fn step(rt: &impl Abort, cursor: &mut Cursor, base: &Version, now: &Version) -> Option<Event> {
+    let handed = cursor.handed();
+    let next = cursor.peek(base, now).event();
+    let taken = cursor.take(base, now).event();
+    assert_eq!(rt; next, taken);
+    assert_eq!(rt; cursor.handed() == handed, taken.is_none());
+    taken
+}

@@ -1,0 +1,203 @@
+//! What drives a row: the plain list of what a watch is given, and cursors that go through it in several ways.
+
+use super::*;
+use kv_model::Write;
+use kv_watch::given;
+
+// A row: a bucket with writes before the watch and others after it, and what the watch is given by each.
+#[derive(Clone, Copy)]
+pub(super) struct Row<'a> {
+    pub(super) history: u64,
+    pub(super) before: &'a [Deed<'a>],
+    pub(super) options: Options,
+    pub(super) initial: &'a [Event],
+    pub(super) after: &'a [Deed<'a>],
+    pub(super) live: &'a [Event],
+}
+
+fn write_of(version: &Version, revision: u64) -> Result<&Write, KvError> {
+    match version.write_at(revision) {
+        Some(write) => Ok(write),
+        None => Err(KvError::KeyNotFound),
+    }
+}
+
+fn stored(alloc: Global, version: &Version) -> Result<Vec<&Write>, KvError> {
+    let mut writes = Vec::new(alloc);
+    for place in 0..version.revision() {
+        let write = write_of(version, place + 1)?;
+        writes.push(write)?;
+    }
+    Ok(writes)
+}
+
+fn listed_once(
+    alloc: Global,
+    now: &Version,
+    base: u64,
+    filters: &Filters,
+    row: Row<'_>,
+) -> Result<Vec<Event>, KvError> {
+    let writes = stored(alloc, now)?;
+    let end = writes.len() as u64;
+    if base > end {
+        return Err(KvError::KeyNotFound);
+    }
+    given(alloc, &writes, base, end, row.history, filters, row.options)
+}
+
+// The plain list of what the watch is given that began behind so many writes.
+fn listed(
+    alloc: Global,
+    now: &Version,
+    base: u64,
+    filters: &Filters,
+    row: Row<'_>,
+) -> Result<Vec<Event>, KvError> {
+    match listed_once(alloc, now, base, filters, row) {
+        Err(KvError::OutOfMemory) => listed_once(alloc, now, base, filters, row),
+        events => events,
+    }
+}
+
+fn lists(
+    rt: &impl Abort,
+    alloc: Global,
+    base: &Version,
+    now: &Version,
+    filters: &Filters,
+    row: Row<'_>,
+) -> Result<(), KvError> {
+    let events = listed(alloc, now, base.revision(), filters, row)?;
+    assert!(rt; events.starts_with(row.initial));
+    assert!(rt; events.ends_with(row.live));
+    assert_eq!(rt;
+        events.len().saturating_sub(row.live.len()),
+        row.initial.len()
+    );
+    Ok(())
+}
+
+// The cursor hands out these items.
+fn hands_out(rt: &impl Abort, cursor: &mut Cursor, base: &Version, now: &Version, items: &[Event]) {
+    for item in items {
+        assert_eq!(rt; step(rt, cursor, base, now), Some(*item));
+    }
+}
+
+// The cursor hands out these items and then nothing, and settles.
+fn hands_out_all(
+    rt: &impl Abort,
+    cursor: &mut Cursor,
+    base: &Version,
+    now: &Version,
+    items: &[Event],
+) {
+    hands_out(rt, cursor, base, now, items);
+    assert_eq!(rt; step(rt, cursor, base, now), None);
+    cursor.settle(now);
+    assert_eq!(rt; step(rt, cursor, base, now), None);
+}
+
+fn stands_at_its_beginning(rt: &impl Abort, cursor: &Cursor, options: Options) {
+    let shown = cursor.options();
+    assert!(rt; shown == options);
+    assert_eq!(rt; cursor.handed(), 0);
+}
+
+// The first part is handed out before the later writes are there, the rest behind them.
+fn in_parts(
+    rt: &impl Abort,
+    cursor: &mut Cursor,
+    base: &Version,
+    now: &Version,
+    initial: &[Event],
+    live: &[Event],
+) {
+    hands_out_all(rt, cursor, base, base, initial);
+    hands_out_all(rt, cursor, base, now, live);
+}
+
+// All is handed out once the later writes are there. A settle before all was handed out changes no answer.
+fn at_once(
+    rt: &impl Abort,
+    cursor: &mut Cursor,
+    base: &Version,
+    now: &Version,
+    initial: &[Event],
+    live: &[Event],
+) {
+    cursor.settle(now);
+    hands_out(rt, cursor, base, now, initial);
+    cursor.settle(now);
+    hands_out_all(rt, cursor, base, now, live);
+}
+
+fn hands_out_in_parts(
+    rt: &impl Abort,
+    alloc: Global,
+    base: &Version,
+    now: &Version,
+    filters: &Filters,
+    row: Row<'_>,
+) -> Result<(), KvError> {
+    let mut cursor = open(rt, alloc, base, filters, row.options)?;
+    stands_at_its_beginning(rt, &cursor, row.options);
+    in_parts(rt, &mut cursor, base, now, row.initial, row.live);
+    Ok(())
+}
+
+fn hands_out_later(
+    rt: &impl Abort,
+    alloc: Global,
+    base: &Version,
+    now: &Version,
+    filters: &Filters,
+    row: Row<'_>,
+) -> Result<(), KvError> {
+    let mut cursor = open(rt, alloc, base, filters, row.options)?;
+    at_once(rt, &mut cursor, base, now, row.initial, row.live);
+    Ok(())
+}
+
+fn before(alloc: Global, row: Row<'_>) -> Result<Version, KvError> {
+    kept(alloc, row.history, row.before)
+}
+
+fn after(alloc: Global, base: &Version, row: Row<'_>) -> Result<Version, KvError> {
+    let version = base.snapshot()?;
+    write_all(alloc, version, row.after)
+}
+
+// The row holds of the plain list, and of cursors that go through it.
+fn gives(rt: &impl Abort, alloc: Global, filters: &Filters, row: Row<'_>) -> Result<(), KvError> {
+    let base = before(alloc, row)?;
+    let now = after(alloc, &base, row)?;
+    lists(rt, alloc, &base, &now, filters, row)?;
+    hands_out_in_parts(rt, alloc, &base, &now, filters, row)?;
+    hands_out_later(rt, alloc, &base, &now, filters, row)
+}
+
+// The row holds of a watch of a list of filters.
+pub(super) fn watch_gives(
+    rt: &impl Abort,
+    alloc: Global,
+    text: &str,
+    row: Row<'_>,
+) -> Result<(), KvError> {
+    let filters = filters(alloc, text)?;
+    gives(rt, alloc, &filters, row)
+}
+
+// The row holds of a watch of one filter, however the list of it is made.
+pub(super) fn watch_of_one_gives(
+    rt: &impl Abort,
+    alloc: Global,
+    text: &str,
+    row: Row<'_>,
+) -> Result<(), KvError> {
+    let parsed = filters(alloc, text)?;
+    gives(rt, alloc, &parsed, row)?;
+    let single = one(alloc, text)?;
+    gives(rt, alloc, &single, row)
+}

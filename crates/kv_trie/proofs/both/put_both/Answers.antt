@@ -1,0 +1,16 @@
+use Rattle.std.proofs.Common.{refl, ◌∙◌, ap}
+use Rattle.std.proofs.lemmas.Result.{on_ok_weaker}
+use Rattle.kv_trie.specs.Form.{order, put_pair}
+use Rattle.kv_trie.proofs.Maps.{lookup-put}
+use Rattle.kv_trie.proofs.both.put_both.Goals as goal
+
+pub returns-clause-second_map : goal.returns-clause-second_map
+returns-clause-second_map g c =
+    let total = g.met.K2.Ord.total in
+    let place = g.K2.Place.place_of in
+    let pair = c.args.second_pair in
+    on_ok_weaker c.put_with-put.result
+    (λ done q.
+    let made = done pair refl ∙ ap (put_pair (order g.K2.Ord.cmp place 7) pair) c.replace.ensures.value in
+    rw made (lookup-put total place g.met.K2.Place.respects_equal 7 pair c.args.second.now q))
+    c.put_with-put.ensures.done

@@ -1,0 +1,19 @@
+use Rattle.std.proofs.Common.{map, sym, ap, ◌∙◌}
+use Rattle.std.proofs.lemmas.List.{map-set}
+use Rattle.std.specs.Arc.{arc_value}
+use Rattle.std.specs.List.{insert}
+use Rattle.kv_trie.proofs.Clones.{map-insert}
+use Rattle.kv_trie.proofs.list.put_in_list.Goals as goal
+
+pub returns-in_ok-commit-in-Ok-clause-pairs : goal.returns-in_ok-commit-in-Ok-clause-pairs
+returns-in_ok-commit-in-Ok-clause-pairs g c =
+    let place = rw (c.deref.ensures.value, c.deref-2.ensures) at c.in-Ok.ensures.found in
+    map-set arc_value c.args.pairs.now.items c.in-Ok.at c.args.pair ∙ sym (place.put (arc_value c.args.pair).1)
+
+pub returns-in-Ok-insert-clause-pairs : goal.returns-in-Ok-insert-clause-pairs
+returns-in-Ok-insert-clause-pairs g c =
+    let gap = rw (c.deref.ensures.value, c.deref-2.ensures) at c.in-Err.ensures.absent in
+    ap (λ l. map arc_value l) c.in-Ok-insert.ensures.items
+    ∙ map-insert arc_value c.reserve.new.self.items c.in-Err.at c.args.pair
+    ∙ ap (λ l. insert (map arc_value l) c.in-Err.at (arc_value c.args.pair)) c.reserve.ensures.items
+    ∙ sym (gap.put (arc_value c.args.pair).1)

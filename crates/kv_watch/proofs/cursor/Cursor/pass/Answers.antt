@@ -1,0 +1,15 @@
+use Rattle.std.proofs.Common.{reverse, sym, subst, ◌+◌}
+use Rattle.kv_watch.specs.Following.{Following, InPlace}
+use Rattle.kv_watch.proofs.Placing.{passed_by, looked_by}
+use Rattle.kv_watch.proofs.cursor.Cursor.pass.Goals as goal
+
+pub returns-in-Some-clause-in_place : goal.returns-in-Some-clause-in_place
+returns-in-Some-clause-in_place c = rw c.in-Some.is (λ n began acts base at e.
+    let self = c.args.self.now in
+    subst (λ (cursor : Following). InPlace began acts (n + 1) base c.args.now.now cursor) (sym c.step.ensures)
+    (passed_by began acts base c.args.now.now self.filters self.options n self.owed self.marker self.seen self.next self.handed c.in-Some.event at e))
+
+pub returns-in-None-clause-in_place : goal.returns-in-None-clause-in_place
+returns-in-None-clause-in_place c = rw (c.in-None.is, ← c.self.view_is, c.revision-self-inside.ensures.value) (λ n began acts base at e.
+    let self = c.self.inside in
+    looked_by began acts base c.args.now.now self.filters self.options n (reverse self.owed.items) self.marker self.seen self.next self.handed at e)

@@ -1,8 +1,0 @@
-//! What a watch is given, for audits.
-
-/// What a watch is given: an entry by its revision, or the end marker.
-#[derive(Clone, Copy, Debug, PartialEq, Eq)]
-pub enum Event {
-    Entry { revision: u64 },
-    Marker,
-}

@@ -1,0 +1,130 @@
+/* A key-value bucket in the memory of one process, with wildcard watches.
+ *
+ * A handle whose bytes are all 0 is closed. The caller owns the handles and all memory that it names; keys, values and
+ * names are read during the call alone. No pointer is null, also for a length of 0. The memory that a call names does
+ * not overlap. A handle is used by one call at a time, and never through two copies.
+ *
+ * Each function that returns a number returns KV_OK or why it was refused. A refused call leaves the bucket as it was.
+ */
+#ifndef VILGOUED_H
+#define VILGOUED_H
+#include <stdbool.h>
+#include <stddef.h>
+#include <stdint.h>
+#ifdef __cplusplus
+extern "C" {
+#endif
+
+enum {
+    KV_OK = 0,
+    KV_OUT_OF_MEMORY = 1,
+    KV_BAD_BUCKET = 2,
+    KV_BAD_CONFIG = 3,
+    KV_BAD_KEY = 4,
+    KV_BAD_FILTER = 5,
+    KV_VALUE_TOO_LARGE = 7,
+    KV_SEALED = 8,
+    KV_JOURNAL_FULL = 9,
+    KV_KEY_EXISTS = 10,
+    KV_WRONG_LAST_REVISION = 11,
+    KV_KEY_NOT_FOUND = 12,
+    KV_NO_SUCH_WATCH = 13,
+    KV_TOO_MANY_WATCHES = 14,
+    KV_CLOSED = 32,
+    KV_TOO_LITTLE_ROOM = 33,
+    KV_OPEN_ALREADY = 34,
+    KV_NO_SUCH_START = 35
+};
+
+/* What a take hands out: nothing is left, the end marker, an entry. */
+enum { KV_EMPTY = 0, KV_MARKER = 1, KV_ENTRY = 2 };
+
+enum { KV_PUT = 0, KV_DELETE = 1, KV_PURGE = 2 };
+
+/* What a watch begins with: the latest entry of each matching key, all retained entries, none, those from a revision. */
+enum { KV_LATEST = 0, KV_HISTORY = 1, KV_UPDATES = 2, KV_FROM = 3 };
+
+typedef struct kv_bucket {
+    bool is_open;
+    void *at;
+} kv_bucket;
+
+/* What a bucket had accepted by a moment. It may be read on another thread than the bucket's. */
+typedef struct kv_view {
+    bool is_open;
+    void *at;
+} kv_view;
+
+typedef struct kv_limits {
+    uint64_t history;        /* 1 to 64 entries of each key are kept */
+    uint64_t value_limit;    /* 0 to 1,048,576 bytes of a value */
+    uint64_t write_limit;    /* 1 to 1,000,000 writes */
+    uint64_t revision_limit; /* the last revision, 1 to 4,294,967,295 */
+} kv_limits;
+
+typedef struct kv_options {
+    uint32_t start;
+    uint64_t from;
+    bool ignore_deletes;
+    bool headers_only;
+} kv_options;
+
+typedef struct kv_item {
+    uint32_t kind;
+    uint32_t op;
+    uint64_t revision;
+    size_t key_size;
+    uint64_t size;     /* of the value, also where it isn't shown */
+    size_t value_size; /* how much of it was copied: all, or 0 where it isn't shown */
+    bool has_value;
+} kv_item;
+
+typedef struct kv_status {
+    uint64_t history, last, stored, values, watches;
+    bool sealed;
+} kv_status;
+
+uint64_t kv_open(kv_bucket *bucket, const uint8_t *name, size_t name_size, const kv_limits *limits);
+void kv_close(kv_bucket *bucket);
+
+uint64_t kv_put(kv_bucket *bucket, const uint8_t *key, size_t key_size, const uint8_t *value, size_t value_size,
+                uint64_t *revision);
+uint64_t kv_create(kv_bucket *bucket, const uint8_t *key, size_t key_size, const uint8_t *value, size_t value_size,
+                   uint64_t *revision);
+/* Where these three are refused as KV_WRONG_LAST_REVISION, *revision is the key's last revision. */
+uint64_t kv_update(kv_bucket *bucket, const uint8_t *key, size_t key_size, const uint8_t *value, size_t value_size,
+                   uint64_t last, uint64_t *revision);
+uint64_t kv_delete(kv_bucket *bucket, const uint8_t *key, size_t key_size, bool has_last, uint64_t last,
+                   uint64_t *revision);
+uint64_t kv_purge(kv_bucket *bucket, const uint8_t *key, size_t key_size, bool has_last, uint64_t last,
+                  uint64_t *revision);
+uint64_t kv_seal(kv_bucket *bucket);
+
+/* The value is copied to the room; where that is too little, *size tells how much is needed. */
+uint64_t kv_get(kv_bucket *bucket, const uint8_t *key, size_t key_size, uint8_t *room, size_t room_size, size_t *size,
+                uint64_t *revision);
+uint64_t kv_get_at(kv_bucket *bucket, const uint8_t *key, size_t key_size, uint64_t at, uint8_t *room,
+                   size_t room_size, size_t *size, uint64_t *revision);
+/* The retained entry of the key that has this index, oldest first, without the key; past the last, item->kind is
+ * KV_EMPTY. *count tells how many there are: 64 at the most. */
+uint64_t kv_history(kv_bucket *bucket, const uint8_t *key, size_t key_size, size_t index, uint8_t *room,
+                    size_t room_size, kv_item *item, size_t *count);
+uint64_t kv_get_status(kv_bucket *bucket, kv_status *status);
+
+/* The filters stand with a comma between two. */
+uint64_t kv_watch(kv_bucket *bucket, const uint8_t *filters, size_t filters_size, const kv_options *options,
+                  uint64_t *number);
+/* Where there is too little room, nothing moves. A key has at most 255 bytes. */
+uint64_t kv_take(kv_bucket *bucket, uint64_t number, uint8_t *keys, size_t keys_size, uint8_t *values,
+                 size_t values_size, kv_item *item);
+uint64_t kv_stop(kv_bucket *bucket, uint64_t number, uint64_t *handed);
+
+uint64_t kv_snapshot(kv_bucket *bucket, kv_view *view);
+uint64_t kv_view_get(kv_view *view, const uint8_t *key, size_t key_size, uint8_t *room, size_t room_size, size_t *size,
+                     uint64_t *revision);
+void kv_view_close(kv_view *view);
+
+#ifdef __cplusplus
+}
+#endif
+#endif

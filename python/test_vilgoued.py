@@ -1,0 +1,220 @@
+"""Tests of vilgoued.py over libvilgoued.so: python3 -m unittest test_vilgoued."""
+import threading
+import unittest
+
+import vilgoued
+from vilgoued import Bucket, Entry, Snapshot
+
+
+class Writes(unittest.TestCase):
+    def setUp(self):
+        self.bucket = Bucket("settings", history=3)
+        self.addCleanup(self.bucket.close)
+
+    def test_put_and_get(self):
+        self.assertEqual(self.bucket.put("app.port", b"80"), 1)
+        self.assertEqual(self.bucket.get("app.port"), (b"80", 1))
+        self.bucket["app.port"] = b"8080\0x"
+        self.assertEqual(self.bucket["app.port"], b"8080\0x")
+        self.assertEqual(self.bucket.get("app.port", at=1), (b"80", 1))
+        self.assertIn("app.port", self.bucket)
+
+    def test_no_such_key(self):
+        self.assertIsNone(self.bucket.get("app.port"))
+        self.assertEqual(self.bucket.get("app.port", b"none"), b"none")
+        with self.assertRaises(KeyError):
+            self.bucket["app.port"]
+
+    def test_create(self):
+        self.bucket.create("a", b"1")
+        with self.assertRaises(vilgoued.KeyExists):
+            self.bucket.create("a", b"2")
+        del self.bucket["a"]
+        self.assertEqual(self.bucket.create("a", b"2"), 3)
+
+    def test_update(self):
+        self.assertEqual(self.bucket.update("a", b"1", last=0), 1)
+        with self.assertRaises(vilgoued.WrongLastRevision) as refused:
+            self.bucket.update("a", b"2", last=7)
+        self.assertEqual(refused.exception.last, 1)
+        self.assertEqual(self.bucket.update("a", b"2", last=1), 2)
+
+    def test_delete_and_purge(self):
+        self.bucket["a"] = b"1"
+        for refused in (self.bucket.delete, self.bucket.purge):
+            with self.assertRaises(vilgoued.WrongLastRevision) as error:
+                refused("a", last=9)
+            self.assertEqual(error.exception.last, 1)
+        self.assertEqual(self.bucket.delete("a", last=1), 2)
+        self.assertEqual(self.bucket.get("a", at=1), (b"1", 1))
+        self.assertEqual(self.bucket.purge("a"), 3)
+        self.assertIsNone(self.bucket.get("a", at=1))
+
+    def test_seal(self):
+        self.bucket.seal()
+        with self.assertRaises(vilgoued.Sealed):
+            self.bucket["a"] = b"1"
+        self.assertTrue(self.bucket.status().sealed)
+
+    def test_limits(self):
+        with Bucket("small", value_limit=2, write_limit=1) as bucket:
+            with self.assertRaises(vilgoued.ValueTooLarge):
+                bucket["a"] = b"123"
+            bucket["a"] = b"12"
+            with self.assertRaises(vilgoued.JournalFull):
+                bucket["a"] = b"12"
+
+    def test_large_value(self):
+        value = bytes(range(256)) * 4096
+        self.bucket["a"] = value
+        self.assertEqual(self.bucket["a"], value)
+        self.assertEqual([entry.value for entry in self.bucket.watch("a") if not entry.marker], [value])
+
+    def test_history(self):
+        self.assertEqual(self.bucket.history("a"), [])
+        for value in (b"1", b"2", b"3"):
+            self.bucket["a"] = value
+        self.bucket.delete("a")
+        self.assertEqual(
+            self.bucket.history("a"),
+            [Entry("a", "PUT", 2, 1, b"2"), Entry("a", "PUT", 3, 1, b"3"), Entry("a", "DEL", 4, 0, None)],
+        )
+        self.bucket["large"] = bytes(5000)
+        self.assertEqual(self.bucket.history("large")[0].value, bytes(5000))
+
+    def test_keys(self):
+        for key in ("b", "a.x", "c", "b"):
+            self.bucket[key] = b"1"
+        self.bucket.delete("c")
+        self.assertEqual(self.bucket.keys(), ["a.x", "b"])
+        self.assertEqual(self.bucket.keys("a.*,c"), ["a.x"])
+        self.assertEqual(self.bucket.status().watches, 0)
+
+    def test_status(self):
+        self.bucket["a"] = b"1"
+        self.bucket["a"] = b"2"
+        self.bucket.watch(">")
+        self.assertEqual(self.bucket.status(), (3, 2, 2, 2, 1, False))
+
+
+class Watches(unittest.TestCase):
+    def setUp(self):
+        self.bucket = Bucket("settings", history=3)
+        self.addCleanup(self.bucket.close)
+        self.bucket["app.port"] = b"80"
+        self.bucket["app.port"] = b"8080"
+        self.bucket["db.port"] = b"5432"
+
+    def test_latest_then_live(self):
+        watch = self.bucket.watch("app.>")
+        self.assertEqual(list(watch), [Entry("app.port", "PUT", 2, 4, b"8080"), vilgoued.MARKER])
+        del self.bucket["app.port"]
+        self.bucket["db.port"] = b"1"
+        self.assertEqual(list(watch), [Entry("app.port", "DEL", 4, 0, None)])
+        self.assertEqual(watch.stop(), 3)
+        with self.assertRaises(vilgoued.NoSuchWatch):
+            next(watch)
+
+    def test_starts(self):
+        def revisions(**options):
+            return [0 if entry.marker else entry.revision for entry in self.bucket.watch(">", **options)]
+
+        self.assertEqual(revisions(history=True), [1, 2, 3, 0])
+        self.assertEqual(revisions(updates=True), [])
+        self.assertEqual(revisions(since=2), [2, 3, 0])
+        with self.assertRaises(vilgoued.OptionsClash):
+            self.bucket.watch(">", history=True, updates=True)
+
+    def test_headers_only_and_ignored_deletes(self):
+        watch = self.bucket.watch("app.*,db.*", headers_only=True, ignore_deletes=True)
+        self.assertEqual(next(watch), Entry("app.port", "PUT", 2, 4, None))
+        self.bucket.delete("app.port")
+        self.assertEqual([entry.marker or entry.key for entry in watch], ["db.port", True])
+
+    def test_too_many(self):
+        watches = [self.bucket.watch(">") for _ in range(64)]
+        with self.assertRaises(vilgoued.TooManyWatches):
+            self.bucket.watch(">")
+        watches[0].stop()
+        self.assertEqual(self.bucket.watch(">").number, 65)
+
+
+class Refusals(unittest.TestCase):
+    def test_names(self):
+        for name in ("", "no name", "x" * 65, b"\xff"):
+            with self.assertRaises(vilgoued.BadBucket):
+                Bucket(name)
+        with self.assertRaises(vilgoued.BadConfig):
+            Bucket("settings", history=65)
+
+    def test_keys_and_filters(self):
+        with Bucket("settings") as bucket:
+            for key in ("", "a..b", ".a", "a b", b"a\xff", "x" * 256):
+                with self.assertRaises(vilgoued.BadKey):
+                    bucket.put(key, b"1")
+                with self.assertRaises(vilgoued.BadKey):
+                    bucket.get(key)
+            for filters in ("", "a.>.b", "a,", b"\xff"):
+                with self.assertRaises(vilgoued.BadFilter):
+                    bucket.watch(filters)
+
+    def test_closed(self):
+        bucket = Bucket("settings")
+        watch = bucket.watch(">")
+        bucket.close()
+        bucket.close()
+        for call in (lambda: bucket.put("a", b""), lambda: bucket.get("a"), lambda: next(watch), bucket.status,
+                     bucket.seal, bucket.snapshot):
+            with self.assertRaises(vilgoued.Closed):
+                call()
+
+    def test_numbers(self):
+        with Bucket("settings") as bucket:
+            with self.assertRaises(OverflowError):
+                bucket.update("a", b"", last=-1)
+            with self.assertRaises(OverflowError):
+                bucket.delete("a", last=1 << 64)
+
+
+class Snapshots(unittest.TestCase):
+    def test_a_moment(self):
+        with Bucket("settings") as bucket:
+            bucket["a"] = b"1"
+            with bucket.snapshot() as view:
+                bucket["a"] = b"2"
+                self.assertEqual(view["a"], b"1")
+                self.assertEqual(view.get("a"), (b"1", 1))
+                self.assertIsNone(view.get("b"))
+            with self.assertRaises(vilgoued.Closed):
+                view.get("a")
+
+    def test_on_other_threads(self):
+        lock = threading.Lock()
+        wrong = []
+        with Bucket("settings") as bucket:
+            bucket["a"] = b"1"
+
+            def read():
+                last = 0
+                while last < 500:
+                    with lock:
+                        view = Snapshot(bucket)
+                    with view:
+                        value, revision = view.get("a")
+                    if int(value) != revision or revision < last:
+                        wrong.append((value, revision, last))
+                    last = revision
+
+            readers = [threading.Thread(target=read) for _ in range(3)]
+            for reader in readers:
+                reader.start()
+            for number in range(2, 501):
+                with lock:
+                    bucket.put("a", b"%d" % number)
+            for reader in readers:
+                reader.join()
+        self.assertEqual(wrong, [])
+
+
+if __name__ == "__main__":
+    unittest.main()

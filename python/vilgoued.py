@@ -1,0 +1,379 @@
+"""A key-value bucket in the memory of this process, with wildcard watches.
+
+    from vilgoued import Bucket
+
+    with Bucket("settings", history=5) as bucket:
+        bucket["app.port"] = b"80"
+        for entry in bucket.watch("app.>"):
+            print("that was all" if entry.marker else entry)
+
+It needs this file and libvilgoued.so, beside it or where VILGOUED_LIBRARY names it.
+
+A bucket is used by one thread at a time; a snapshot may be read on another thread than the bucket's.
+"""
+import ctypes
+import os
+from collections import namedtuple
+
+__all__ = ["Bucket", "Snapshot", "Watch", "Entry", "Value", "Status", "KvError"]
+
+
+class KvError(Exception):
+    """Why a call was refused. The bucket is as it was."""
+
+    code = None
+
+
+def _refusal(code, name):
+    cls = type(name, (KvError,), {"code": code, "__doc__": f"Refusal {code}.", "__module__": __name__})
+    globals()[name] = cls
+    __all__.append(name)
+    return cls
+
+
+_REFUSALS = {
+    code: _refusal(code, name)
+    for code, name in (
+        (1, "OutOfMemory"),
+        (2, "BadBucket"),
+        (3, "BadConfig"),
+        (4, "BadKey"),
+        (5, "BadFilter"),
+        (6, "OptionsClash"),
+        (7, "ValueTooLarge"),
+        (8, "Sealed"),
+        (9, "JournalFull"),
+        (10, "KeyExists"),
+        (11, "WrongLastRevision"),
+        (12, "KeyNotFound"),
+        (13, "NoSuchWatch"),
+        (14, "TooManyWatches"),
+        (32, "Closed"),
+        (33, "TooLittleRoom"),
+        (34, "OpenAlready"),
+        (35, "NoSuchStart"),
+    )
+}
+
+Value = namedtuple("Value", "value revision")
+Status = namedtuple("Status", "history last stored values watches sealed")
+
+
+class Entry(namedtuple("Entry", "key op revision size value")):
+    """An entry that a watch hands out. `op` is "PUT", "DEL" or "PURGE"; `value` is None where it isn't shown."""
+
+    __slots__ = ()
+    marker = False
+
+
+class _Marker:
+    """The end of what a watch begins with."""
+
+    marker = True
+    __slots__ = ()
+
+    def __repr__(self):
+        return "MARKER"
+
+
+MARKER = _Marker()
+
+_OPS = ("PUT", "DEL", "PURGE")
+
+
+class _Handle(ctypes.Structure):
+    _fields_ = [("is_open", ctypes.c_bool), ("at", ctypes.c_void_p)]
+
+
+class _Limits(ctypes.Structure):
+    _fields_ = [(name, ctypes.c_uint64) for name in ("history", "value_limit", "write_limit", "revision_limit")]
+
+
+class _Options(ctypes.Structure):
+    _fields_ = [
+        ("start", ctypes.c_uint32),
+        ("from_", ctypes.c_uint64),
+        ("ignore_deletes", ctypes.c_bool),
+        ("headers_only", ctypes.c_bool),
+    ]
+
+
+class _Item(ctypes.Structure):
+    _fields_ = [
+        ("kind", ctypes.c_uint32),
+        ("op", ctypes.c_uint32),
+        ("revision", ctypes.c_uint64),
+        ("key_size", ctypes.c_size_t),
+        ("size", ctypes.c_uint64),
+        ("value_size", ctypes.c_size_t),
+        ("has_value", ctypes.c_bool),
+    ]
+
+
+class _Status(ctypes.Structure):
+    _fields_ = [(name, ctypes.c_uint64) for name in ("history", "last", "stored", "values", "watches")] + [
+        ("sealed", ctypes.c_bool)
+    ]
+
+
+def _load():
+    beside = os.path.join(os.path.dirname(os.path.abspath(__file__)), "libvilgoued.so")
+    library = ctypes.CDLL(os.environ.get("VILGOUED_LIBRARY", beside))
+    handle, size, number = ctypes.POINTER(_Handle), ctypes.c_size_t, ctypes.c_uint64
+    out, sized = ctypes.POINTER(ctypes.c_uint64), ctypes.POINTER(ctypes.c_size_t)
+    text, flag = [ctypes.c_char_p, size], ctypes.c_bool
+    for name, arguments in {
+        "kv_open": [handle, *text, ctypes.POINTER(_Limits)],
+        "kv_put": [handle, *text, *text, out],
+        "kv_create": [handle, *text, *text, out],
+        "kv_update": [handle, *text, *text, number, out],
+        "kv_delete": [handle, *text, flag, number, out],
+        "kv_purge": [handle, *text, flag, number, out],
+        "kv_seal": [handle],
+        "kv_get": [handle, *text, *text, sized, out],
+        "kv_get_at": [handle, *text, number, *text, sized, out],
+        "kv_history": [handle, *text, size, *text, ctypes.POINTER(_Item), sized],
+        "kv_get_status": [handle, ctypes.POINTER(_Status)],
+        "kv_watch": [handle, *text, ctypes.POINTER(_Options), out],
+        "kv_take": [handle, number, *text, *text, ctypes.POINTER(_Item)],
+        "kv_stop": [handle, number, out],
+        "kv_snapshot": [handle, handle],
+        "kv_view_get": [handle, *text, *text, sized, out],
+    }.items():
+        function = getattr(library, name)
+        function.argtypes, function.restype = arguments, number
+    for name in ("kv_close", "kv_view_close"):
+        function = getattr(library, name)
+        function.argtypes, function.restype = [handle], None
+    return library
+
+
+_lib = _load()
+
+
+def _text(text):
+    data = text.encode() if isinstance(text, str) else bytes(text)
+    return data, len(data)
+
+
+def _u64(number):
+    if not 0 <= number < 1 << 64:
+        raise OverflowError(f"{number} is not a number of 64 bits")
+    return number
+
+
+class _Held:
+    """A handle, and the memory that answers are copied to."""
+
+    def __init__(self, close):
+        self._handle = _Handle()
+        self._close = close
+        self._size = ctypes.c_size_t()
+        self._revision = ctypes.c_uint64()
+        self._values = ctypes.create_string_buffer(4096)
+
+    def _ask(self, function, *arguments):
+        code = function(ctypes.byref(self._handle), *arguments)
+        if code:
+            refusal = _REFUSALS[code]()
+            if code == 11:
+                refusal.last = self._revision.value
+                refusal.args = (f"the key's last revision is {refusal.last}",)
+            raise refusal
+
+    def _read(self, function, *arguments):
+        try:
+            self._ask(
+                function, *arguments, self._values, len(self._values),
+                ctypes.byref(self._size), ctypes.byref(self._revision),
+            )
+        except _REFUSALS[33]:
+            self._values = ctypes.create_string_buffer(self._size.value)
+            return self._read(function, *arguments)
+        return Value(ctypes.string_at(self._values, self._size.value), self._revision.value)
+
+    def close(self):
+        """Frees what is held. What is closed stays so."""
+        self._close(ctypes.byref(self._handle))
+
+    def __enter__(self):
+        return self
+
+    def __exit__(self, *_):
+        self.close()
+
+    def __del__(self):
+        if hasattr(self, "_handle"):
+            self.close()
+
+
+class Bucket(_Held):
+    """A bucket of this name, with no writes."""
+
+    def __init__(
+        self, name, history=1, *, value_limit=1_048_576, write_limit=1_000_000, revision_limit=4_294_967_295
+    ):
+        super().__init__(_lib.kv_close)
+        self._keys = ctypes.create_string_buffer(255)
+        limits = _Limits(_u64(history), _u64(value_limit), _u64(write_limit), _u64(revision_limit))
+        self._ask(_lib.kv_open, *_text(name), ctypes.byref(limits))
+
+    def _write(self, function, *arguments):
+        self._ask(function, *arguments, ctypes.byref(self._revision))
+        return self._revision.value
+
+    def put(self, key, value):
+        """Gives the key the value, and answers the revision of the write."""
+        return self._write(_lib.kv_put, *_text(key), *_text(value))
+
+    def create(self, key, value):
+        """The same, where the key has no value."""
+        return self._write(_lib.kv_create, *_text(key), *_text(value))
+
+    def update(self, key, value, *, last):
+        """The same, where `last` is the key's last revision, 0 where it was never written."""
+        return self._write(_lib.kv_update, *_text(key), *_text(value), _u64(last))
+
+    def delete(self, key, *, last=None):
+        """Ends the value of the key; with `last`, only where that is the key's last revision."""
+        return self._write(_lib.kv_delete, *_text(key), last is not None, _u64(last or 0))
+
+    def purge(self, key, *, last=None):
+        """The same, and the key's earlier entries go."""
+        return self._write(_lib.kv_purge, *_text(key), last is not None, _u64(last or 0))
+
+    def seal(self):
+        """Ends the writes."""
+        self._ask(_lib.kv_seal)
+
+    def get(self, key, default=None, *, at=None):
+        """The value of the key with its revision, or `default`; with `at`, the put of that revision, if retained."""
+        try:
+            if at is None:
+                return self._read(_lib.kv_get, *_text(key))
+            return self._read(_lib.kv_get_at, *_text(key), _u64(at))
+        except _REFUSALS[12]:
+            return default
+
+    def __getitem__(self, key):
+        try:
+            return self._read(_lib.kv_get, *_text(key)).value
+        except _REFUSALS[12]:
+            raise KeyError(key) from None
+
+    def __setitem__(self, key, value):
+        self.put(key, value)
+
+    def __delitem__(self, key):
+        self.delete(key)
+
+    def __contains__(self, key):
+        return self.get(key) is not None
+
+    def history(self, key):
+        """The retained entries of the key, oldest first; none where it was never written."""
+        item, entries, name = _Item(), [], _text(key)
+        while True:
+            try:
+                self._ask(
+                    _lib.kv_history, *name, len(entries), self._values, len(self._values),
+                    ctypes.byref(item), ctypes.byref(self._size),
+                )
+            except _REFUSALS[12]:
+                return entries
+            except _REFUSALS[33]:
+                self._values = ctypes.create_string_buffer(1_048_576)
+                continue
+            if item.kind == 0:
+                return entries
+            value = ctypes.string_at(self._values, item.value_size) if item.has_value else None
+            entries.append(Entry(name[0].decode(), _OPS[item.op], item.revision, item.size, value))
+
+    def keys(self, filters=">"):
+        """The keys that match and have a value, in the order of their last puts."""
+        watch = self.watch(filters, ignore_deletes=True, headers_only=True)
+        try:
+            return [entry.key for entry in watch if not entry.marker]
+        finally:
+            watch.stop()
+
+    def status(self):
+        """The numbers of the bucket."""
+        status = _Status()
+        self._ask(_lib.kv_get_status, ctypes.byref(status))
+        return Status(*(getattr(status, name) for name in Status._fields))
+
+    def watch(self, filters, *, history=False, updates=False, since=None, ignore_deletes=False, headers_only=False):
+        """A watch of the keys that a filter matches, or one of several filters with a comma between two."""
+        if history + updates + (since is not None) > 1:
+            raise _REFUSALS[6]("two of history, updates and since")
+        start = 1 if history else 2 if updates else 3 if since is not None else 0
+        options = _Options(start, _u64(since or 0), ignore_deletes, headers_only)
+        number = ctypes.c_uint64()
+        self._ask(_lib.kv_watch, *_text(filters), ctypes.byref(options), ctypes.byref(number))
+        return Watch(self, number.value)
+
+    def _take(self, number):
+        item = _Item()
+        try:
+            self._ask(
+                _lib.kv_take, number, self._keys, len(self._keys), self._values, len(self._values), ctypes.byref(item)
+            )
+        except _REFUSALS[33]:
+            self._values = ctypes.create_string_buffer(1_048_576)
+            return self._take(number)
+        if item.kind == 0:
+            return None
+        if item.kind == 1:
+            return MARKER
+        value = ctypes.string_at(self._values, item.value_size) if item.has_value else None
+        key = ctypes.string_at(self._keys, item.key_size).decode()
+        return Entry(key, _OPS[item.op], item.revision, item.size, value)
+
+    def snapshot(self):
+        """What the bucket has accepted by now. It may be read on another thread than the bucket's."""
+        return Snapshot(self)
+
+
+class Watch:
+    """A watch: an iterator over what it is handed now; it ends where nothing is left, and goes on after more writes."""
+
+    def __init__(self, bucket, number):
+        self._bucket = bucket
+        self.number = number
+
+    def __iter__(self):
+        return self
+
+    def __next__(self):
+        item = self._bucket._take(self.number)
+        if item is None:
+            raise StopIteration
+        return item
+
+    def stop(self):
+        """Ends the watch, and answers how many items it was handed, the end marker counted."""
+        handed = ctypes.c_uint64()
+        self._bucket._ask(_lib.kv_stop, self.number, ctypes.byref(handed))
+        return handed.value
+
+
+class Snapshot(_Held):
+    """What a bucket had accepted by a moment."""
+
+    def __init__(self, bucket):
+        super().__init__(_lib.kv_view_close)
+        bucket._ask(_lib.kv_snapshot, ctypes.byref(self._handle))
+
+    def get(self, key, default=None):
+        """The value of the key with its revision, or `default`."""
+        try:
+            return self._read(_lib.kv_view_get, *_text(key))
+        except _REFUSALS[12]:
+            return default
+
+    def __getitem__(self, key):
+        try:
+            return self._read(_lib.kv_view_get, *_text(key)).value
+        except _REFUSALS[12]:
+            raise KeyError(key) from None

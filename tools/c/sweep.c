@@ -1,0 +1,109 @@
+/* A session is run once for each of its requests for memory, with that one refused: the call that made it is refused as
+ * KV_OUT_OF_MEMORY, and made again it succeeds; all results are the same. To be linked with --wrap=malloc,realloc. */
+#include "vilgoued.h"
+#include <stdio.h>
+#include <stdlib.h>
+#include <string.h>
+
+#define B(s) (const uint8_t *)(s), strlen(s)
+
+static long left, asked;
+static int refusals;
+
+void *__real_malloc(size_t size);
+void *__real_realloc(void *block, size_t size);
+
+static bool refuses(void) {
+    asked++;
+    return left >= 0 && left-- == 0;
+}
+
+void *__wrap_malloc(size_t size) {
+    return refuses() ? NULL : __real_malloc(size);
+}
+
+void *__wrap_realloc(void *block, size_t size) {
+    return refuses() ? NULL : __real_realloc(block, size);
+}
+
+#define TRY(call) \
+    do { \
+        uint64_t code = (call); \
+        if (code == KV_OUT_OF_MEMORY) { \
+            refusals++; \
+            code = (call); \
+        } \
+        if (code) { \
+            printf("code %u of %s\n", (unsigned)code, #call); \
+            exit(1); \
+        } \
+    } while (0)
+#define WANT(test) \
+    do { \
+        if (!(test)) { \
+            printf("not so: %s\n", #test); \
+            exit(1); \
+        } \
+    } while (0)
+
+static void session(void) {
+    static const kv_limits limits = {3, 1048576, 1000000, 4294967295};
+    static const kv_options latest = {KV_LATEST, 0, false, false};
+    kv_bucket b = {0};
+    kv_view view = {0};
+    uint64_t revision, number, handed;
+    size_t size;
+    uint8_t key[64], value[64];
+    kv_item item;
+    int seen = 0;
+    TRY(kv_open(&b, B("settings"), &limits));
+    TRY(kv_watch(&b, B("app.>,db.*"), &latest, &number));
+    for (uint64_t i = 1; i <= 60; i++) {
+        char name[32];
+        snprintf(name, sizeof name, "app.k%u", (unsigned)(i % 20));
+        if (i % 7 == 0)
+            TRY(kv_delete(&b, B(name), false, 0, &revision));
+        else
+            TRY(kv_put(&b, B(name), B(name), &revision));
+        WANT(revision == i);
+        if (i % 7 == 0)
+            continue;
+        TRY(kv_get(&b, B(name), value, sizeof value, &size, &revision));
+        WANT(size == strlen(name) && !memcmp(value, name, size) && revision == i);
+        TRY(kv_get_at(&b, B(name), i, value, sizeof value, &size, &revision));
+        WANT(revision == i);
+    }
+    TRY(kv_snapshot(&b, &view));
+    TRY(kv_purge(&b, B("app.k1"), false, 0, &revision));
+    TRY(kv_create(&b, B("db.port"), B("1"), &revision));
+    TRY(kv_update(&b, B("db.port"), B("2"), 62, &revision));
+    TRY(kv_history(&b, B("db.port"), 1, value, sizeof value, &item, &size));
+    WANT(size == 2 && item.revision == 63 && value[0] == '2');
+    TRY(kv_seal(&b));
+    TRY(kv_view_get(&view, B("app.k1"), value, sizeof value, &size, &revision));
+    WANT(revision == 41);
+    do {
+        TRY(kv_take(&b, number, key, sizeof key, value, sizeof value, &item));
+        seen += item.kind == KV_ENTRY;
+    } while (item.kind != KV_EMPTY);
+    WANT(seen == 63);
+    TRY(kv_stop(&b, number, &handed));
+    WANT(handed == 64);
+    kv_close(&b);
+    kv_view_close(&view);
+}
+
+int main(void) {
+    long total;
+    left = -1;
+    session();
+    total = asked;
+    for (long k = 0; k < total; k++) {
+        left = k;
+        refusals = 0;
+        session();
+        WANT(refusals == 1);
+    }
+    printf("%ld requests for memory, each refused in turn\n", total);
+    return 0;
+}
