@@ -82,25 +82,48 @@ const LATER: [(&str, Ask, Result<u64, KvError>); 4] = [
     ("c", Ask::Put(""), Ok(9)),
 ];
 
+// A version with the first writes, made in place.
+fn first_here(rt: &impl Abort, alloc: Global) -> Result<Version, KvError> {
+    let mut here = keeping(alloc, 2)?;
+    run_here(rt, alloc, &mut here, &FIRST)?;
+    Ok(here)
+}
+
+// Makes the later writes in place, and answers the snapshot from before them.
+fn later_here(rt: &impl Abort, alloc: Global, here: &mut Version) -> Result<Version, KvError> {
+    let held = snapshot(here)?;
+    run_here(rt, alloc, here, &LATER)?;
+    Ok(held)
+}
+
+// A version with the first writes, each of which made a version of its own.
+fn first_apart(rt: &impl Abort, alloc: Global) -> Result<Version, KvError> {
+    run(rt, alloc, keeping(alloc, 2)?, &FIRST)
+}
+
+fn tells_the_first(rt: &impl Abort, alloc: Global, version: &Version) -> Result<(), KvError> {
+    let apart = first_apart(rt, alloc)?;
+    tell_the_same(rt, alloc, version, &apart)
+}
+
+fn tells_all(rt: &impl Abort, alloc: Global, version: &Version) -> Result<(), KvError> {
+    let apart = run(rt, alloc, first_apart(rt, alloc)?, &LATER)?;
+    tell_the_same(rt, alloc, version, &apart)
+}
+
 #[test]
 fn writes_that_nobody_sees(rt: HostRuntime) -> Result<(), Fail> {
-    let mut here = keeping(rt.alloc(), 2)?;
-    run_here(&rt, rt.alloc(), &mut here, &FIRST)?;
-    let apart = run(&rt, rt.alloc(), keeping(rt.alloc(), 2)?, &FIRST)?;
-    tell_the_same(&rt, rt.alloc(), &here, &apart)?;
+    let here = first_here(&rt, rt.alloc())?;
+    tells_the_first(&rt, rt.alloc(), &here)?;
     Ok(())
 }
 
 #[test]
 fn writes_beside_a_snapshot(rt: HostRuntime) -> Result<(), Fail> {
-    let mut here = keeping(rt.alloc(), 2)?;
-    run_here(&rt, rt.alloc(), &mut here, &FIRST)?;
-    let held = snapshot(&here)?;
-    run_here(&rt, rt.alloc(), &mut here, &LATER)?;
-    let before = run(&rt, rt.alloc(), keeping(rt.alloc(), 2)?, &FIRST)?;
-    tell_the_same(&rt, rt.alloc(), &held, &before)?;
-    let after = run(&rt, rt.alloc(), before, &LATER)?;
-    tell_the_same(&rt, rt.alloc(), &here, &after)?;
+    let mut here = first_here(&rt, rt.alloc())?;
+    let held = later_here(&rt, rt.alloc(), &mut here)?;
+    tells_the_first(&rt, rt.alloc(), &held)?;
+    tells_all(&rt, rt.alloc(), &here)?;
     Ok(())
 }
 
