@@ -44,18 +44,27 @@ fn request(alloc: Global) -> Result<Request, KvError> {
     }
 }
 
+fn is_written_and_taken(
+    rt: &impl Abort,
+    bucket: &mut Bucket,
+    request: &Request,
+) -> Result<(), KvError> {
+    assert_eq!(rt; write(rt, bucket, request)?, 1);
+    let written = bucket.version().get(request.key())?;
+    assert_eq!(rt; written.value().len(), LONGEST_VALUE);
+    for answer in [Answer::Marker, Answer::Entry(1), Answer::Empty] {
+        assert_eq!(rt; take(bucket, 1), answer);
+    }
+    Ok(())
+}
+
 #[test]
 fn sixteen_filters_the_longest_key_and_the_longest_value(rt: HostRuntime) -> Result<(), Fail> {
     let mut bucket = keeping(rt.alloc(), 64)?;
     let filters = sixteen_filters(rt.alloc())?;
     assert_eq!(rt; watch(&rt, &mut bucket, &filters)?, 1);
     let request = request(rt.alloc())?;
-    assert_eq!(rt; write(&rt, &mut bucket, &request)?, 1);
-    let written = bucket.version().get(request.key())?;
-    assert_eq!(rt; written.value().len(), LONGEST_VALUE);
-    assert_eq!(rt; take(&mut bucket, 1), Answer::Marker);
-    assert_eq!(rt; take(&mut bucket, 1), Answer::Entry(1));
-    assert_eq!(rt; take(&mut bucket, 1), Answer::Empty);
+    is_written_and_taken(&rt, &mut bucket, &request)?;
     Ok(())
 }
 

@@ -110,10 +110,11 @@ fn key(alloc: Global) -> Result<Key, KvError> {
     Key::parse(alloc, "k")
 }
 
-fn push_reads(alloc: Global, calls: &mut Vec<Call>) -> Result<(), KvError> {
+// Reads of `k`: its latest entry, that of its first revision, that of another one, and all of them.
+fn push_reads(alloc: Global, calls: &mut Vec<Call>, other: u64) -> Result<(), KvError> {
     calls.push(Call::Get(key(alloc)?))?;
     calls.push(Call::GetAt(key(alloc)?, 1))?;
-    calls.push(Call::GetAt(key(alloc)?, 3))?;
+    calls.push(Call::GetAt(key(alloc)?, other))?;
     calls.push(Call::History(key(alloc)?))?;
     Ok(())
 }
@@ -136,7 +137,7 @@ fn other_calls_once(alloc: Global) -> Result<Vec<Call>, KvError> {
     let mut calls = Vec::new(alloc);
     push_put(alloc, &mut calls, "k", "1")?;
     push_put(alloc, &mut calls, "k", "2")?;
-    push_reads(alloc, &mut calls)?;
+    push_reads(alloc, &mut calls, 3)?;
     push_lists(alloc, &mut calls)?;
     push_numbers(&mut calls)?;
     push_put(alloc, &mut calls, "k", "3")?;
@@ -211,40 +212,56 @@ fn ten_thousand_calls_in_a_run(rt: HostRuntime) -> Result<(), Fail> {
     Ok(())
 }
 
-fn push_writes_over_a_marker(alloc: Global, calls: &mut Vec<Call>) -> Result<(), KvError> {
-    let value = Vec::new(alloc);
-    calls.push(Call::Write(Request::Create {
-        key: key(alloc)?,
-        value,
-    }))?;
-    calls.push(Call::Write(Request::Purge {
-        key: key(alloc)?,
-        last: Some(3),
-    }))?;
+fn push_delete(alloc: Global, calls: &mut Vec<Call>) -> Result<(), KvError> {
+    let key = key(alloc)?;
+    calls.push(Call::Write(Request::Delete { key, last: None }))?;
     Ok(())
+}
+
+fn push_create(alloc: Global, calls: &mut Vec<Call>) -> Result<(), KvError> {
+    let key = key(alloc)?;
+    let value = Vec::new(alloc);
+    calls.push(Call::Write(Request::Create { key, value }))?;
+    Ok(())
+}
+
+fn push_purge(alloc: Global, calls: &mut Vec<Call>, last: u64) -> Result<(), KvError> {
+    let key = key(alloc)?;
+    let last = Some(last);
+    calls.push(Call::Write(Request::Purge { key, last }))?;
+    Ok(())
+}
+
+fn push_takes(calls: &mut Vec<Call>, takes: u64) -> Result<(), KvError> {
+    for _ in 0..takes {
+        calls.push(Call::Take(1))?;
+    }
+    Ok(())
+}
+
+fn push_ends(calls: &mut Vec<Call>) -> Result<(), KvError> {
+    calls.push(Call::Stop(1))?;
+    calls.push(Call::Seal)?;
+    calls.push(Call::Seal)?;
+    Ok(())
+}
+
+// A put and a delete, with all that can be asked of them.
+fn push_a_marker(alloc: Global, calls: &mut Vec<Call>) -> Result<(), KvError> {
+    push_put(alloc, calls, "k", "1")?;
+    push_delete(alloc, calls)?;
+    push_reads(alloc, calls, 2)?;
+    push_lists(alloc, calls)?;
+    push_takes(calls, 2)
 }
 
 fn calls_over_a_marker_once(alloc: Global) -> Result<Vec<Call>, KvError> {
     let mut calls = Vec::new(alloc);
-    push_put(alloc, &mut calls, "k", "1")?;
-    calls.push(Call::Write(Request::Delete {
-        key: key(alloc)?,
-        last: None,
-    }))?;
-    calls.push(Call::Get(key(alloc)?))?;
-    calls.push(Call::GetAt(key(alloc)?, 1))?;
-    calls.push(Call::GetAt(key(alloc)?, 2))?;
-    calls.push(Call::History(key(alloc)?))?;
-    push_lists(alloc, &mut calls)?;
-    calls.push(Call::Take(1))?;
-    calls.push(Call::Take(1))?;
-    push_writes_over_a_marker(alloc, &mut calls)?;
-    for _ in 0..3u8 {
-        calls.push(Call::Take(1))?;
-    }
-    calls.push(Call::Stop(1))?;
-    calls.push(Call::Seal)?;
-    calls.push(Call::Seal)?;
+    push_a_marker(alloc, &mut calls)?;
+    push_create(alloc, &mut calls)?;
+    push_purge(alloc, &mut calls, 3)?;
+    push_takes(&mut calls, 3)?;
+    push_ends(&mut calls)?;
     Ok(calls)
 }
 
