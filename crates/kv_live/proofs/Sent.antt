@@ -1,4 +1,4 @@
--- What may cross threads: a reader and a feed may be handed to another, and a bucket under its lock shared, where the name of its opening may. Whoever starts threads over them cites
+-- What may cross threads: a reader, a feed and a receipt may be handed to another, and a receipt and a bucket under its lock shared, where the name of its opening may. Whoever starts threads over them cites
 -- these, and `Sent` of kv_store for versions; one `search` through the fields of them all finds no proof within its bounds.
 use denote.RattleType.{RattleType}
 use denote.Param.Send.{IsSend, IsSync, sendable}
@@ -11,6 +11,7 @@ use Rattle.kv_live.specs.contracts.copies.Copies as Copies
 use Rattle.kv_live.specs.contracts.feed.Feed as Feed
 use Rattle.kv_live.specs.contracts.publisher.Publisher as Publisher
 use Rattle.kv_live.specs.contracts.reader.Reader as Reader
+use Rattle.kv_live.specs.contracts.receipt.Receipt as Receipt
 use Rattle.kv_live.specs.contracts.shelf.Shelf as Shelf
 use Rattle.kv_live.proofs.front.Front.TheSendSync as front
 use Rattle.kv_live.proofs.front.Glimpse.TheSendSync as glimpse
@@ -42,6 +43,12 @@ module _ (N : RattleType) (g : live_name.Ghosts N.Denot) (s : IsSend N) (y : IsS
 
   pub feed_send : IsSend (Feed.the_row N g)
   feed_send = let h = shelf_send in let r = reader_send in let c = cursor.the_send in search sendable depth 20
+
+  pub receipt_send : IsSend (Receipt.the_row N g)
+  receipt_send = search (sendable, front.the_send) depth 20
+
+  pub receipt_sync : IsSync (Receipt.the_row N g)
+  receipt_sync = search (sendable, front.the_sync) depth 20
 
   copies_send : IsSend (Copies.the_row N g)
   copies_send = let h = shelf_send in let i = shelf_sync in search (sendable, crosses, writer.the_send, writer.the_field_send, head.the_field_send) depth 20

@@ -1,12 +1,13 @@
 //! Feeds: watches outside the lock.
 
-ghost use Rattle.std.specs.Prelude.{◌≡◌, ◌≤◌, ◌↔◌, List, [], ⊤, None, IfOk, IfErr, MatchResult, length, take};
+ghost use Rattle.std.specs.Prelude.{◌≡◌, ◌≤◌, ◌↔◌, List, [], ⊤, None, IfOk, IfErr, OnOk, MatchResult, length, take};
 ghost use Rattle.std.specs.Borrow.{sem, follows_so};
 ghost use Rattle.std.specs.Option.{option_map};
 ghost use mathlib.Core.Option.{none};
 ghost use Rattle.kv_keys.specs.declared.error.KvError.TheVariants.{OutOfMemory};
 ghost use Rattle.kv_model.specs.Acceptance.{IsLawful};
 ghost use Rattle.kv_model.specs.Acts.{Act, Write, IsPrefix};
+ghost use Rattle.kv_store.specs.Standing.{StandsFor};
 ghost use Rattle.kv_watch.specs.Following.{InPlace};
 ghost use Rattle.kv_model.specs.Given.{event_of};
 ghost use Rattle.kv_watch.specs.Taking.{item_taken};
@@ -23,9 +24,11 @@ use crate::receipt::Receipt;
 use crate::shelf::Shelf;
 use kv_keys::{Filters, KvError};
 use kv_model::{Event, Options, Stopped};
+use kv_store::Version;
 use kv_watch::{Cursor, Taken};
 use std::alloc::Global;
 use std::marker::Model;
+use std::mem;
 use std::rt::Clock;
 use std::sync::Wait;
 use std::time::Duration;
@@ -136,15 +139,34 @@ impl<N: LiveName> Reader<N> {
 impl<N: LiveName> Feed<N> {
     ghost use Rattle.kv_live.specs.contracts.feed.Feed.{the_row};
 
-    /// Goes on to the version that is published, at once at every size. Where it is refused the feed stays on its
-    /// version.
+    /// Goes on to the version that is published. Where it is refused the feed stays on its version. It frees of the
+    /// version that it leaves what nobody else holds; `refresh_keeping` hands that out.
     pub fn refresh(&mut self) -> Result<(), KvError>
         ensures ok { IfOk result (λ _. IsRefreshed self.old self.new) }
         ensures refused { IfErr result (λ e. IsUnread e × IsNotRefreshed self.old self.new) }
     {
-        let shelf = self.reader.shelf()?;
-        self.held.current = shelf;
+        self.refresh_keeping()?;
         Ok(())
+    }
+
+    /// The same, at once at every size: it frees nothing, and answers the version that it left, to be dropped when and
+    /// where there is time for that.
+    pub fn refresh_keeping(&mut self) -> Result<Version, KvError>
+        ensures ok { OnOk result (IsRefreshed self.old self.new) }
+        ensures left { IfOk result (λ left. StandsFor self.old.acts left × (left.config ≡ N.opening.config)) }
+        ensures refused { IfErr result (λ e. IsUnread e × IsNotRefreshed self.old self.new) }
+    {
+        let shelf = self.reader.shelf()?;
+        let left = mem::replace(&mut self.held.current, shelf);
+        Ok(left.into_version())
+    }
+
+    /// The version that it went on to: a snapshot. While somebody has it, the feed's next refresh frees nothing of it.
+    pub fn version(&self) -> Result<Version, KvError>
+        ensures ok { IfOk result (λ v. StandsFor self.now.acts v × (v.config ≡ N.opening.config)) }
+        ensures err { IfErr result (λ e. e ≡ OutOfMemory) }
+    {
+        self.held.current.version().snapshot()
     }
 
     /// What `take` would hand out.

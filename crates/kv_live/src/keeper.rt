@@ -9,6 +9,7 @@ ghost use Rattle.kv_model.specs.Acceptance.{accept, IsLawful};
 ghost use Rattle.kv_model.specs.Acts.{Act, IsPrefix, Wrote, Write as AWrite, writes_of};
 ghost use Rattle.kv_model.specs.Requests.{asked};
 ghost use Rattle.kv_store.specs.Standing.{StandsFor};
+ghost use Rattle.kv_live.specs.Known.{IsUnread};
 ghost use Rattle.kv_live.specs.Posted.{IsOpenUnlessLost, Posts, PostsNothing};
 ghost use Rattle.kv_watch.specs.Taking.{item_taken};
 ghost use Rattle.kv_model.specs.declared.call.Call.TheVariants.{Write, Seal, Watch, Take, Stop};
@@ -201,6 +202,16 @@ impl<N: LiveName> Keeper<N> {
         ensures { result ≡ self.now.published }
     {
         self.publisher.receipt(self.bucket.version().revision())
+    }
+
+    /// Seats another reader, which has seen nothing and is told of all that is published. `NoReader` where all places
+    /// of the opening are taken; a reader that is dropped frees its place.
+    pub fn reader(&self) -> Result<Reader<N>, KvError>
+        ensures ok { IfOk result (λ reader. (reader.seen ≡ []) × (reader.told ≡ self.now.published)) }
+        ensures open { OnOk result (self.now.is_open ≡ true) }
+        ensures err { IfErr result IsUnread }
+    {
+        self.publisher.reader()
     }
 
     /// Ends the publisher. It waits for the readers that are reading.

@@ -5,6 +5,7 @@ use std::alloc::Global;
 use std::process::Abort;
 use std::test::Fail;
 
+mod clients;
 mod first_look;
 mod service;
 mod threads;

@@ -1,10 +1,8 @@
 -- What a feed is told of, one receipt after the other.
-use Rattle.std.proofs.Common.{◌≡◌, ℕ, ◌+◌, ◌<◌, ◌≤◌, List, [], ◌∷◌, ◌++◌, Ok, Err, IfOk, map, take, take_all, get_or, length, refl, sym, ap, subst, ◌∙◌}
+use Rattle.std.proofs.Common.{◌≡◌, ℕ, ◌+◌, ◌<◌, ◌≤◌, List, Ok, Err, IfOk, map, take, take_all, get_or, length, refl, sym, ap, subst, ◌∙◌}
 use Rattle.std.proofs.lemmas.List.{get_or-map, length-map}
 use Rattle.std.proofs.lemmas.List.Elements.{All-more}
-use Rattle.kv_model.specs.Acceptance.{IsLawful, LawfulFrom}
 use Rattle.kv_model.specs.Acts.{Act, IsPrefix}
-use Rattle.kv_model.specs.Configuration.{Configuration}
 use Rattle.kv_live.specs.Feeding.{Feeding}
 use Rattle.kv_live.proofs.Prefixes.{prefix_self, prefix_trans}
 use Rattle.kv_race.specs.Telling.{Answered, Begin, BeginAll, HasHeard}
@@ -51,11 +49,3 @@ begin_all_next answers_of acts later workers n worker l e p h one k =
 pub begin_all_whole : {W : Type 0} (answers_of : W → List Answered) (acts : List Act) (workers : List W) (n : ℕ) → length workers ≤ n → BeginAll acts (take n (map answers_of workers)) → BeginAll acts (map answers_of workers)
 begin_all_whole answers_of acts workers n l h =
     subst (λ (all : List (List Answered)). BeginAll acts all) (take_all n (map answers_of workers) (rw (length-map workers answers_of) l)) h
-
--- acts of which a beginning is asked are lawful where all are
-pub lawful_front : (config : Configuration) (before acts more : List Act) → LawfulFrom config before (acts ++ more) → LawfulFrom config before acts
-lawful_front config before [] more h = tt
-lawful_front config before (act ∷ acts) more h = (h.0, lawful_front config (before ++ act ∷ []) acts more h.1)
-
-pub lawful_prefix : (config : Configuration) (acts later : List Act) → IsPrefix acts later → IsLawful config later → IsLawful config acts
-lawful_prefix config acts later p h = lawful_front config [] acts p.0 (subst (λ (all : List Act). IsLawful config all) (sym p.1) h)

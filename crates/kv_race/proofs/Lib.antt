@@ -1,8 +1,10 @@
+pub mod Alike
 pub mod Ended
 pub mod Fed
 pub mod Hearing
 pub mod Once
 pub mod EveryKey
+pub mod Numbering
 pub mod Raced
 pub mod Writing
 pub mod Zips

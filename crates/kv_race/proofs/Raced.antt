@@ -1,5 +1,5 @@
 -- What the threads of a race did comes to what a race promises.
-use Rattle.std.proofs.Common.{◌≡◌, ℕ, List, [], ◌∷◌, Result, Ok, Err, IfOk, map, take, sym, ap, subst, ◌∙◌}
+use Rattle.std.proofs.Common.{◌≡◌, ℕ, List, [], ◌∷◌, Result, Ok, Err, All, IfOk, map, take, sym, ap, subst, ◌∙◌}
 use Rattle.std.specs.List.{AllZip}
 use Rattle.std.proofs.lemmas.List.Elements.{All-head, All-tail}
 use Rattle.std.proofs.lemmas.Simd.{map-map}
@@ -15,11 +15,11 @@ use Rattle.kv_bucket.specs.Replies.{answer_of}
 use Rattle.kv_bucket.specs.declared.reply.Reply.{Reply}
 use Rattle.kv_live.specs.Feeding.{Feeding, given_by}
 use Rattle.kv_race.specs.Openings.{IsFresh}
-use Rattle.kv_race.specs.Racing.{EachReply, IsSeen, IsWritten, IsWatched, IsRaced}
-use Rattle.kv_race.specs.Telling.{Answered, Begin, BeginAll, IsTold, IsFollowed, IsEnded, HasLast, reply_of}
+use Rattle.kv_race.specs.Racing.{AreNumbered, EachReply, IsSeen, IsWritten, IsWatched, IsRaced}
+use Rattle.kv_race.specs.Telling.{Answered, Begin, BeginAll, IsTold, IsFollowed, IsEnded, IsShown, HasLast, reply_of}
 use Rattle.kv_race.specs.Watching.{Are, reply_to}
 use Rattle.kv_race.proofs.Once.{told, told_once, told_stands}
-use Rattle.kv_race.proofs.Zips.{zip_trans, zip_map_left, zip_map_right, zip_unmap_right}
+use Rattle.kv_race.proofs.Zips.{zip_same, zip_trans, zip_map_left, zip_map_right, zip_unmap_right}
 
 -- ---- the replies of one worker, and of all
 
@@ -58,7 +58,10 @@ all_seen config acts filters options scripts answers lawful h b =
 
 -- ---- the watches
 
-module _ (config : Configuration) (scripts : List (List Asked)) (answers : List (List Answered)) (told_all : AllZip (AllZip (IsTold config)) scripts answers) {W S : Type 0} (feed_of : W → Feeding) (before_of : W → List Reply) (seen_of : S → List Reply) where
+lawful_shown : (config : Configuration) (answers : List (List Answered)) (acts : List Act) (version : Stored) → IsShown config answers acts version → IsLawful config acts
+lawful_shown config answers acts version shows = subst (λ (c : Configuration). IsLawful c acts) shows.same_config shows.stands.lawful
+
+module _ (config : Configuration) (acts : List Act) (scripts : List (List Asked)) (answers : List (List Answered)) (told_all : AllZip (AllZip (IsTold config)) scripts answers) {W E : Type 0} (feed_of : W → Feeding) (before_of : W → List Reply) (acts_of : E → List Act) (version_of : E → Stored) (seen_of : E → List Reply) where
   -- a watch that was followed from its beginning
   abbrev pub Begun : List (List ℕ) × Options → W → Type 0
   Begun watch w = ((feed_of w).began ≡ []) × (((feed_of w).filters ≡ watch.0) × (((feed_of w).options ≡ watch.1) × Are (before_of w) (take (feed_of w).handed (given_by config.history (feed_of w)))))
@@ -66,28 +69,27 @@ module _ (config : Configuration) (scripts : List (List Asked)) (answers : List 
   begun : (watch : List (List ℕ) × Options) (feed : Feeding) (w : W) → IsFresh watch feed → IsFollowed config.history feed (feed_of w) (before_of w) → Begun watch w
   begun watch feed w fresh followed = (followed.began ∙ fresh.began, (followed.filters ∙ fresh.filters, (followed.options ∙ fresh.options, followed.written fresh.handed)))
 
-  ended : (watch : List (List ℕ) × Options) (w : W) (s : S) → Begun watch w → IsEnded config answers (feed_of w) (before_of w) (seen_of s) → IsWatched config scripts (map (map reply_of) answers) watch (map answer_of (seen_of s))
-  ended watch w s b e =
+  ended : (watch : List (List ℕ) × Options) (w : W) (e : E) → Begun watch w → IsEnded config answers (feed_of w) (before_of w) acts (version_of e) (seen_of e) → IsWatched config acts scripts (map (map reply_of) answers) watch (map answer_of (seen_of e))
+  ended watch w e b ends =
       let feed = feed_of w in
-      let same : given config.history feed.began e.acts feed.filters feed.options ≡ given config.history [] e.acts watch.0 watch.1 =
-      ap (λ (began : List Act). given config.history began e.acts feed.filters feed.options) b.0
-      ∙ (ap (λ (filters : List (List ℕ)). given config.history [] e.acts filters feed.options) b.1.0
-      ∙ ap (λ (options : Options). given config.history [] e.acts watch.0 options) b.1.1.0) in record {
-        acts = e.acts;
-        lawful = e.lawful;
-        all = e.all b.1.1.1 ∙ ap (map reply_to) same;
-        once = all_seen config e.acts watch.0 watch.1 scripts answers e.lawful told_all e.told;
+      let same : given config.history feed.began acts feed.filters feed.options ≡ given config.history [] acts watch.0 watch.1 =
+      ap (λ (began : List Act). given config.history began acts feed.filters feed.options) b.0
+      ∙ (ap (λ (filters : List (List ℕ)). given config.history [] acts filters feed.options) b.1.0
+      ∙ ap (λ (options : Options). given config.history [] acts watch.0 options) b.1.1.0) in record {
+        all = ends.all b.1.1.1 ∙ ap (map reply_to) same;
+        once = all_seen config acts watch.0 watch.1 scripts answers (lawful_shown config answers acts (version_of e) ends.shown) told_all ends.shown.told;
       }
 
-  pub all_watched : (watches : List (List (List ℕ) × Options)) (feeds : List Feeding) (ws : List W) (ss : List S) → AllZip IsFresh watches feeds
+  pub all_watched : (watches : List (List (List ℕ) × Options)) (feeds : List Feeding) (ws : List W) (es : List E) → AllZip IsFresh watches feeds
       → AllZip (λ feed w. IsFollowed config.history feed (feed_of w) (before_of w)) feeds ws
-      → AllZip (λ w s. IsEnded config answers (feed_of w) (before_of w) (seen_of s)) ws ss
-      → AllZip (IsWatched config scripts (map (map reply_of) answers)) watches (map (λ s. map answer_of (seen_of s)) ss)
-  all_watched watches feeds ws ss fresh followed ends =
-      zip_map_right (IsWatched config scripts (map (map reply_of) answers)) (λ s. map answer_of (seen_of s)) watches ss
-      (zip_trans Begun (λ w s. IsEnded config answers (feed_of w) (before_of w) (seen_of s)) (λ watch s. IsWatched config scripts (map (map reply_of) answers) watch (map answer_of (seen_of s))) ended watches ws ss
+      → AllZip (λ w e. IsEnded config answers (feed_of w) (before_of w) (acts_of e) (version_of e) (seen_of e)) ws es
+      → All (λ seen. seen ≡ acts) (map acts_of es)
+      → AllZip (IsWatched config acts scripts (map (map reply_of) answers)) watches (map (λ e. map answer_of (seen_of e)) es)
+  all_watched watches feeds ws es fresh followed ends same =
+      zip_map_right (IsWatched config acts scripts (map (map reply_of) answers)) (λ e. map answer_of (seen_of e)) watches es
+      (zip_trans Begun (λ w e. IsEnded config answers (feed_of w) (before_of w) acts (version_of e) (seen_of e)) (λ watch e. IsWatched config acts scripts (map (map reply_of) answers) watch (map answer_of (seen_of e))) ended watches ws es
       (zip_trans IsFresh (λ feed w. IsFollowed config.history feed (feed_of w) (before_of w)) Begun begun watches feeds ws fresh followed)
-      ends)
+      (zip_same (λ w e seen. IsEnded config answers (feed_of w) (before_of w) seen (version_of e) (seen_of e)) acts_of acts ws es ends same))
 
 -- ---- all of it
 
@@ -107,24 +109,32 @@ module _ (config : Configuration) {S A : Type 0} (script_of : S → List Asked) 
       (zip_unmap_right Fits Ok scripts answers (subst (λ (ones : List (Result A KvError)). AllZip Fits scripts ones) e h)))
 
   -- what the parts of a race did comes to what it promises
-  pub raced : {R W V : Type 0} (replies_of : R → List (Result ℕ KvError)) (feed_of : W → Feeding) (before_of : W → List Reply) (seen_of : V → List Reply)
-      (scripts : List S) (watches : List (List (List ℕ) × Options)) (feeds : List Feeding) (worked : List (Result A KvError)) (ws : List W) (answers : List A) (ss : List V) (version : Stored) (replies : List R)
+  pub raced : {R W E V : Type 0} (replies_of : R → List (Result ℕ KvError)) (feed_of : W → Feeding) (before_of : W → List Reply) (acts_of : E → List Act) (version_of : E → Stored) (seen_of : E → List Reply) (items_of : V → List Reply)
+      (scripts : List S) (watches : List (List (List ℕ) × Options)) (feeds : List Feeding) (worked : List (Result A KvError)) (ws : List W) (answers : List A) (es : List E) (ss : List V) (version : Stored) (replies : List R)
       → AllZip IsFresh watches feeds
       → AllZip (λ script one. IfOk one (λ some. AllZip (IsTold config) (script_of script) (answers_of some))) scripts worked → worked ≡ map Ok answers
       → AllZip (λ feed w. IsFollowed config.history feed (feed_of w) (before_of w)) feeds ws
-      → AllZip (λ w s. IsEnded config (map answers_of answers) (feed_of w) (before_of w) (seen_of s)) ws ss
-      → HasLast config (map answers_of answers) version
+      → AllZip (λ w e. IsEnded config (map answers_of answers) (feed_of w) (before_of w) (acts_of e) (version_of e) (seen_of e)) ws es
+      → HasLast config (map answers_of answers) (map acts_of es) version
+      → AreNumbered (map replies_of replies) version.last
       → map replies_of replies ≡ map (λ some. map reply_of (answers_of some)) answers
-      → IsRaced config (map script_of scripts) watches (map replies_of replies) (map (λ s. map answer_of (seen_of s)) ss) version
-  raced replies_of feed_of before_of seen_of scripts watches feeds worked ws answers ss version replies fresh fits all followed ends last same =
+      → map items_of ss ≡ map seen_of es
+      → IsRaced config (map script_of scripts) watches (map replies_of replies) (map (λ s. map answer_of (items_of s)) ss) version
+  raced replies_of feed_of before_of acts_of version_of seen_of items_of scripts watches feeds worked ws answers es ss version replies fresh fits all followed ends last numbered same saw =
       let told = told_scripts scripts worked answers fits all in
-      let lawful : IsLawful config last.acts = subst (λ (c : Configuration). IsLawful c last.acts) last.same_config last.stands.lawful in
-      subst (λ (rs : List (List (Result ℕ KvError))). IsRaced config (map script_of scripts) watches rs (map (λ s. map answer_of (seen_of s)) ss) version)
-      (replies_of_told answers_of replies_of answers replies same)
-      record {
-        same_config = last.same_config;
+      let lawful : IsLawful config last.acts = lawful_shown config (map answers_of answers) last.acts version last.shown in
+      let shown : map (λ e. map answer_of (seen_of e)) es ≡ map (λ s. map answer_of (items_of s)) ss =
+      sym (map-map (map answer_of) seen_of es) ∙ (ap (map (map answer_of)) (sym saw) ∙ map-map (map answer_of) items_of ss) in
+      let rs : List (List (Result ℕ KvError)) = map (map reply_of) (map answers_of answers) in
+      let is : rs ≡ map replies_of replies = replies_of_told answers_of replies_of answers replies same in
+      let saw_all : AllZip (IsWatched config last.acts (map script_of scripts) rs) watches (map (λ e. map answer_of (seen_of e)) es) =
+      all_watched config last.acts (map script_of scripts) (map answers_of answers) told feed_of before_of acts_of version_of seen_of watches feeds ws es fresh followed ends last.same in record {
+        same_config = last.shown.same_config;
         acts = last.acts;
-        stands = last.stands;
-        written = all_written config last.acts (map script_of scripts) (map answers_of answers) lawful told last.told;
-        watched = all_watched config (map script_of scripts) (map answers_of answers) told feed_of before_of seen_of watches feeds ws ss fresh followed ends;
+        stands = last.shown.stands;
+        numbered = subst (λ (n : ℕ). AreNumbered (map replies_of replies) n) last.shown.stands.last numbered;
+        written = subst (λ (some : List (List (Result ℕ KvError))). EachReply (IsWritten config last.acts) (map script_of scripts) some) is
+            (all_written config last.acts (map script_of scripts) (map answers_of answers) lawful told last.shown.told);
+        watched = subst (λ (some : List (List (Result ℕ KvError))). AllZip (IsWatched config last.acts (map script_of scripts) some) watches (map (λ s. map answer_of (items_of s)) ss)) is
+            (subst (λ (seen : List _). AllZip (IsWatched config last.acts (map script_of scripts) rs) watches seen) shown saw_all);
       }

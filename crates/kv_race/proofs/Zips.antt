@@ -1,9 +1,10 @@
 -- Two lists side by side.
-use Rattle.std.proofs.Common.{◌≡◌, ℕ, suc, ◌+◌, ◌<◌, ◌≤◌, List, [], ◌∷◌, ◌++◌, length, map, take, drop, length-drop, get_or, add-one, refl, sym, ap, subst, ◌∙◌, arith}
+use Rattle.std.proofs.Common.{◌≡◌, ℕ, suc, ◌+◌, ◌<◌, ◌≤◌, List, [], ◌∷◌, ◌++◌, All, length, map, take, drop, length-drop, get_or, add-one, refl, sym, ap, subst, ◌∙◌, arith}
 use Rattle.std.specs.List.{AllZip}
 use Rattle.std.specs.PromisedHandle.{KeepsEach}
 use Rattle.std.proofs.Math.Seq.{drop-cons}
 use Rattle.std.proofs.lemmas.List.{take_more}
+use Rattle.std.proofs.lemmas.List.Elements.{All-head, All-tail, All-cons}
 use Rattle.std.specs.declared.thread.PromisedHandle.{PromisedHandle}
 use Rattle.std.specs.declared.thread.Promise as Promise
 
@@ -15,6 +16,21 @@ zip_trans R S T f [] (y ∷ ys) zs h k = absurd h
 zip_trans R S T f (x ∷ xs) [] zs h k = absurd h
 zip_trans R S T f (x ∷ xs) (y ∷ ys) [] h k = absurd k
 zip_trans R S T f (x ∷ xs) (y ∷ ys) (z ∷ zs) h k = (f x y z h.0 k.0, zip_trans R S T f xs ys zs h.1 k.1)
+
+-- what fits at what belongs to the second of each pair fits at this, where that is this
+pub zip_same : {X Y A : Type 0} (R : X → Y → A → Type 0) (at : Y → A) (a : A) (xs : List X) (ys : List Y) → AllZip (λ x y. R x y (at y)) xs ys → All (λ b. b ≡ a) (map at ys) → AllZip (λ x y. R x y a) xs ys
+zip_same R at a [] [] h same = tt
+zip_same R at a [] (y ∷ ys) h same = absurd h
+zip_same R at a (x ∷ xs) [] h same = absurd h
+zip_same R at a (x ∷ xs) (y ∷ ys) h same =
+    (subst (λ (b : _). R x y b) (All-head (λ b. b ≡ a) (at y) (map at ys) same) h.0, zip_same R at a xs ys h.1 (All-tail (λ b. b ≡ a) (at y) (map at ys) same))
+
+-- what follows of the second of each pair holds of all of these
+pub zip_each : {X Y : Type 0} (R : X → Y → Type 0) (P : Y → Type 0) → ((x : X) (y : Y) → R x y → P y) → (xs : List X) (ys : List Y) → AllZip R xs ys → All P ys
+zip_each R P f [] [] h = λ k d l. absurd (omega (arith, l))
+zip_each R P f [] (y ∷ ys) h = absurd h
+zip_each R P f (x ∷ xs) [] h = absurd h
+zip_each R P f (x ∷ xs) (y ∷ ys) h = All-cons P y ys (f x y h.0) (zip_each R P f xs ys h.1)
 
 -- what fits the images fits, and the other way round
 pub zip_map_left : {X Y Z : Type 0} (R : Y → Z → Type 0) (f : X → Y) (xs : List X) (zs : List Z) → AllZip (λ x z. R (f x) z) xs zs → AllZip R (map f xs) zs

@@ -1,8 +1,7 @@
 -- What a race promises.
-use Rattle.std.specs.Prelude.{◌≡◌, ◌==◌, ℕ, Bool, false, List, [], ◌∷◌, Some, Result, Ok, Err, ⊤, filter, map}
+use Rattle.std.specs.Prelude.{◌≡◌, ◌==◌, ℕ, Bool, false, List, [], ◌∷◌, Some, Result, Ok, Err, ⊤, filter, length, map}
 use Rattle.kv_keys.specs.declared.error.KvError.{KvError}
-use Rattle.kv_model.specs.Acceptance.{IsLawful}
-use Rattle.kv_model.specs.Acts.{Act, Write}
+use Rattle.kv_model.specs.Acts.{Act, Write, writes_of}
 use Rattle.kv_model.specs.Configuration.{Configuration}
 use Rattle.kv_model.specs.Reads.{write_at_of}
 use Rattle.kv_model.specs.Requests.{Asked, key_of, op_of, value_of}
@@ -12,7 +11,9 @@ use Rattle.kv_model.specs.Given.{Item, AnEntry, EndMarker, matching, all_shown, 
 use Rattle.kv_model.specs.declared.options.Options.{Options}
 use Rattle.kv_model.specs.Answers.{Answer}
 use Rattle.kv_live.specs.Keeping.{RefusedSomewhere}
-use Rattle.std.specs.List.{AllZip}
+use Rattle.std.specs.List.{AllZip, filter_map, flat_map, range_with_len}
+use Rattle.std.specs.List.Sorted.{IsPermutation}
+use Rattle.std.specs.Result.{result_ok}
 use Rattle.kv_race.specs.Watching.{reply_to}
 
 -- what a request writes at a revision
@@ -41,17 +42,24 @@ IsWritten config acts request (Err error) = RefusedSomewhere config request erro
 abbrev pub EachReply : (Asked → Result ℕ KvError → Type 0) → List (List Asked) → List (List (Result ℕ KvError)) → Type 0
 EachReply P scripts replies = AllZip (AllZip P) scripts replies
 
--- what a watch saw, which began on the empty bucket: all that it is given by some lawful acts, among which are the writes of all replies
-pub record IsWatched (config : Configuration) (scripts : List (List Asked)) (replies : List (List (Result ℕ KvError))) (watch : List (List ℕ) × Options) (seen : List Answer) : Type 0 where
-  pub acts : List Act
-  pub lawful : IsLawful config acts
+-- the revisions that were answered, worker by worker
+abbrev pub revisions_in : List (List (Result ℕ KvError)) → List ℕ
+revisions_in replies = flat_map (filter_map result_ok) replies
+
+-- the revisions that were answered are those of so many writes: 1, 2 and so on, each once, in some order
+abbrev pub AreNumbered : List (List (Result ℕ KvError)) → ℕ → Type 0
+AreNumbered replies writes = IsPermutation (revisions_in replies) (range_with_len 1 writes)
+
+-- what a watch saw, which began on the empty bucket: all that it is given by these acts; and of each reply's write just what it shows of it
+pub record IsWatched (config : Configuration) (acts : List Act) (scripts : List (List Asked)) (replies : List (List (Result ℕ KvError))) (watch : List (List ℕ) × Options) (seen : List Answer) : Type 0 where
   pub all : seen ≡ map reply_to (given config.history [] acts watch.0 watch.1)
   pub once : EachReply (IsSeen watch.0 watch.1 (given config.history [] acts watch.0 watch.1)) scripts replies
 
--- a race: one reply for each request, one list of items for each watch, and a last version that has the writes of all replies
+-- a race: one reply for each request, one list of items for each watch, and one list of acts. The last version stands for it. Its writes are those of the replies, each once and no other, and each watch saw all that it is given by it
 pub record IsRaced (config : Configuration) (scripts : List (List Asked)) (watches : List (List (List ℕ) × Options)) (replies : List (List (Result ℕ KvError))) (seen : List (List Answer)) (version : Stored) : Type 0 where
   pub same_config : version.config ≡ config
   pub acts : List Act
   pub stands : StandsFor acts version
+  pub numbered : AreNumbered replies (length (writes_of acts))
   pub written : EachReply (IsWritten config acts) scripts replies
-  pub watched : AllZip (IsWatched config scripts replies) watches seen
+  pub watched : AllZip (IsWatched config acts scripts replies) watches seen

@@ -1,7 +1,6 @@
 -- What the threads of a race hand on.
 use Rattle.std.specs.Prelude.{◌≡◌, ℕ, List, Result, Ok, Err, IfOk, All, take}
 use Rattle.kv_keys.specs.declared.error.KvError.{KvError}
-use Rattle.kv_model.specs.Acceptance.{IsLawful}
 use Rattle.kv_model.specs.Acts.{Act, IsPrefix}
 use Rattle.kv_model.specs.Configuration.{Configuration}
 use Rattle.kv_model.specs.Requests.{Asked}
@@ -44,28 +43,23 @@ pub record HasHeard (before after : Feeding) : Type 0 where
   pub grows : IsPrefix before.reader.told after.reader.told
   pub same : after ≡ record before { reader = after.reader }
 
--- a version stands for acts that begin with those that were told, and with those that were seen
-pub record HasAll (wanted : Configuration) (heard saw : List Act) (version : Stored) : Type 0 where
-  pub config : version.config ≡ wanted
-  pub acts : List Act
-  pub stands : StandsFor acts version
-  pub told : IsPrefix heard acts
-  pub seen : IsPrefix saw acts
-
 -- the acts begin with those that all receipts tell
 abbrev pub BeginAll : List Act → List (List Answered) → Type 0
 BeginAll acts answers = All (λ some. Begin acts some) answers
 
--- a watch has ended: where all that it had handed out was written down, all that it is given by some lawful acts is now, and these begin with those that all receipts tell
-pub record IsEnded (config : Configuration) (answers : List (List Answered)) (feed : Feeding) (before seen : List Reply) : Type 0 where
-  pub acts : List Act
-  pub lawful : IsLawful config acts
-  pub told : BeginAll acts answers
-  pub all : Are before (take feed.handed (given_by config.history feed)) → Are seen (given config.history feed.began acts feed.filters feed.options)
-
 -- a version stands for acts that begin with those that all receipts tell
-pub record HasLast (config : Configuration) (answers : List (List Answered)) (version : Stored) : Type 0 where
+pub record IsShown (config : Configuration) (answers : List (List Answered)) (acts : List Act) (version : Stored) : Type 0 where
   pub same_config : version.config ≡ config
-  pub acts : List Act
   pub stands : StandsFor acts version
   pub told : BeginAll acts answers
+
+-- a watch has ended with a version: where all that it had handed out was written down, all that it is given by the version's acts is now
+pub record IsEnded (config : Configuration) (answers : List (List Answered)) (feed : Feeding) (before : List Reply) (acts : List Act) (version : Stored) (seen : List Reply) : Type 0 where
+  pub shown : IsShown config answers acts version
+  pub all : Are before (take feed.handed (given_by config.history feed)) → Are seen (given config.history feed.began acts feed.filters feed.options)
+
+-- the last version: each of these has seen its acts, and nothing else
+pub record HasLast (config : Configuration) (answers : List (List Answered)) (each : List (List Act)) (version : Stored) : Type 0 where
+  pub acts : List Act
+  pub shown : IsShown config answers acts version
+  pub same : All (λ seen. seen ≡ acts) each

@@ -1,17 +1,14 @@
 //! The end of a race, when all its threads have ended.
 
-ghost use Rattle.std.specs.Prelude.{◌≡◌, IfOk, IfErr, map, take};
-ghost use Rattle.kv_keys.specs.declared.error.KvError.TheVariants.{OutOfMemory};
+ghost use Rattle.std.specs.Prelude.{◌≡◌, IfOk, IfErr, map};
 ghost use Rattle.kv_model.specs.Acts.{IsPrefix};
-ghost use Rattle.kv_live.specs.Feeding.{given_by};
 ghost use Rattle.kv_live.specs.Known.{IsUnread};
-ghost use Rattle.kv_race.specs.Telling.{Begin, BeginAll, HasAll, HasHeard, HasLast, IsEnded};
-ghost use Rattle.kv_race.specs.Watching.{Are};
+ghost use Rattle.kv_race.specs.Telling.{Begin, BeginAll, HasHeard, IsEnded};
 
 use crate::threads::Watched;
 use crate::watcher::collect;
 use kv_keys::KvError;
-use kv_live::{Feed, LiveName, Receipt, Reply};
+use kv_live::{Feed, LiveName, Reader, Receipt, Reply};
 use kv_store::Version;
 use std::alloc::Global;
 
@@ -51,26 +48,23 @@ pub(crate) fn hear_all<N: LiveName>(feed: &mut Feed<N>, answers: &[Answers<N>])
     }
 }
 
-/// Ends a feed that has taken in all receipts: its reader's version has their writes.
-pub(crate) fn last_version<N: LiveName>(feed: Feed<N>) -> Result<Version, KvError>
-    ensures ok { IfOk result (λ version. HasAll N.opening.config feed.reader.told feed.reader.seen version) }
-    ensures err { IfErr result IsUnread }
-{
-    let (mut reader, _) = feed.stop();
-    reader.version()
+/// A watch that has ended: its reader, the version that it went on to, and all that it saw.
+#[derive(Drop)]
+pub(crate) struct Ended<N: LiveName> {
+    pub(crate) reader: Reader<N>,
+    pub(crate) last: Version,
+    pub(crate) seen: Vec<Reply>,
 }
 
 /// Ends a watch: it takes in all receipts, goes on once more, and hands out all that is left.
-#[tactic(auto, using(crate::proofs::Ended::ended, crate::proofs::Ended::last_of))]
 pub(crate) fn end_watch<N: LiveName>(
     alloc: Global,
     watched: Watched<N>,
     answers: &[Answers<N>],
-) -> Result<(Version, Vec<Reply>), KvError>
-    ensures last { IfOk result (λ ended. HasLast N.opening.config (map (λ some. some.items) answers.now) ended.0) }
-    ensures all { IfOk result
+) -> Result<Ended<N>, KvError>
+    ensures ok { IfOk result
         (λ ended. IsEnded N.opening.config (map
-        (λ some. some.items) answers.now) watched.feed watched.seen.items ended.1.items) }
+        (λ some. some.items) answers.now) watched.feed watched.seen.items ended.reader.seen ended.last ended.seen.items) }
     ensures err { IfErr result IsUnread }
 {
     let Watched { mut feed, mut seen } = watched;
@@ -78,6 +72,7 @@ pub(crate) fn end_watch<N: LiveName>(
     let _ = feed.handed();
     feed.refresh()?;
     collect(alloc, &mut feed, &mut seen)?;
-    let version = last_version(feed)?;
-    Ok((version, seen))
+    let last = feed.version()?;
+    let (reader, _) = feed.stop();
+    Ok(Ended { reader, last, seen })
 }

@@ -1,11 +1,14 @@
 //! A race: many threads write to one bucket while others watch it, and what each of them saw is told.
 #![tactic(auto)]
 
+mod agreeing;
 mod desk;
 mod ending;
 mod feeding;
 mod gate;
 pub mod laws;
+mod numbers;
+mod opening;
 mod racing;
 mod replies;
 mod report;
@@ -16,5 +19,3 @@ mod worker;
 pub use gate::{Gate, NoGate, Who};
 pub use racing::race;
 pub use report::Report;
-pub use watcher::{Follows, collect, follow};
-pub use worker::{Writes, work};

@@ -1,36 +1,31 @@
 //! Races.
 
-ghost use Rattle.std.specs.Prelude.{◌≡◌, Ok, IfOk, IfErr, IfSome, length, map};
+ghost use Rattle.std.specs.Prelude.{◌≡◌, Ok, All, IfOk, IfErr, length, map};
 ghost use Rattle.kv_keys.specs.Outcome.{Refuses};
 ghost use Rattle.kv_keys.specs.declared.error.KvError.TheVariants.{OutOfMemory};
 ghost use Rattle.kv_model.specs.Requests.{asked};
 ghost use Rattle.kv_bucket.specs.Replies.{answer_of};
 ghost use Rattle.kv_live.specs.Known.{IsUnread};
-ghost use Rattle.kv_race.specs.Openings.{may_race, IsFresh, RefusesRace};
+ghost use Rattle.kv_race.specs.Openings.{may_race, RefusesRace};
 ghost use Rattle.std.specs.List.{AllZip};
-ghost use Rattle.kv_race.specs.Racing.{IsRaced};
-ghost use Rattle.kv_race.specs.Telling.{HasLast, IsEnded};
+ghost use Rattle.kv_race.specs.Racing.{AreNumbered, IsRaced};
+ghost use Rattle.kv_race.specs.Telling.{HasLast, IsEnded, IsShown, reply_of};
 
-use crate::ending::{Answers, end_watch, hear_all, last_version};
+use crate::agreeing::last_of;
+use crate::ending::{Answers, Ended, end_watch};
 use crate::gate::Gate;
+use crate::numbers::check_numbers;
+use crate::opening::open_feeds;
 use crate::replies::all_replies;
 use crate::report::Report;
 use crate::threads::{Watched, Worked, run_all};
 use kv_keys::{Filters, KvError};
-use kv_live::{Feed, Live, LiveName, Opened, Reader, Reply};
-use kv_model::{Config, Options, Request, Start};
-use kv_store::Version;
+use kv_live::{Live, LiveName, Opened, Reader, Reply};
+use kv_model::{Config, Options, Request};
 use std::alloc::Global;
 use std::marker::Brand;
 use std::sync::Wait;
 use std::thread::Threads;
-
-/// How a reader that nobody watches by is shown the last version.
-const LATEST: Options = Options {
-    start: Start::Latest,
-    ignore_deletes: false,
-    headers_only: false,
-};
 
 /// The most workers of a race.
 const MOST_WORKERS: usize = 16;
@@ -53,40 +48,6 @@ fn open_for(
     Live::open(alloc, config, watches.max(1))
 }
 
-fn open_feed<N: LiveName>(
-    reader: Reader<N>,
-    filters: &Filters,
-    options: Options,
-) -> Result<Feed<N>, KvError>
-    ensures ok { IfOk result (λ feed. IsFresh (filters.now, options) feed) }
-    ensures err { IfErr result (λ e. e ≡ OutOfMemory) }
-{
-    match reader.watch_from_empty(filters, options) {
-        Ok(feed) => Ok(feed),
-        Err((_, refusal)) => Err(refusal),
-    }
-}
-
-// A feed for each watch, and a reader that is left.
-fn open_feeds<N: LiveName>(
-    alloc: Global,
-    mut readers: Vec<Reader<N>>,
-    watches: &[(Filters, Options)],
-) -> Result<(Vec<Feed<N>>, Option<Reader<N>>), KvError>
-    ensures ok { IfOk result (λ opened. AllZip IsFresh watches.now opened.0.items) }
-    ensures err { IfErr result IsUnread }
-{
-    let mut feeds = Vec::new(alloc);
-    for n in 0..watches.len() {
-        let Some(reader) = readers.pop() else {
-            return Err(KvError::NoReader);
-        };
-        let (filters, options) = &watches[n];
-        feeds.push(open_feed(reader, filters, *options)?)?;
-    }
-    Ok((feeds, readers.pop()))
-}
-
 // The answers of all workers, unless memory ran out in one of them.
 fn all_answers<N: LiveName>(
     alloc: Global,
@@ -105,63 +66,66 @@ fn all_answers<N: LiveName>(
     Ok(all)
 }
 
-// Ends all watches, and keeps the version that the last of them shows.
+// Ends all watches.
 fn end_watches<N: LiveName>(
     alloc: Global,
     watched: Vec<Watched<N>>,
     answers: &[Answers<N>],
-) -> Result<(Vec<Vec<Reply>>, Option<Version>), KvError>
-    ensures all { IfOk result
+) -> Result<Vec<Ended<N>>, KvError>
+    ensures ok { IfOk result
         (λ ended. AllZip
-        (λ one seen. IsEnded N.opening.config (map
-        (λ some. some.items) answers.now) one.feed one.seen.items seen.items) watched.items ended.0.items) }
-    ensures last { IfOk result
-        (λ ended. IfSome ended.1 (HasLast N.opening.config (map (λ some. some.items) answers.now))) }
+        (λ one end. IsEnded N.opening.config (map
+        (λ some. some.items) answers.now) one.feed one.seen.items end.reader.seen end.last end.seen.items) watched.items ended.items) }
     ensures err { IfErr result IsUnread }
 {
-    let mut last = None;
     let mut all = Vec::new(alloc);
     for one in watched {
-        let (version, seen) = end_watch(alloc, one, answers)?;
-        all.push(seen)?;
-        last = Some(version);
+        all.push(end_watch(alloc, one, answers)?)?;
     }
-    Ok((all, last))
+    Ok(all)
 }
 
-// The version that a reader shows once it has taken in all receipts.
-fn version_of<N: LiveName>(
-    alloc: Global,
-    reader: Option<Reader<N>>,
-    answers: &[Answers<N>],
-) -> Result<Version, KvError>
-    ensures ok { IfOk result (HasLast N.opening.config (map (λ some. some.items) answers.now)) }
-    ensures err { IfErr result IsUnread }
+// What the watches saw.
+fn all_seen<N: LiveName>(alloc: Global, ended: Vec<Ended<N>>) -> Result<Vec<Vec<Reply>>, KvError>
+    ensures ok { IfOk result
+        (λ all. map (λ seen. seen.items) all.items ≡ map (λ end. end.seen.items) ended.items) }
+    ensures err { IfErr result (λ e. e ≡ OutOfMemory) }
 {
-    let Some(reader) = reader else {
-        return Err(KvError::NoReader);
-    };
-    let filters = Filters::parse(alloc, ">")?;
-    let mut feed = open_feed(reader, &filters, LATEST)?;
-    hear_all(&mut feed, answers);
-    last_version(feed)
+    let mut all = Vec::new(alloc);
+    for end in ended {
+        all.push(end.seen)?;
+    }
+    Ok(all)
 }
 
-// The version that the watches show, or that the reader shows where there are none.
-fn last_of<N: LiveName>(
+// What a race comes to. What can be compared is compared: the numbers of the replies, and what the watches saw.
+fn report_of<N: LiveName>(
     alloc: Global,
-    shown: Option<Version>,
+    answers: &[Answers<N>],
+    ended: Vec<Ended<N>>,
     spare: Option<Reader<N>>,
-    answers: &[Answers<N>],
-) -> Result<Version, KvError>
-    ensures ok { IfSome shown (HasLast N.opening.config (map (λ some. some.items) answers.now)) →
-        IfOk result (HasLast N.opening.config (map (λ some. some.items) answers.now)) }
+) -> Result<Report, KvError>
+    requires { All (λ end. IsShown N.opening.config (map (λ some. some.items) answers.now) end.reader.seen end.last) ended.items }
+    ensures last { IfOk result
+        (λ report. HasLast N.opening.config (map
+        (λ some. some.items) answers.now) (map (λ end. end.reader.seen) ended.items) report.last) }
+    ensures numbered { IfOk result
+        (λ report. AreNumbered (map (λ some. some.items) report.replies.items) report.last.last) }
+    ensures replies { IfOk result
+        (λ report. map (λ some. some.items) report.replies.items ≡ map (λ some. map reply_of some.items) answers.now) }
+    ensures seen { IfOk result
+        (λ report. map (λ seen. seen.items) report.seen.items ≡ map (λ end. end.seen.items) ended.items) }
     ensures err { IfErr result IsUnread }
 {
-    match shown {
-        Some(version) => Ok(version),
-        None => version_of(alloc, spare, answers),
-    }
+    let last = last_of(alloc, &ended, spare, answers)?;
+    let replies = all_replies(alloc, answers)?;
+    check_numbers(alloc, &replies, last.revision())?;
+    let seen = all_seen(alloc, ended)?;
+    Ok(Report {
+        replies,
+        seen,
+        last,
+    })
 }
 
 // Runs a race on a bucket that was opened for it.
@@ -183,14 +147,9 @@ fn run<N: LiveName + Send + Sync, R: Threads + Wait + Sync, G: Gate>(
     let (feeds, spare) = open_feeds(alloc, readers, watches)?;
     let (worked, watched) = run_all(rt, alloc, live, scripts, feeds, gate)?;
     let answers = all_answers(alloc, worked)?;
-    let (seen, shown) = end_watches(alloc, watched, &answers)?;
-    let last = last_of(alloc, shown, spare, &answers)?;
-    let replies = all_replies(alloc, &answers)?;
-    Ok(Report {
-        replies,
-        seen,
-        last,
-    })
+    let ended = end_watches(alloc, watched, &answers)?;
+    let report = report_of(alloc, &answers, ended, spare)?;
+    Ok(report)
 }
 
 // Names the opening, and ends the bucket whatever comes of the race.

@@ -14,7 +14,7 @@ use std::alloc::Global;
 const ROUNDS: u64 = 64;
 
 /// What a watcher follows. No call of it is handed anything to wait with.
-pub trait Follows {
+pub(crate) trait Follows {
     /// What it watches.
     ghost watch: { Self → Watch };
 
@@ -43,7 +43,7 @@ pub trait Follows {
 }
 
 /// Writes down all that is left to be handed out.
-pub fn collect<F: Follows>(
+pub(crate) fn collect<F: Follows>(
     alloc: Global,
     feed: &mut F,
     seen: &mut Vec<Reply>,
@@ -74,7 +74,7 @@ fn look<F: Follows>(alloc: Global, feed: &mut F, seen: &mut Vec<Reply>)
 }
 
 /// Follows for 64 rounds, with the gate before and after each: goes on, and writes down all that is handed out.
-pub fn follow<F: Follows, G: Gate>(
+pub(crate) fn follow<F: Follows, G: Gate>(
     alloc: Global,
     feed: &mut F,
     watcher: usize,

@@ -12,7 +12,7 @@ use kv_model::Request;
 use std::alloc::Global;
 
 /// What a worker writes to.
-pub trait Writes {
+pub(crate) trait Writes {
     /// What tells of a write.
     type Receipt: Drop;
 
@@ -27,7 +27,7 @@ pub trait Writes {
 #[tactic(auto, using(crate::proofs::Writing::works_next))]
 /// Writes all that is asked for, in order, each request once, with the gate before and after each. A refused write is
 /// an answer as others are. Only want of memory for the list of the answers is refused, before anything is written.
-pub fn work<W: Writes, G: Gate>(
+pub(crate) fn work<W: Writes, G: Gate>(
     alloc: Global,
     desk: &mut W,
     worker: usize,

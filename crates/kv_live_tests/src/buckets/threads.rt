@@ -18,6 +18,7 @@ use std::thread::{Threads, join};
 mod feeds;
 mod lock;
 mod opening;
+mod places;
 mod told;
 
 // What is run on an opening of the bucket `kv`.
@@ -29,6 +30,8 @@ enum Row {
     Lock(lock::Row),
     Feeds(feeds::Row),
     Told(told::Row),
+    Places,
+    LeftBehind,
 }
 
 impl Row {
@@ -98,6 +101,8 @@ fn run_over<N: LiveName + Send + Sync, R: Threads + Wait + Abort + Sync>(
         Row::Lock(row) => lock::run_row(rt, alloc, live, row),
         Row::Feeds(row) => feeds::run_row(rt, alloc, live, readers, row),
         Row::Told(row) => told::run_row(rt, alloc, live, readers, row),
+        Row::Places => places::freed(rt, alloc, live, readers),
+        Row::LeftBehind => places::left_behind(rt, alloc, live, readers),
     }
 }
 

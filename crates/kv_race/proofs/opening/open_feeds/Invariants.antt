@@ -1,7 +1,7 @@
 use Rattle.std.proofs.Common.{take}
 use Rattle.std.specs.List.{AllZip}
 use Rattle.kv_race.specs.Openings.{IsFresh}
-use Rattle.kv_race.proofs.racing.open_feeds.Given as goal
+use Rattle.kv_race.proofs.opening.open_feeds.Given as goal
 
 -- the watches so far have begun
 abbrev pub invariant-loop-n : goal.invariant-loop-n

@@ -3,7 +3,7 @@ use Rattle.std.specs.List.{AllZip}
 use Rattle.kv_live.specs.Feeding.{Feeding}
 use Rattle.kv_race.specs.Openings.{IsFresh}
 use Rattle.kv_race.proofs.Zips.{zip_more}
-use Rattle.kv_race.proofs.racing.open_feeds.Goals as goal
+use Rattle.kv_race.proofs.opening.open_feeds.Goals as goal
 
 pub loop-n-preserved : goal.loop-n-preserved
 loop-n-preserved g c =

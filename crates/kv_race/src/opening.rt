@@ -1,0 +1,47 @@
+//! How the watches of a race begin.
+
+ghost use Rattle.std.specs.Prelude.{◌≡◌, IfOk, IfErr};
+ghost use Rattle.kv_keys.specs.declared.error.KvError.TheVariants.{OutOfMemory};
+ghost use Rattle.std.specs.List.{AllZip};
+ghost use Rattle.kv_live.specs.Known.{IsUnread};
+ghost use Rattle.kv_race.specs.Openings.{IsFresh};
+
+use kv_keys::{Filters, KvError};
+use kv_live::{Feed, LiveName, Reader};
+use kv_model::Options;
+use std::alloc::Global;
+
+/// A feed that begins on the empty bucket.
+pub(crate) fn open_feed<N: LiveName>(
+    reader: Reader<N>,
+    filters: &Filters,
+    options: Options,
+) -> Result<Feed<N>, KvError>
+    ensures ok { IfOk result (λ feed. IsFresh (filters.now, options) feed) }
+    ensures err { IfErr result (λ e. e ≡ OutOfMemory) }
+{
+    match reader.watch_from_empty(filters, options) {
+        Ok(feed) => Ok(feed),
+        Err((_, refusal)) => Err(refusal),
+    }
+}
+
+/// A feed for each watch, and a reader that is left.
+pub(crate) fn open_feeds<N: LiveName>(
+    alloc: Global,
+    mut readers: Vec<Reader<N>>,
+    watches: &[(Filters, Options)],
+) -> Result<(Vec<Feed<N>>, Option<Reader<N>>), KvError>
+    ensures ok { IfOk result (λ opened. AllZip IsFresh watches.now opened.0.items) }
+    ensures err { IfErr result IsUnread }
+{
+    let mut feeds = Vec::new(alloc);
+    for n in 0..watches.len() {
+        let Some(reader) = readers.pop() else {
+            return Err(KvError::NoReader);
+        };
+        let (filters, options) = &watches[n];
+        feeds.push(open_feed(reader, filters, *options)?)?;
+    }
+    Ok((feeds, readers.pop()))
+}
