@@ -106,11 +106,11 @@ static void entry(const uint8_t *name, size_t name_size, const char *op, uint64_
     putchar('}');
 }
 
-static void wrote(uint64_t code, uint64_t revision) {
+static void wrote(uint64_t code, const uint64_t *revision) {
     if (code)
-        refused(code, revision);
+        refused(code, *revision);
     else
-        printf("{\"revision\":%llu}\n", (unsigned long long)revision);
+        printf("{\"revision\":%llu}\n", (unsigned long long)*revision);
 }
 
 static void got(uint64_t code, text name, size_t size, uint64_t revision) {
@@ -234,11 +234,11 @@ static bool done(text *w, size_t count) {
     uint64_t n = 0, most = 0, revision = 0;
     size_t size;
     if (count == 3 && (is(w[0], "put") || is(w[0], "create")) && decoded(w[2], &size))
-        wrote((is(w[0], "put") ? kv_put : kv_create)(&bucket, w[1].at, w[1].size, value, size, &revision), revision);
+        wrote((is(w[0], "put") ? kv_put : kv_create)(&bucket, w[1].at, w[1].size, value, size, &revision), &revision);
     else if (count == 4 && is(w[0], "update") && number(w[2], &n) && decoded(w[3], &size))
-        wrote(kv_update(&bucket, w[1].at, w[1].size, value, size, n, &revision), revision);
+        wrote(kv_update(&bucket, w[1].at, w[1].size, value, size, n, &revision), &revision);
     else if ((count == 2 || (count == 3 && number(w[2], &n))) && (is(w[0], "delete") || is(w[0], "purge")))
-        wrote((is(w[0], "delete") ? kv_delete : kv_purge)(&bucket, w[1].at, w[1].size, count == 3, n, &revision), revision);
+        wrote((is(w[0], "delete") ? kv_delete : kv_purge)(&bucket, w[1].at, w[1].size, count == 3, n, &revision), &revision);
     else if (count == 2 && is(w[0], "get"))
         n = kv_get(&bucket, w[1].at, w[1].size, shown, sizeof shown, &size, &revision), got(n, w[1], size, revision);
     else if (count == 3 && is(w[0], "get") && number(w[2], &n))

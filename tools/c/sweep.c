@@ -75,7 +75,7 @@ static void session(void) {
         WANT(revision == i);
     }
     TRY(kv_keys(&b, B("app.>"), keys, sizeof keys, &size, &count));
-    WANT(count == 18);
+    WANT(count == 17);
     TRY(kv_snapshot(&b, &view));
     TRY(kv_feed_open(&view, B("db.*"), &latest, &feed));
     TRY(kv_purge(&b, B("app.k1"), false, 0, &revision));
