@@ -33,7 +33,8 @@ enum {
     KV_CLOSED = 32,
     KV_TOO_LITTLE_ROOM = 33,
     KV_OPEN_ALREADY = 34,
-    KV_NO_SUCH_START = 35
+    KV_NO_SUCH_START = 35,
+    KV_OLDER_VIEW = 36
 };
 
 /* What a take hands out: nothing is left, the end marker, an entry. */
@@ -54,6 +55,12 @@ typedef struct kv_view {
     bool is_open;
     void *at;
 } kv_view;
+
+/* A watch over views, which may be on another thread than the bucket. */
+typedef struct kv_feed {
+    bool is_open;
+    void *at;
+} kv_feed;
 
 typedef struct kv_limits {
     uint64_t history;        /* 1 to 64 entries of each key are kept */
@@ -111,10 +118,15 @@ uint64_t kv_history(kv_bucket *bucket, const uint8_t *key, size_t key_size, size
                     size_t room_size, kv_item *item, size_t *count);
 uint64_t kv_get_status(kv_bucket *bucket, kv_status *status);
 
+/* The keys that a filter matches and that have a value, in the order of their last puts, each with a zero byte behind
+ * it. *count tells how many they are, and *size how many bytes, also where there is too little room. */
+uint64_t kv_keys(kv_bucket *bucket, const uint8_t *filter, size_t filter_size, uint8_t *room, size_t room_size,
+                 size_t *size, size_t *count);
+
 /* The filters stand with a comma between two. */
 uint64_t kv_watch(kv_bucket *bucket, const uint8_t *filters, size_t filters_size, const kv_options *options,
                   uint64_t *number);
-/* Where there is too little room, nothing moves. A key has at most 255 bytes. */
+/* Where there is too little room, nothing moves and nothing is copied. A key has at most 255 bytes. */
 uint64_t kv_take(kv_bucket *bucket, uint64_t number, uint8_t *keys, size_t keys_size, uint8_t *values,
                  size_t values_size, kv_item *item);
 uint64_t kv_stop(kv_bucket *bucket, uint64_t number, uint64_t *handed);
@@ -122,7 +134,24 @@ uint64_t kv_stop(kv_bucket *bucket, uint64_t number, uint64_t *handed);
 uint64_t kv_snapshot(kv_bucket *bucket, kv_view *view);
 uint64_t kv_view_get(kv_view *view, const uint8_t *key, size_t key_size, uint8_t *room, size_t room_size, size_t *size,
                      uint64_t *revision);
+uint64_t kv_view_get_at(kv_view *view, const uint8_t *key, size_t key_size, uint64_t at, uint8_t *room,
+                        size_t room_size, size_t *size, uint64_t *revision);
+uint64_t kv_view_history(kv_view *view, const uint8_t *key, size_t key_size, size_t index, uint8_t *room,
+                         size_t room_size, kv_item *item, size_t *count);
+uint64_t kv_view_keys(kv_view *view, const uint8_t *filter, size_t filter_size, uint8_t *room, size_t room_size,
+                      size_t *size, size_t *count);
+/* A view has no watches. */
+uint64_t kv_view_get_status(kv_view *view, kv_status *status);
 void kv_view_close(kv_view *view);
+
+/* A feed is handed what a watch would be that was opened at the moment of its first view, and then each later matching
+ * write up to the view that it has gone on to: a later view of the same bucket, which is read during the call alone. */
+uint64_t kv_feed_open(kv_view *view, const uint8_t *filters, size_t filters_size, const kv_options *options,
+                      kv_feed *feed);
+uint64_t kv_feed_refresh(kv_feed *feed, kv_view *view);
+uint64_t kv_feed_take(kv_feed *feed, uint8_t *keys, size_t keys_size, uint8_t *values, size_t values_size,
+                      kv_item *item);
+void kv_feed_close(kv_feed *feed);
 
 #ifdef __cplusplus
 }

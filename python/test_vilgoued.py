@@ -87,8 +87,13 @@ class Writes(unittest.TestCase):
             self.bucket[key] = b"1"
         self.bucket.delete("c")
         self.assertEqual(self.bucket.keys(), ["a.x", "b"])
-        self.assertEqual(self.bucket.keys("a.*,c"), ["a.x"])
-        self.assertEqual(self.bucket.status().watches, 0)
+        self.assertEqual(self.bucket.keys("a.>"), ["a.x"])
+        self.assertEqual(self.bucket.keys("d"), [])
+        for number in range(1000):
+            self.bucket[f"many.{number}"] = b""
+        self.assertEqual(self.bucket.keys("many.*"), [f"many.{number}" for number in range(1000)])
+        with self.assertRaises(vilgoued.BadFilter):
+            self.bucket.keys("a..b")
 
     def test_status(self):
         self.bucket["a"] = b"1"
@@ -187,6 +192,42 @@ class Snapshots(unittest.TestCase):
                 self.assertIsNone(view.get("b"))
             with self.assertRaises(vilgoued.Closed):
                 view.get("a")
+
+    def test_reads(self):
+        with Bucket("settings", history=2) as bucket:
+            for value in (b"1", b"2"):
+                bucket["a.x"] = value
+            with bucket.snapshot() as view:
+                bucket.purge("a.x")
+                bucket["b"] = b"3"
+                self.assertEqual(view.get("a.x", at=1), (b"1", 1))
+                self.assertEqual([entry.revision for entry in view.history("a.x")], [1, 2])
+                self.assertEqual(view.keys("a.>"), ["a.x"])
+                self.assertEqual(view.status(), (2, 2, 2, 2, 0, False))
+                self.assertIn("a.x", view)
+                self.assertNotIn("b", view)
+                with view.snapshot() as same:
+                    self.assertEqual(same["a.x"], b"2")
+
+    def test_feed(self):
+        with Bucket("settings", history=2) as bucket:
+            for value in (b"1", b"2"):
+                bucket["a"] = value
+            with bucket.snapshot() as view:
+                feed = view.watch("a", history=True)
+                bucket["b"] = b"3"
+                del bucket["a"]
+                self.assertEqual([entry.marker or entry.revision for entry in feed], [1, 2, True])
+                with bucket.snapshot() as later:
+                    feed.refresh(later)
+                with self.assertRaises(vilgoued.OlderView):
+                    feed.refresh(view)
+                self.assertEqual(list(feed), [Entry("a", "DEL", 4, 0, None)])
+                with self.assertRaises(vilgoued.BadFilter):
+                    view.watch("")
+            feed.close()
+            with self.assertRaises(vilgoued.Closed):
+                next(feed)
 
     def test_on_other_threads(self):
         lock = threading.Lock()

@@ -9,13 +9,14 @@
 
 It needs this file and libvilgoued.so, beside it or where VILGOUED_LIBRARY names it.
 
-A bucket is used by one thread at a time; a snapshot may be read on another thread than the bucket's.
+A bucket is used by one thread at a time; a snapshot may be read, and a feed followed, on another thread than the
+bucket's.
 """
 import ctypes
 import os
 from collections import namedtuple
 
-__all__ = ["Bucket", "Snapshot", "Watch", "Entry", "Value", "Status", "KvError"]
+__all__ = ["Bucket", "Snapshot", "Watch", "Feed", "Entry", "Value", "Status", "MARKER", "KvError"]
 
 
 class KvError(Exception):
@@ -52,6 +53,7 @@ _REFUSALS = {
         (33, "TooLittleRoom"),
         (34, "OpenAlready"),
         (35, "NoSuchStart"),
+        (36, "OlderView"),
     )
 }
 
@@ -122,6 +124,14 @@ def _load():
     handle, size, number = ctypes.POINTER(_Handle), ctypes.c_size_t, ctypes.c_uint64
     out, sized = ctypes.POINTER(ctypes.c_uint64), ctypes.POINTER(ctypes.c_size_t)
     text, flag = [ctypes.c_char_p, size], ctypes.c_bool
+    value, item, options = [*text, sized, out], ctypes.POINTER(_Item), ctypes.POINTER(_Options)
+    reads = {
+        "get": [handle, *text, *value],
+        "get_at": [handle, *text, number, *value],
+        "history": [handle, *text, size, *text, item, sized],
+        "keys": [handle, *text, *text, sized, sized],
+        "get_status": [handle, ctypes.POINTER(_Status)],
+    }
     for name, arguments in {
         "kv_open": [handle, *text, ctypes.POINTER(_Limits)],
         "kv_put": [handle, *text, *text, out],
@@ -130,19 +140,19 @@ def _load():
         "kv_delete": [handle, *text, flag, number, out],
         "kv_purge": [handle, *text, flag, number, out],
         "kv_seal": [handle],
-        "kv_get": [handle, *text, *text, sized, out],
-        "kv_get_at": [handle, *text, number, *text, sized, out],
-        "kv_history": [handle, *text, size, *text, ctypes.POINTER(_Item), sized],
-        "kv_get_status": [handle, ctypes.POINTER(_Status)],
-        "kv_watch": [handle, *text, ctypes.POINTER(_Options), out],
-        "kv_take": [handle, number, *text, *text, ctypes.POINTER(_Item)],
+        "kv_watch": [handle, *text, options, out],
+        "kv_take": [handle, number, *text, *text, item],
         "kv_stop": [handle, number, out],
         "kv_snapshot": [handle, handle],
-        "kv_view_get": [handle, *text, *text, sized, out],
+        "kv_feed_open": [handle, *text, options, handle],
+        "kv_feed_refresh": [handle, handle],
+        "kv_feed_take": [handle, *text, *text, item],
+        **{"kv_" + name: arguments for name, arguments in reads.items()},
+        **{"kv_view_" + name: arguments for name, arguments in reads.items()},
     }.items():
         function = getattr(library, name)
         function.argtypes, function.restype = arguments, number
-    for name in ("kv_close", "kv_view_close"):
+    for name in ("kv_close", "kv_view_close", "kv_feed_close"):
         function = getattr(library, name)
         function.argtypes, function.restype = [handle], None
     return library
@@ -160,6 +170,13 @@ def _u64(number):
     if not 0 <= number < 1 << 64:
         raise OverflowError(f"{number} is not a number of 64 bits")
     return number
+
+
+def _options(history, updates, since, ignore_deletes, headers_only):
+    if history + updates + (since is not None) > 1:
+        raise _REFUSALS[6]("two of history, updates and since")
+    start = 1 if history else 2 if updates else 3 if since is not None else 0
+    return _Options(start, _u64(since or 0), ignore_deletes, headers_only)
 
 
 class _Held:
@@ -181,16 +198,32 @@ class _Held:
                 refusal.args = (f"the key's last revision is {refusal.last}",)
             raise refusal
 
-    def _read(self, function, *arguments):
+    def _sized(self, function, arguments, *told):
+        """A read that tells how much room it needs."""
         try:
-            self._ask(
-                function, *arguments, self._values, len(self._values),
-                ctypes.byref(self._size), ctypes.byref(self._revision),
-            )
+            self._ask(function, *arguments, self._values, len(self._values), ctypes.byref(self._size), *told)
         except _REFUSALS[33]:
             self._values = ctypes.create_string_buffer(self._size.value)
-            return self._read(function, *arguments)
-        return Value(ctypes.string_at(self._values, self._size.value), self._revision.value)
+            return self._sized(function, arguments, *told)
+        return ctypes.string_at(self._values, self._size.value)
+
+    def _item(self, function, *arguments):
+        """The next item of a watch or a feed; None where nothing is left."""
+        item, key = _Item(), ctypes.create_string_buffer(255)
+        try:
+            self._ask(function, *arguments, key, len(key), self._values, len(self._values), ctypes.byref(item))
+        except _REFUSALS[33]:
+            self._values = ctypes.create_string_buffer(1_048_576)
+            return self._item(function, *arguments)
+        if item.kind == 0:
+            return None
+        if item.kind == 1:
+            return MARKER
+        return self._entry(item, ctypes.string_at(key, item.key_size).decode())
+
+    def _entry(self, item, key):
+        value = ctypes.string_at(self._values, item.value_size) if item.has_value else None
+        return Entry(key, _OPS[item.op], item.revision, item.size, value)
 
     def close(self):
         """Frees what is held. What is closed stays so."""
@@ -207,14 +240,77 @@ class _Held:
             self.close()
 
 
-class Bucket(_Held):
+class _Reader(_Held):
+    """What can be read of a bucket, and of a snapshot of one."""
+
+    def __init__(self, prefix):
+        super().__init__(getattr(_lib, prefix + "close"))
+        for name in ("get", "get_at", "history", "keys", "get_status"):
+            setattr(self, "_kv_" + name, getattr(_lib, prefix + name))
+
+    def _read(self, function, *arguments):
+        value = self._sized(function, arguments, ctypes.byref(self._revision))
+        return Value(value, self._revision.value)
+
+    def get(self, key, default=None, *, at=None):
+        """The value of the key with its revision, or `default`; with `at`, the put of that revision, if retained."""
+        try:
+            if at is None:
+                return self._read(self._kv_get, *_text(key))
+            return self._read(self._kv_get_at, *_text(key), _u64(at))
+        except _REFUSALS[12]:
+            return default
+
+    def __getitem__(self, key):
+        try:
+            return self._read(self._kv_get, *_text(key)).value
+        except _REFUSALS[12]:
+            raise KeyError(key) from None
+
+    def __contains__(self, key):
+        return self.get(key) is not None
+
+    def history(self, key):
+        """The retained entries of the key, oldest first; none where it was never written."""
+        item, entries, name = _Item(), [], _text(key)
+        while True:
+            try:
+                self._ask(
+                    self._kv_history, *name, len(entries), self._values, len(self._values),
+                    ctypes.byref(item), ctypes.byref(self._size),
+                )
+            except _REFUSALS[12]:
+                return entries
+            except _REFUSALS[33]:
+                self._values = ctypes.create_string_buffer(1_048_576)
+                continue
+            if item.kind == 0:
+                return entries
+            entries.append(self._entry(item, name[0].decode()))
+
+    def keys(self, filter=">"):
+        """The keys that match and have a value, in the order of their last puts."""
+        names = self._sized(self._kv_keys, _text(filter), ctypes.byref(ctypes.c_size_t()))
+        return names.decode().split("\0")[:-1]
+
+    def status(self):
+        """The numbers of the bucket; those of a snapshot have no watches."""
+        status = _Status()
+        self._ask(self._kv_get_status, ctypes.byref(status))
+        return Status(*(getattr(status, name) for name in Status._fields))
+
+    def snapshot(self):
+        """What the bucket has accepted by now. It may be read on another thread than the bucket's."""
+        return Snapshot(self)
+
+
+class Bucket(_Reader):
     """A bucket of this name, with no writes."""
 
     def __init__(
         self, name, history=1, *, value_limit=1_048_576, write_limit=1_000_000, revision_limit=4_294_967_295
     ):
-        super().__init__(_lib.kv_close)
-        self._keys = ctypes.create_string_buffer(255)
+        super().__init__("kv_")
         limits = _Limits(_u64(history), _u64(value_limit), _u64(write_limit), _u64(revision_limit))
         self._ask(_lib.kv_open, *_text(name), ctypes.byref(limits))
 
@@ -246,110 +342,42 @@ class Bucket(_Held):
         """Ends the writes."""
         self._ask(_lib.kv_seal)
 
-    def get(self, key, default=None, *, at=None):
-        """The value of the key with its revision, or `default`; with `at`, the put of that revision, if retained."""
-        try:
-            if at is None:
-                return self._read(_lib.kv_get, *_text(key))
-            return self._read(_lib.kv_get_at, *_text(key), _u64(at))
-        except _REFUSALS[12]:
-            return default
-
-    def __getitem__(self, key):
-        try:
-            return self._read(_lib.kv_get, *_text(key)).value
-        except _REFUSALS[12]:
-            raise KeyError(key) from None
-
     def __setitem__(self, key, value):
         self.put(key, value)
 
     def __delitem__(self, key):
         self.delete(key)
 
-    def __contains__(self, key):
-        return self.get(key) is not None
-
-    def history(self, key):
-        """The retained entries of the key, oldest first; none where it was never written."""
-        item, entries, name = _Item(), [], _text(key)
-        while True:
-            try:
-                self._ask(
-                    _lib.kv_history, *name, len(entries), self._values, len(self._values),
-                    ctypes.byref(item), ctypes.byref(self._size),
-                )
-            except _REFUSALS[12]:
-                return entries
-            except _REFUSALS[33]:
-                self._values = ctypes.create_string_buffer(1_048_576)
-                continue
-            if item.kind == 0:
-                return entries
-            value = ctypes.string_at(self._values, item.value_size) if item.has_value else None
-            entries.append(Entry(name[0].decode(), _OPS[item.op], item.revision, item.size, value))
-
-    def keys(self, filters=">"):
-        """The keys that match and have a value, in the order of their last puts."""
-        watch = self.watch(filters, ignore_deletes=True, headers_only=True)
-        try:
-            return [entry.key for entry in watch if not entry.marker]
-        finally:
-            watch.stop()
-
-    def status(self):
-        """The numbers of the bucket."""
-        status = _Status()
-        self._ask(_lib.kv_get_status, ctypes.byref(status))
-        return Status(*(getattr(status, name) for name in Status._fields))
-
     def watch(self, filters, *, history=False, updates=False, since=None, ignore_deletes=False, headers_only=False):
         """A watch of the keys that a filter matches, or one of several filters with a comma between two."""
-        if history + updates + (since is not None) > 1:
-            raise _REFUSALS[6]("two of history, updates and since")
-        start = 1 if history else 2 if updates else 3 if since is not None else 0
-        options = _Options(start, _u64(since or 0), ignore_deletes, headers_only)
+        options = _options(history, updates, since, ignore_deletes, headers_only)
         number = ctypes.c_uint64()
         self._ask(_lib.kv_watch, *_text(filters), ctypes.byref(options), ctypes.byref(number))
         return Watch(self, number.value)
 
-    def _take(self, number):
-        item = _Item()
-        try:
-            self._ask(
-                _lib.kv_take, number, self._keys, len(self._keys), self._values, len(self._values), ctypes.byref(item)
-            )
-        except _REFUSALS[33]:
-            self._values = ctypes.create_string_buffer(1_048_576)
-            return self._take(number)
-        if item.kind == 0:
-            return None
-        if item.kind == 1:
-            return MARKER
-        value = ctypes.string_at(self._values, item.value_size) if item.has_value else None
-        key = ctypes.string_at(self._keys, item.key_size).decode()
-        return Entry(key, _OPS[item.op], item.revision, item.size, value)
 
-    def snapshot(self):
-        """What the bucket has accepted by now. It may be read on another thread than the bucket's."""
-        return Snapshot(self)
-
-
-class Watch:
-    """A watch: an iterator over what it is handed now; it ends where nothing is left, and goes on after more writes."""
-
-    def __init__(self, bucket, number):
-        self._bucket = bucket
-        self.number = number
+class _Items:
+    """An iterator over what is handed out now; it ends where nothing is left, and goes on when there is more."""
 
     def __iter__(self):
         return self
 
     def __next__(self):
-        item = self._bucket._take(self.number)
+        item = self._take()
         if item is None:
             raise StopIteration
         return item
+
+
+class Watch(_Items):
+    """A watch of a bucket."""
+
+    def __init__(self, bucket, number):
+        self._bucket = bucket
+        self.number = number
+
+    def _take(self):
+        return self._bucket._item(_lib.kv_take, self.number)
 
     def stop(self):
         """Ends the watch, and answers how many items it was handed, the end marker counted."""
@@ -358,22 +386,28 @@ class Watch:
         return handed.value
 
 
-class Snapshot(_Held):
+class Snapshot(_Reader):
     """What a bucket had accepted by a moment."""
 
-    def __init__(self, bucket):
-        super().__init__(_lib.kv_view_close)
-        bucket._ask(_lib.kv_snapshot, ctypes.byref(self._handle))
+    def __init__(self, reader):
+        super().__init__("kv_view_")
+        reader._ask(_lib.kv_snapshot, ctypes.byref(self._handle))
 
-    def get(self, key, default=None):
-        """The value of the key with its revision, or `default`."""
-        try:
-            return self._read(_lib.kv_view_get, *_text(key))
-        except _REFUSALS[12]:
-            return default
+    def watch(self, filters, *, history=False, updates=False, since=None, ignore_deletes=False, headers_only=False):
+        """A feed that begins with this moment: a watch that goes on as it is refreshed, also on another thread."""
+        return Feed(self, filters, _options(history, updates, since, ignore_deletes, headers_only))
 
-    def __getitem__(self, key):
-        try:
-            return self._read(_lib.kv_view_get, *_text(key)).value
-        except _REFUSALS[12]:
-            raise KeyError(key) from None
+
+class Feed(_Held, _Items):
+    """A watch over snapshots: it is handed what there was in its first one, and each later write up to the last."""
+
+    def __init__(self, snapshot, filters, options):
+        super().__init__(_lib.kv_feed_close)
+        snapshot._ask(_lib.kv_feed_open, *_text(filters), ctypes.byref(options), ctypes.byref(self._handle))
+
+    def refresh(self, snapshot):
+        """Goes on to a later snapshot of the same bucket, which may be closed then."""
+        self._ask(_lib.kv_feed_refresh, ctypes.byref(snapshot._handle))
+
+    def _take(self):
+        return self._item(_lib.kv_feed_take)

@@ -50,10 +50,11 @@ static void session(void) {
     static const kv_limits limits = {3, 1048576, 1000000, 4294967295};
     static const kv_options latest = {KV_LATEST, 0, false, false};
     kv_bucket b = {0};
-    kv_view view = {0};
+    kv_view view = {0}, later = {0};
+    kv_feed feed = {0};
     uint64_t revision, number, handed;
-    size_t size;
-    uint8_t key[64], value[64];
+    size_t size, count;
+    uint8_t key[64], value[64], keys[256];
     kv_item item;
     int seen = 0;
     TRY(kv_open(&b, B("settings"), &limits));
@@ -73,7 +74,10 @@ static void session(void) {
         TRY(kv_get_at(&b, B(name), i, value, sizeof value, &size, &revision));
         WANT(revision == i);
     }
+    TRY(kv_keys(&b, B("app.>"), keys, sizeof keys, &size, &count));
+    WANT(count == 17);
     TRY(kv_snapshot(&b, &view));
+    TRY(kv_feed_open(&view, B("db.*"), &latest, &feed));
     TRY(kv_purge(&b, B("app.k1"), false, 0, &revision));
     TRY(kv_create(&b, B("db.port"), B("1"), &revision));
     TRY(kv_update(&b, B("db.port"), B("2"), 62, &revision));
@@ -82,6 +86,15 @@ static void session(void) {
     TRY(kv_seal(&b));
     TRY(kv_view_get(&view, B("app.k1"), value, sizeof value, &size, &revision));
     WANT(revision == 41);
+    TRY(kv_view_get_at(&view, B("app.k1"), 41, value, sizeof value, &size, &revision));
+    TRY(kv_view_history(&view, B("app.k1"), 0, value, sizeof value, &item, &size));
+    TRY(kv_view_keys(&view, B(">"), keys, sizeof keys, &size, &count));
+    TRY(kv_snapshot(&b, &later));
+    TRY(kv_feed_take(&feed, key, sizeof key, value, sizeof value, &item));
+    WANT(item.kind == KV_MARKER);
+    TRY(kv_feed_refresh(&feed, &later));
+    TRY(kv_feed_take(&feed, key, sizeof key, value, sizeof value, &item));
+    WANT(item.kind == KV_ENTRY && item.revision == 62);
     do {
         TRY(kv_take(&b, number, key, sizeof key, value, sizeof value, &item));
         seen += item.kind == KV_ENTRY;
@@ -91,6 +104,8 @@ static void session(void) {
     WANT(handed == 64);
     kv_close(&b);
     kv_view_close(&view);
+    kv_view_close(&later);
+    kv_feed_close(&feed);
 }
 
 int main(void) {

@@ -1,4 +1,4 @@
-/* One thread writes; three take snapshots under the bucket's mutex, and read them without it. */
+/* One thread writes; three take snapshots under the bucket's mutex, and read them without it; one follows a feed. */
 #include "vilgoued.h"
 #include <pthread.h>
 #include <stdio.h>
@@ -56,19 +56,56 @@ static void *reads(void *unused) {
     return NULL;
 }
 
+/* Each write comes once, and in order. */
+static void *follows(void *unused) {
+    static const kv_options updates = {KV_UPDATES, 0, false, false};
+    kv_feed feed = {0};
+    uint64_t last = 0;
+    (void)unused;
+    while (last < rounds) {
+        kv_view view = {0};
+        uint64_t code;
+        uint8_t key[255], value[32];
+        kv_item item;
+        pthread_mutex_lock(&lock);
+        code = kv_snapshot(&bucket, &view);
+        pthread_mutex_unlock(&lock);
+        want(code == KV_OK, "a snapshot");
+        if (!feed.is_open) {
+            kv_status status;
+            want(kv_feed_open(&view, B(">"), &updates, &feed) == KV_OK, "a feed");
+            want(kv_view_get_status(&view, &status) == KV_OK, "its beginning");
+            last = status.last;
+        } else
+            want(kv_feed_refresh(&feed, &view) == KV_OK, "a refresh");
+        kv_view_close(&view);
+        for (;;) {
+            want(kv_feed_take(&feed, key, sizeof key, value, sizeof value, &item) == KV_OK, "a take");
+            if (item.kind == KV_EMPTY)
+                break;
+            want(item.revision == last + 1, "the next write");
+            last = item.revision;
+        }
+    }
+    kv_feed_close(&feed);
+    return NULL;
+}
+
 int main(int argc, char **argv) {
     static const kv_limits limits = {1, 1048576, 1000000, 4294967295};
-    pthread_t writer, readers[3];
+    pthread_t writer, follower, readers[3];
     if (argc > 1)
         rounds = strtoul(argv[1], NULL, 10);
     want(kv_open(&bucket, B("settings"), &limits) == KV_OK, "an open");
+    pthread_create(&follower, NULL, follows, NULL);
     pthread_create(&writer, NULL, writes, NULL);
     for (int i = 0; i < 3; i++)
         pthread_create(&readers[i], NULL, reads, NULL);
     pthread_join(writer, NULL);
+    pthread_join(follower, NULL);
     for (int i = 0; i < 3; i++)
         pthread_join(readers[i], NULL);
     kv_close(&bucket);
-    puts("one writer and three readers: each read is of one moment, and none goes back");
+    puts("one writer, three readers, a feed: each read is of one moment, none goes back, and each write is handed out once");
     return 0;
 }

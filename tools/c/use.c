@@ -30,6 +30,7 @@ static bool shows(const char *k, uint32_t op, uint64_t revision, const char *v) 
 static void layout(void) {
     WANT(sizeof(kv_bucket) == 16 && offsetof(kv_bucket, is_open) == 0 && offsetof(kv_bucket, at) == 8);
     WANT(sizeof(kv_view) == 16 && offsetof(kv_view, is_open) == 0 && offsetof(kv_view, at) == 8);
+    WANT(sizeof(kv_feed) == 16 && offsetof(kv_feed, is_open) == 0 && offsetof(kv_feed, at) == 8);
     WANT(sizeof(kv_limits) == 32 && offsetof(kv_limits, revision_limit) == 24);
     WANT(sizeof(kv_options) == 24 && offsetof(kv_options, from) == 8 && offsetof(kv_options, headers_only) == 17);
     WANT(sizeof(kv_item) == 48 && offsetof(kv_item, op) == 4 && offsetof(kv_item, revision) == 8 &&
@@ -40,7 +41,8 @@ static void layout(void) {
 
 static void closed(void) {
     kv_bucket b = {0};
-    kv_view view = {0};
+    kv_view view = {0}, open = {0};
+    kv_feed feed = {0};
     kv_status status;
     kv_options from_latest = {KV_LATEST, 0, false, false};
     uint64_t n = 77;
@@ -53,9 +55,23 @@ static void closed(void) {
     WANT(kv_get_status(&b, &status) == KV_CLOSED && kv_watch(&b, B(">"), &from_latest, &n) == KV_CLOSED);
     WANT(take(&b, 1) == KV_CLOSED && kv_stop(&b, 1, &n) == KV_CLOSED && kv_snapshot(&b, &view) == KV_CLOSED);
     WANT(kv_view_get(&view, B("a"), value, sizeof value, &size, &n) == KV_CLOSED);
+    WANT(kv_view_get_at(&view, B("a"), 1, value, sizeof value, &size, &n) == KV_CLOSED);
+    WANT(kv_history(&b, B("a"), 0, value, sizeof value, &item, &size) == KV_CLOSED);
+    WANT(kv_view_history(&view, B("a"), 0, value, sizeof value, &item, &size) == KV_CLOSED);
+    WANT(kv_keys(&b, B(">"), value, sizeof value, &size, &size) == KV_CLOSED);
+    WANT(kv_view_keys(&view, B(">"), value, sizeof value, &size, &size) == KV_CLOSED);
+    WANT(kv_view_get_status(&view, &status) == KV_CLOSED);
+    WANT(kv_feed_open(&view, B(">"), &from_latest, &feed) == KV_CLOSED && !feed.is_open);
+    WANT(kv_feed_take(&feed, key, sizeof key, value, sizeof value, &item) == KV_CLOSED);
+    WANT(kv_feed_refresh(&feed, &view) == KV_CLOSED);
     WANT(n == 77 && size == 77 && !view.is_open);
     kv_close(&b);
     kv_view_close(&view);
+    kv_feed_close(&feed);
+    WANT(kv_open(&b, B("settings"), &largest) == KV_OK && kv_snapshot(&b, &open) == KV_OK);
+    WANT(kv_feed_refresh(&feed, &open) == KV_CLOSED);
+    kv_view_close(&open);
+    kv_close(&b);
 }
 
 static void opened(void) {
@@ -113,7 +129,6 @@ static void kept(void) {
     kv_bucket b = {0};
     uint64_t r = 0;
     size_t count = 0;
-    WANT(kv_history(&b, B("a"), 0, value, sizeof value, &item, &count) == KV_CLOSED);
     WANT(kv_open(&b, B("settings"), &largest) == KV_OK && kv_put(&b, B("a"), B("12"), &r) == KV_OK);
     WANT(kv_delete(&b, B("a"), false, 0, &r) == KV_OK);
     WANT(kv_history(&b, B("a"), 0, value, 1, &item, &count) == KV_TOO_LITTLE_ROOM && count == 2);
@@ -164,11 +179,29 @@ static void watched(void) {
     kv_close(&b);
 }
 
+static void listed(void) {
+    kv_bucket b = {0};
+    uint64_t r = 0;
+    size_t size = 0, count = 0;
+    WANT(kv_open(&b, B("settings"), &largest) == KV_OK && kv_keys(&b, B(">"), value, 0, &size, &count) == KV_OK);
+    WANT(size == 0 && count == 0);
+    WANT(kv_put(&b, B("app.b"), B("1"), &r) == KV_OK && kv_put(&b, B("app.a"), B("1"), &r) == KV_OK);
+    WANT(kv_put(&b, B("db"), B("1"), &r) == KV_OK && kv_put(&b, B("app.c"), B("1"), &r) == KV_OK);
+    WANT(kv_delete(&b, B("app.c"), false, 0, &r) == KV_OK);
+    WANT(kv_keys(&b, B("app.*"), value, sizeof value, &size, &count) == KV_OK && size == 12 && count == 2);
+    WANT(!memcmp(value, "app.b\0app.a", 12));
+    WANT(kv_keys(&b, B("app.*"), value, 11, &size, &count) == KV_TOO_LITTLE_ROOM && size == 12 && count == 2);
+    WANT(kv_keys(&b, B("app.*,db"), value, sizeof value, &size, &count) == KV_BAD_FILTER);
+    WANT(kv_keys(&b, (const uint8_t *)"a\xff", 2, value, sizeof value, &size, &count) == KV_BAD_FILTER);
+    kv_close(&b);
+}
+
 static void seen(void) {
     kv_bucket b = {0};
     kv_view view = {0};
+    kv_status status;
     uint64_t r = 0;
-    size_t size = 0;
+    size_t size = 0, count = 0;
     WANT(kv_open(&b, B("settings"), &largest) == KV_OK && kv_put(&b, B("a"), B("1"), &r) == KV_OK);
     WANT(kv_snapshot(&b, &view) == KV_OK && view.is_open && kv_snapshot(&b, &view) == KV_OPEN_ALREADY);
     WANT(kv_put(&b, B("a"), B("2"), &r) == KV_OK && r == 2);
@@ -177,9 +210,50 @@ static void seen(void) {
     WANT(kv_view_get(&view, B("a"), value, 0, &size, &r) == KV_TOO_LITTLE_ROOM && size == 1);
     WANT(kv_view_get(&view, B("b"), value, sizeof value, &size, &r) == KV_KEY_NOT_FOUND);
     WANT(kv_view_get(&view, B("b b"), value, sizeof value, &size, &r) == KV_BAD_KEY);
+    WANT(kv_view_get_at(&view, B("a"), 1, value, sizeof value, &size, &r) == KV_OK && size == 1 && r == 1);
+    WANT(kv_view_get_at(&view, B("a"), 2, value, sizeof value, &size, &r) == KV_KEY_NOT_FOUND);
+    WANT(kv_view_history(&view, B("a"), 0, value, sizeof value, &item, &count) == KV_OK && item.revision == 1 && count == 1);
+    WANT(kv_view_keys(&view, B(">"), value, sizeof value, &size, &count) == KV_OK && size == 2 && count == 1);
+    WANT(kv_view_get_status(&view, &status) == KV_OK && status.last == 1 && status.watches == 0 && !status.sealed);
     kv_view_close(&view);
     kv_view_close(&view);
     WANT(!view.is_open);
+}
+
+static uint64_t feed_take(kv_feed *feed) {
+    return kv_feed_take(feed, key, sizeof key, value, sizeof value, &item);
+}
+
+static void fed(void) {
+    kv_bucket b = {0};
+    kv_view first = {0}, second = {0};
+    kv_feed feed = {0};
+    kv_options latest = {KV_LATEST, 0, false, false}, other = {4, 0, false, false};
+    uint64_t r = 0;
+    WANT(kv_open(&b, B("settings"), &largest) == KV_OK && kv_put(&b, B("app.port"), B("80"), &r) == KV_OK);
+    WANT(kv_snapshot(&b, &first) == KV_OK);
+    WANT(kv_delete(&b, B("app.port"), false, 0, &r) == KV_OK && kv_put(&b, B("db.port"), B("1"), &r) == KV_OK);
+    WANT(kv_put(&b, B("app.host"), B("h"), &r) == KV_OK && kv_snapshot(&b, &second) == KV_OK);
+    kv_close(&b);
+    WANT(kv_feed_open(&first, B("app.>"), &other, &feed) == KV_NO_SUCH_START);
+    WANT(kv_feed_open(&first, B("app.>.x"), &latest, &feed) == KV_BAD_FILTER && !feed.is_open);
+    WANT(kv_feed_open(&first, B("app.>"), &latest, &feed) == KV_OK && feed.is_open);
+    WANT(kv_feed_open(&first, B("app.>"), &latest, &feed) == KV_OPEN_ALREADY);
+    WANT(kv_feed_take(&feed, key, 3, value, sizeof value, &item) == KV_TOO_LITTLE_ROOM);
+    WANT(kv_feed_take(&feed, key, sizeof key, value, 1, &item) == KV_TOO_LITTLE_ROOM);
+    WANT(feed_take(&feed) == KV_OK && shows("app.port", KV_PUT, 1, "80"));
+    WANT(feed_take(&feed) == KV_OK && item.kind == KV_MARKER);
+    WANT(feed_take(&feed) == KV_OK && item.kind == KV_EMPTY);
+    WANT(kv_feed_refresh(&feed, &second) == KV_OK);
+    kv_view_close(&second);
+    WANT(feed_take(&feed) == KV_OK && shows("app.port", KV_DELETE, 2, NULL));
+    WANT(kv_feed_refresh(&feed, &first) == KV_OLDER_VIEW);
+    kv_view_close(&first);
+    WANT(feed_take(&feed) == KV_OK && shows("app.host", KV_PUT, 4, "h"));
+    WANT(feed_take(&feed) == KV_OK && item.kind == KV_EMPTY);
+    kv_feed_close(&feed);
+    kv_feed_close(&feed);
+    WANT(!feed.is_open);
 }
 
 int main(void) {
@@ -189,7 +263,9 @@ int main(void) {
     written();
     kept();
     watched();
+    listed();
     seen();
+    fed();
     puts("each function and each code: as the header says");
     return 0;
 }

@@ -1,9 +1,17 @@
--- What may go to another thread: a bucket, with its watches.
+-- What may go to another thread: all that a handle can hold.
 use denote.Param.Send.{IsSend, sendable}
 use Rattle.std.proofs.Crossing.{crosses}
 use Rattle.kv_store.proofs.Sent.{version_send}
 use Rattle.kv_bucket.specs.contracts.bucket.Bucket as Bucket
+use Rattle.kv_c.specs.contracts.content.Content as Content
+use Rattle.kv_c.specs.contracts.feed.Feed as Feed
 use Rattle.kv_watch.proofs.cursor.Cursor.TheSendSync as cursor
 
-pub bucket_send : IsSend Bucket.the_row
+bucket_send : IsSend Bucket.the_row
 bucket_send = let v = version_send in let c = cursor.the_send in search (sendable, crosses) depth 20
+
+feed_send : IsSend Feed.the_row
+feed_send = let v = version_send in let c = cursor.the_send in search (sendable, crosses) depth 20
+
+pub content_send : IsSend Content.the_row
+content_send = let b = bucket_send in let v = version_send in let f = feed_send in search (sendable, crosses) depth 20

@@ -1,5 +1,7 @@
 pub mod AsBox
-pub mod AsView
+pub mod Ascii
 pub mod Boxed
 pub mod Crossing
+pub mod Feeding
+pub mod Refusing
 pub mod Taken

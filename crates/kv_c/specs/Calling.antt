@@ -1,27 +1,132 @@
 -- What C is told by a call, in the words of the model.
-use Rattle.std.specs.Prelude.{◌≡◌, ℕ, Bool, List, Option, Some, None, ◌==◌, if◌then◌else◌}
-use Rattle.kv_model.specs.Answers.{Revision}
+use Rattle.std.specs.Prelude.{◌≡◌, ℕ, Bool, true, false, List, Option, Some, None, ◌==◌, if◌then◌else◌, Result, Ok, Err, IsTrue, take, length, slice_get, nat_le}
+use Rattle.kv_model.specs.Answers.{Answer, Revision}
+use Rattle.kv_model.specs.Given.{Item as Given}
+use Rattle.kv_model.specs.declared.call.Call.{Call}
+use Rattle.kv_c.specs.declared.handing.Item.{Item}
+use Rattle.kv_c.specs.Codes.{listed}
+use Rattle.kv_c.specs.Handing.{IsEntry}
+use Rattle.kv_c.specs.Feeding.{HandsNext, HasHanded, IsRefreshed, Opens, next_of}
 use Rattle.kv_bucket.specs.Held.{Bucketed, Represents}
+use Rattle.kv_c.specs.declared.content.Content.{Content}
+use Rattle.kv_c.specs.declared.content.Content.TheVariants.{Bucket, View, Feed}
+use Rattle.kv_keys.specs.Grammar.{is_key}
+use Rattle.kv_keys.specs.declared.error.KvError.{KvError}
+use Rattle.kv_keys.specs.declared.error.KvError.TheVariants.{BadKey, OutOfMemory}
+use Rattle.kv_model.specs.Acts.{Act, Write}
+use Rattle.kv_store.specs.Standing.{StandsFor}
+use Rattle.kv_store.specs.Stored.{Stored}
 use Rattle.kv_model.specs.State.{State}
 use Rattle.kv_bucket.specs.Stepping.{IsStep}
-use Rattle.kv_model.specs.declared.call.Call.TheVariants.{Write}
+use Rattle.kv_model.specs.declared.call.Call.TheVariants as calls
 use Rattle.kv_c.specs.declared.asking.Limits.{Limits}
 use Rattle.kv_c.specs.declared.asking.Wanted.{Wanted}
 use Rattle.kv_model.specs.Configuration.{Configuration}
-use Rattle.kv_model.specs.Requests.{Asked, asked}
+use Rattle.kv_model.specs.Requests.{Asked, asked, key_of}
 use Rattle.kv_model.specs.declared.request.Request.{Request}
 use Rattle.kv_model.specs.declared.options.Options.{Options}
 use Rattle.kv_model.specs.declared.options.Start.{Start}
 use Rattle.kv_model.specs.declared.options.Start.TheVariants.{Latest, History, Updates, From}
 
+abbrev pub holds_bucket : Option Content → Bool
+holds_bucket None = false
+holds_bucket (Some (Bucket b)) = true
+holds_bucket (Some (View v)) = false
+holds_bucket (Some (Feed f)) = false
+
+abbrev pub holds_feed : Option Content → Bool
+holds_feed None = false
+holds_feed (Some (Bucket b)) = false
+holds_feed (Some (View v)) = false
+holds_feed (Some (Feed f)) = true
+
+-- what is read through a handle: the version of a bucket, or a view
+abbrev pub version_in : Option Content → Option Stored
+version_in None = None
+version_in (Some (Bucket b)) = Some b.version
+version_in (Some (View v)) = Some v
+version_in (Some (Feed f)) = None
+
 -- a handle is open, on a bucket that represents the state
-abbrev pub StandsAt : State → Option Bucketed → Type 0
+abbrev pub StandsAt : State → Option Content → Type 0
 StandsAt state None = ⊥
-StandsAt state (Some bucket) = Represents state bucket
+StandsAt state (Some (Bucket b)) = Represents state b
+StandsAt state (Some (View v)) = ⊥
+StandsAt state (Some (Feed f)) = ⊥
+
+-- a version stands for these acts under this configuration
+abbrev pub Reads : Configuration → List Act → Option Stored → Type 0
+Reads config acts None = ⊥
+Reads config acts (Some v) = (v.config ≡ config) × StandsFor acts v
+
+-- a handle is open, on a bucket with this configuration that has accepted these acts, or on a view of one that had
+abbrev pub Shows : Configuration → List Act → Option Content → Type 0
+Shows config acts held = Reads config acts (version_in held)
 
 -- the write that is asked for is accepted at this revision
 abbrev pub IsWrite : Bucketed → Asked → ℕ → Bucketed → Type 0
-IsWrite old what revision new = (request : Request) × (asked request ≡ what) × IsStep old (Write request) (Revision revision) new
+IsWrite old what revision new = (request : Request) × (asked request ≡ what) × IsStep old (calls.Write request) (Revision revision) new
+
+-- the same, of what a handle holds before and after
+abbrev pub Accepts : Asked → Option Content → ℕ → Option Content → Type 0
+Accepts what (Some (Bucket old)) revision (Some (Bucket new)) = IsWrite old what revision new
+Accepts what old revision new = ⊥
+
+-- the buckets that a handle holds before and after are one step of the model apart
+abbrev pub Steps : Call → Answer → Option Content → Option Content → Type 0
+Steps call answer (Some (Bucket old)) (Some (Bucket new)) = IsStep old call answer new
+Steps call answer old new = ⊥
+
+-- a handle holds a feed that begins with what is read through another one
+abbrev pub Feeds : Option Stored → List (List ℕ) → Options → Option Content → Type 0
+Feeds (Some v) filters options (Some (Feed f)) = Opens v filters options f
+Feeds of filters options new = ⊥
+
+-- a feed goes on to what is read through another handle
+abbrev pub Refreshes : Option Stored → Option Content → Option Content → Type 0
+Refreshes (Some v) (Some (Feed old)) (Some (Feed new)) = IsRefreshed v old new
+Refreshes of old new = ⊥
+
+-- the code of a feed that is to go on: 36 where that version has fewer writes than its own
+abbrev pub refresh_code : Option Stored → Option Content → ℕ
+refresh_code (Some v) (Some (Feed f)) = if nat_le f.present.last v.last then 0 else 36
+refresh_code of held = 32
+
+-- a feed hands out its next item
+abbrev pub Hands : Option Content → Item → List ℕ → List ℕ → Option Content → Type 0
+Hands (Some (Feed old)) item keys values (Some (Feed new)) = HandsNext old item keys values new
+Hands old item keys values new = ⊥
+
+-- a handle is open, on a feed that has handed out n items
+abbrev pub FeedsBy : List Act → List Act → ℕ → Option Content → Type 0
+FeedsBy began acts n None = ⊥
+FeedsBy began acts n (Some (Bucket b)) = ⊥
+FeedsBy began acts n (Some (View v)) = ⊥
+FeedsBy began acts n (Some (Feed f)) = HasHanded began acts n f
+
+-- and this is the item that comes next
+abbrev pub comes_next : List Act → List Act → ℕ → Option Content → Option Given
+comes_next began acts n None = None
+comes_next began acts n (Some (Bucket b)) = None
+comes_next began acts n (Some (View v)) = None
+comes_next began acts n (Some (Feed f)) = next_of began acts n f
+
+-- a request as it was read, or why there is none
+abbrev pub IsAsked : Asked → Result Request KvError → Type 0
+IsAsked what (Ok request) = (asked request ≡ what) × IsTrue (is_key (key_of what))
+IsAsked what (Err e) = ¬ (e ≡ OutOfMemory) → (e ≡ BadKey) × (is_key (key_of what) ≡ false)
+
+-- this write was found, and its value and its revision are handed out
+abbrev pub IsValue : Option Write → List ℕ → ℕ → ℕ → Type 0
+IsValue found room size revision = (w : Write) × (found ≡ Some w) × (take size room ≡ w.value) × (revision ≡ w.revision)
+
+-- these entries were found, and the one of an index is handed out, without its key
+abbrev pub IsHistory : Option (List Write) → ℕ → ℕ → Item → List ℕ → Type 0
+IsHistory found index count item room = (ws : List Write) × (found ≡ Some ws) × (count ≡ length ws) × IsEntry (slice_get ws index) item room
+
+-- these keys are handed out
+abbrev pub AreKeys : List (List ℕ) → ℕ → ℕ → List ℕ → Type 0
+AreKeys keys count size room = (count ≡ length keys) × (take size room ≡ listed keys)
 
 -- the configuration that C asks for
 abbrev pub configured : List ℕ → Limits → Configuration

@@ -1,11 +1,14 @@
 //! Entries and items as C is handed them: copies into the memory that C has for them.
 
-ghost use Rattle.std.specs.Prelude.{◌≡◌, length, take, drop, IsTrue, IsFalse, IfSome, Some};
+ghost use Rattle.std.specs.Prelude.{◌≡◌, length, take, drop, IsTrue, IsFalse, IfSome, IsNone, Some, is_some};
+ghost use Rattle.std.specs.Option.{option_copied};
+ghost use Rattle.kv_c.specs.Codes.{answer_fits, entry_fits, fits, room_code, taken_code, value_fits};
 ghost use Rattle.kv_model.specs.Answers.{AnsweredEntry, answer_item};
 ghost use Rattle.kv_c.specs.Handing.{IsEntry, told, op_named};
 ghost use Rattle.kv_model.specs.Acts.{is_put};
 ghost use Rattle.kv_watch.specs.Taking.{item_taken, entry_shown};
 
+use crate::codes::TOO_LITTLE_ROOM;
 use kv_bucket::{Op, Shown, Taken, Write};
 
 /// An entry as C sees it. The bytes of key and value lie in the memory that C gave for them.
@@ -28,6 +31,7 @@ pub struct Item {
 
 /// Copies bytes to the beginning of some room, if there is enough; else nothing changes.
 pub(crate) fn copy_into(room: &mut [u8], bytes: &[u8]) -> bool
+    ensures fits { result ≡ fits bytes.now room.old }
     ensures copied { IsTrue result → take (length bytes.now) room.new ≡ bytes.now }
     ensures unchanged { IsFalse result → room.new ≡ room.old }
 {
@@ -37,6 +41,21 @@ pub(crate) fn copy_into(room: &mut [u8], bytes: &[u8]) -> bool
     let (begin, _) = room.split_at_mut(bytes.len());
     begin.copy_from_slice(bytes);
     true
+}
+
+/// Copies bytes, and tells how many there are also where there is too little room.
+pub(crate) fn copy_sized(room: &mut [u8], bytes: &[u8], size: &mut usize) -> u64
+    ensures size { size.new ≡ length bytes.now }
+    ensures code { result ≡ room_code (fits bytes.now room.old) }
+    ensures copied { result ≡ 0 → take size.new room.new ≡ bytes.now }
+    ensures unchanged { ¬ (result ≡ 0) → room.new ≡ room.old }
+{
+    *size = bytes.len();
+    if copy_into(room, bytes) {
+        0
+    } else {
+        TOO_LITTLE_ROOM
+    }
 }
 
 fn number_of(op: Op) -> u32
@@ -75,7 +94,8 @@ pub(crate) fn empty_item(kind: u32) -> Item
 
 /// The item of a stored write, with its value copied; none where there is not enough room.
 pub(crate) fn write_item(write: &Write, room: &mut [u8]) -> Option<Item>
-    ensures { IfSome result (λ item. IsEntry (Some write.now) item room.new) }
+    ensures some { IfSome result (λ item. IsEntry (Some write.now) item room.new) }
+    ensures fits { is_some result ≡ fits write.now.value room.old }
 {
     let value = write.value();
     if !copy_into(room, value) {
@@ -93,14 +113,32 @@ pub(crate) fn write_item(write: &Write, room: &mut [u8]) -> Option<Item>
     })
 }
 
-// The item of an entry, with its key and its value copied, where there is enough room.
-fn entry_item(shown: &Shown<'_>, keys: &mut [u8], values: &mut [u8]) -> Option<Item>
-    ensures { IfSome result (λ item. told item keys.new values.new ≡ AnsweredEntry (entry_shown shown.now)) }
+fn value_fits(value: Option<&[u8]>, values: &[u8]) -> bool
+    ensures { result ≡ value_fits (option_copied value.entry) values.now }
 {
-    let key = shown.key().as_str().as_bytes();
-    if !copy_into(keys, key) {
+    match value {
+        Some(value) => value.len() <= values.len(),
+        None => true,
+    }
+}
+
+fn entry_fits(shown: &Shown<'_>, keys: &[u8], values: &[u8]) -> bool
+    ensures { result ≡ entry_fits (entry_shown shown.now) keys.now values.now }
+{
+    shown.key().as_str().len() <= keys.len() && value_fits(shown.value(), values)
+}
+
+// The item of an entry, with its key and its value copied, where there is enough room for both.
+fn entry_item(shown: &Shown<'_>, keys: &mut [u8], values: &mut [u8]) -> Option<Item>
+    ensures some { IfSome result (λ item. told item keys.new values.new ≡ AnsweredEntry (entry_shown shown.now)) }
+    ensures fits { is_some result ≡ entry_fits (entry_shown shown.now) keys.old values.old }
+    ensures none { IsNone result → (keys.new ≡ keys.old) × (values.new ≡ values.old) }
+{
+    if !entry_fits(shown, keys, values) {
         return None;
     }
+    let key = shown.key().as_str().as_bytes();
+    copy_into(keys, key);
     let item = Item {
         kind: 2,
         op: number_of(shown.op()),
@@ -112,9 +150,7 @@ fn entry_item(shown: &Shown<'_>, keys: &mut [u8], values: &mut [u8]) -> Option<I
     };
     match shown.value() {
         Some(value) => {
-            if !copy_into(values, value) {
-                return None;
-            }
+            copy_into(values, value);
             Some(Item {
                 value_size: value.len(),
                 has_value: true,
@@ -125,13 +161,30 @@ fn entry_item(shown: &Shown<'_>, keys: &mut [u8], values: &mut [u8]) -> Option<I
     }
 }
 
-/// What a take hands out, as an item, with key and value copied; none where there is not enough room.
-pub(crate) fn item_of(taken: &Taken<'_>, keys: &mut [u8], values: &mut [u8]) -> Option<Item>
-    ensures { IfSome result (λ item. told item keys.new values.new ≡ answer_item (item_taken taken.now)) }
+// What a take hands out, as an item, with key and value copied; none where there is not enough room.
+fn item_of(taken: &Taken<'_>, keys: &mut [u8], values: &mut [u8]) -> Option<Item>
+    ensures some { IfSome result (λ item. told item keys.new values.new ≡ answer_item (item_taken taken.now)) }
+    ensures fits { is_some result ≡ answer_fits keys.old values.old (answer_item (item_taken taken.now)) }
+    ensures none { IsNone result → (keys.new ≡ keys.old) × (values.new ≡ values.old) }
 {
     match taken {
         Taken::Entry(shown) => entry_item(shown, keys, values),
         Taken::Marker => Some(empty_item(1)),
         Taken::Empty => Some(empty_item(0)),
+    }
+}
+
+/// Hands out what a take shows, with key and value copied; where there is too little room, nothing changes.
+pub(crate) fn hand(taken: &Taken<'_>, keys: &mut [u8], values: &mut [u8], item: &mut Item) -> u64
+    ensures told { result ≡ 0 → told item.new keys.new values.new ≡ answer_item (item_taken taken.now) }
+    ensures code { result ≡ taken_code keys.old values.old (answer_item (item_taken taken.now)) }
+    ensures room { ¬ (result ≡ 0) → (keys.new ≡ keys.old) × (values.new ≡ values.old) }
+{
+    match item_of(taken, keys, values) {
+        Some(next) => {
+            *item = next;
+            0
+        }
+        None => TOO_LITTLE_ROOM,
     }
 }

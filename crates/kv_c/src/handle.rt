@@ -1,14 +1,14 @@
-//! What C keeps of a bucket.
+//! What C keeps: of a bucket, of a view, of a feed.
 
 ghost use Rattle.std.specs.Prelude.{◌≡◌, Some, None, is_some, IfSome, IfNone};
 
+use crate::content::Content;
 use crate::parts::Parts;
 use crate::slot::Slot;
-use kv_bucket::Bucket;
 use std::alloc::Global;
 use std::mem;
 
-/// What C keeps of a bucket: whether it is open, and where it lies. With each byte 0 it is closed.
+/// What C keeps: whether it is open, and where its content lies. With each byte 0 it is closed.
 #[repr(C)]
 pub struct Handle {
     is_open: bool,
@@ -26,23 +26,23 @@ impl Handle {
         }
     }
 
-    fn of(bucket: Box<Bucket>) -> Handle
-        ensures { result.slot.held ≡ Some bucket.value }
+    fn of(content: Box<Content>) -> Handle
+        ensures { result.slot.held ≡ Some content.value }
     {
         Handle {
             is_open: true,
-            slot: Slot::of_parts(Parts::of(bucket)),
+            slot: Slot::of_parts(Parts::of(content)),
         }
     }
 
-    /// Whether it holds a bucket.
+    /// Whether it holds anything.
     pub(crate) fn is_open(&self) -> bool
         ensures { result ≡ is_some self.now.slot.held }
     {
         self.is_open
     }
 
-    fn into_box(self) -> Option<Box<Bucket>>
+    fn into_box(self) -> Option<Box<Content>>
         ensures some { IfSome result (λ b. self.slot.held ≡ Some b.value) }
         ensures none { IfNone result (self.slot.held ≡ None) }
     {
@@ -55,8 +55,8 @@ impl Handle {
         }
     }
 
-    /// Takes the bucket out, if it is open, and leaves a closed handle.
-    pub(crate) fn take(&mut self, alloc: Global) -> Option<Box<Bucket>>
+    /// Takes its content out, if it is open, and leaves a closed handle.
+    pub(crate) fn take(&mut self, alloc: Global) -> Option<Box<Content>>
         ensures some { IfSome result (λ b. self.old.slot.held ≡ Some b.value) }
         ensures none { IfNone result (self.old.slot.held ≡ None) }
         ensures left { self.new.slot.held ≡ None }
@@ -64,10 +64,17 @@ impl Handle {
         mem::replace(self, Handle::closed(alloc)).into_box()
     }
 
-    /// Puts a bucket in. Had there been one, it would be freed.
-    pub(crate) fn put(&mut self, bucket: Box<Bucket>)
-        ensures { self.new.slot.held ≡ Some bucket.value }
+    /// Puts a content in. Had there been one, it would be freed.
+    pub(crate) fn put(&mut self, content: Box<Content>)
+        ensures { self.new.slot.held ≡ Some content.value }
     {
-        drop(mem::replace(self, Handle::of(bucket)).into_box());
+        drop(mem::replace(self, Handle::of(content)).into_box());
     }
+}
+
+fn crosses<T: Send>(_value: &T) {}
+
+// A handle may go to another thread: the checker proves it of its type.
+fn may_cross(handle: &Handle) {
+    crosses(handle);
 }

@@ -4,15 +4,18 @@
 #![tactic(auto)]
 
 mod asking;
-mod calls;
-mod exports;
+mod codes;
+mod content;
+mod feed;
+mod feeds;
 mod handing;
 mod handle;
-mod history;
+mod names;
 mod numbers;
+mod opening;
 mod parts;
+mod reading;
+mod reads;
 mod slot;
-mod view;
-mod view_slot;
 mod watches;
 mod writes;

@@ -1,14 +1,13 @@
 //! The numbers of a bucket, as C sees them.
 
-ghost use Rattle.std.specs.Prelude.{◌≡◌, None};
-ghost use Rattle.kv_model.specs.State.{State, answer_to};
-ghost use Rattle.kv_model.specs.declared.call.Call.TheVariants.{Status};
-ghost use Rattle.kv_c.specs.Calling.{StandsAt};
+ghost use Rattle.std.specs.Prelude.{◌≡◌, List};
 ghost use Rattle.kv_c.specs.Handing.{numbers_told};
+ghost use Rattle.kv_model.specs.Acts.{Act};
+ghost use Rattle.kv_model.specs.Answers.{Numbers as Told};
+ghost use Rattle.kv_model.specs.Reads.{status_of};
+ghost use Rattle.kv_store.specs.Standing.{StandsFor};
 
-use crate::exports::CLOSED;
-use crate::handle::Handle;
-use std::alloc::Global;
+use kv_bucket::Version;
 
 /// How much a bucket holds.
 #[repr(C)]
@@ -22,32 +21,24 @@ pub struct Numbers {
     pub stored: u64,
     /// How many entries are retained, markers included.
     pub values: u64,
-    /// How many watches are open.
+    /// How many watches are open; none of a view.
     pub watches: u64,
     /// Whether writes have ended.
     pub sealed: bool,
 }
 
-/// Hands out the numbers of a bucket.
-#[unsafe(no_mangle)]
-pub extern "C" fn kv_get_status(alloc: Global, handle: &mut Handle, numbers: &mut Numbers) -> u64
-    ensures told { (state : State) → StandsAt state handle.old.slot.held →
-        (result ≡ 0) × (answer_to state Status ≡ numbers_told numbers.new) }
-    ensures unchanged { handle.new.slot.held ≡ handle.old.slot.held }
-    ensures closed { handle.old.slot.held ≡ None → result ≡ 32 }
+/// The numbers of a version, with those of watches.
+pub(crate) fn numbers_of(version: &Version, watches: u64) -> Numbers
+    ensures { (acts : List Act) → StandsFor acts version.now →
+        numbers_told result ≡ Told (status_of version.now.config.history acts) watches }
 {
-    let Some(bucket) = handle.take(alloc) else {
-        return CLOSED;
-    };
-    let status = bucket.version().status();
-    *numbers = Numbers {
+    let status = version.status();
+    Numbers {
         history: status.history,
         last: status.last,
         stored: status.stored,
         values: status.values,
-        watches: bucket.watches(),
+        watches,
         sealed: status.sealed,
-    };
-    handle.put(bucket);
-    0
+    }
 }

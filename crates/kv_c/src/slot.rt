@@ -1,15 +1,15 @@
-//! Where C keeps a bucket, or nothing.
+//! Where C keeps the content of a handle, or nothing.
 
 ghost use Rattle.std.specs.Prelude.{◌≡◌, None, Some, is_some, IsTrue};
 ghost use Rattle.kv_c.specs.Owned.{Held, held_coded, slot_owns};
 
+use crate::content::Content;
 use crate::parts::Parts;
-use kv_bucket::Bucket;
 use std::alloc::Global;
 use std::marker::Model;
 use std::ptr;
 
-/// A pointer to a bucket, or to nothing.
+/// A pointer to a content, or to nothing.
 ///
 /// It has no `Drop`: what it holds is taken out, or the slot is known to be empty.
 #[repr(C)]
@@ -35,7 +35,7 @@ impl Slot {
     }
 
     /// What these parts own.
-    pub(crate) fn of_parts(parts: Parts<Bucket, Global>) -> Slot
+    pub(crate) fn of_parts(parts: Parts<Content, Global>) -> Slot
         ensures { result.held ≡ Some parts.value }
     {
         let Parts { ptr, alloc } = parts;
@@ -46,13 +46,13 @@ impl Slot {
     }
 
     /// What it holds, as parts.
-    pub(crate) fn into_parts(self) -> Parts<Bucket, Global>
+    pub(crate) fn into_parts(self) -> Parts<Content, Global>
         requires { IsTrue (is_some self.held) }
         ensures { self.held ≡ Some result.value }
     {
         let Slot { at, alloc } = self;
         Parts {
-            ptr: at as *mut Bucket,
+            ptr: at as *mut Content,
             alloc,
         }
     }

@@ -1,59 +1,78 @@
 //! The functions that C calls to write to a bucket.
 
-ghost use Rattle.std.specs.Prelude.{◌≡◌, Err, Some, None};
-ghost use Rattle.kv_model.specs.Answers.{Revision, Sealed};
-ghost use Rattle.kv_bucket.specs.Held.{Bucketed};
-ghost use Rattle.kv_model.specs.State.{State};
+ghost use Rattle.std.specs.Prelude.{◌≡◌, Err, Some, None, IsFalse, IsTrue};
+ghost use Rattle.kv_bucket.specs.Held.{Represents};
 ghost use Rattle.kv_bucket.specs.Stepping.{IsStep};
-ghost use Rattle.kv_model.specs.declared.call.Call.TheVariants.{Write, Seal};
-ghost use Rattle.kv_c.specs.Calling.{IsWrite, StandsAt, if_given};
+ghost use Rattle.kv_c.specs.Calling.{Accepts, IsAsked, IsWrite, StandsAt, Steps, holds_bucket, if_given};
+ghost use Rattle.kv_c.specs.Codes.{accepted, code_by, outcome};
 ghost use Rattle.kv_keys.specs.declared.error.KvError.TheVariants.{WrongLastRevision};
-ghost use Rattle.kv_model.specs.Acceptance.{accept};
-ghost use Rattle.kv_model.specs.Requests.{asked, put, create, update, delete, purge};
+ghost use Rattle.kv_model.specs.Answers.{Sealed};
+ghost use Rattle.kv_model.specs.Requests.{Asked, create, delete, purge, put, update};
+ghost use Rattle.kv_model.specs.State.{State};
+ghost use Rattle.kv_model.specs.declared.call.Call.TheVariants.{Seal};
 
-use crate::calls;
-use crate::exports::CLOSED;
+use crate::asking;
+use crate::codes::{CLOSED, hand_out};
+use crate::content::Content;
 use crate::handle::Handle;
-use kv_bucket::{KvError, Request};
+use kv_bucket::{Bucket, KvError, Request};
 use std::alloc::Global;
 
-// The code where there is no request: memory was refused, or else the key is none.
-fn unasked(refusal: KvError) -> u64
-    ensures refused { ¬ (result ≡ 0) }
-    ensures before { ¬ (result ≡ 11) }
+// Writes what is asked, and hands out its revision; where the key's last revision is another one, that.
+#[tactic(auto, using(crate::proofs::Refusing::code_from, crate::proofs::Refusing::code_memory), unfolding(crate::specs::Codes::outcome))]
+fn write_to(bucket: &mut Bucket, request: Result<Request, KvError>, revision: &mut u64) -> u64
+    ensures accepted { result ≡ 0 → (what : Asked) → IsAsked what request →
+        IsWrite bucket.old what revision.new bucket.new }
+    ensures code { (what : Asked) → IsAsked what request → (state : State) → Represents state bucket.old →
+        ¬ (result ≡ 1) → result ≡ code_by accepted (outcome what state) }
+    ensures last { result ≡ 11 → (what : Asked) → IsAsked what request → (state : State) →
+        Represents state bucket.old →
+        outcome what state ≡ Err (WrongLastRevision revision.new) }
+    ensures refused { ¬ (result ≡ 0) → bucket.new ≡ bucket.old }
 {
-    match refusal {
-        KvError::OutOfMemory => 1,
-        _ => 4,
+    match request {
+        Ok(request) => hand_out(bucket.write(&request), revision),
+        Err(refusal) => refusal.code(),
     }
 }
 
-// Writes what is asked, and hands out its revision; where the key's last revision is another one, that.
-fn written(alloc: Global, handle: &mut Handle, request: &Request, revision: &mut u64) -> u64
-    ensures accepted { result ≡ 0 → (old : Bucketed) → handle.old.slot.held ≡ Some old →
-        (new : Bucketed) × (handle.new.slot.held ≡ Some new)
-        × IsStep old (Write request.now) (Revision revision.new) new }
-    ensures last { result ≡ 11 → (state : State) → StandsAt state handle.old.slot.held →
-        accept state.config (asked request.now) state.acts ≡ Err (WrongLastRevision revision.new) }
-    ensures refused { ¬ (result ≡ 0) → handle.new.slot.held ≡ handle.old.slot.held }
-    ensures closed { handle.old.slot.held ≡ None → result ≡ 32 }
+fn write_in(content: &mut Content, request: Result<Request, KvError>, revision: &mut u64) -> u64
+    ensures accepted { result ≡ 0 → (what : Asked) → IsAsked what request →
+        Accepts what (Some content.old) revision.new (Some content.new) }
+    ensures code { (what : Asked) → IsAsked what request → (state : State) → StandsAt state (Some content.old) →
+        ¬ (result ≡ 1) → result ≡ code_by accepted (outcome what state) }
+    ensures last { result ≡ 11 → (what : Asked) → IsAsked what request → (state : State) →
+        StandsAt state (Some content.old) → outcome what state ≡ Err (WrongLastRevision revision.new) }
+    ensures refused { ¬ (result ≡ 0) → content.new ≡ content.old }
+    ensures closed { IsFalse (holds_bucket (Some content.old)) → result ≡ 32 }
 {
-    let Some(mut bucket) = handle.take(alloc) else {
+    match content {
+        Content::Bucket(bucket) => write_to(bucket, request, revision),
+        Content::View(_) | Content::Feed(_) => CLOSED,
+    }
+}
+
+fn write(
+    alloc: Global,
+    handle: &mut Handle,
+    request: Result<Request, KvError>,
+    revision: &mut u64,
+) -> u64
+    ensures accepted { result ≡ 0 → (what : Asked) → IsAsked what request →
+        Accepts what handle.old.slot.held revision.new handle.new.slot.held }
+    ensures code { (what : Asked) → IsAsked what request → (state : State) → StandsAt state handle.old.slot.held →
+        ¬ (result ≡ 1) → result ≡ code_by accepted (outcome what state) }
+    ensures last { result ≡ 11 → (what : Asked) → IsAsked what request → (state : State) →
+        StandsAt state handle.old.slot.held → outcome what state ≡ Err (WrongLastRevision revision.new) }
+    ensures refused { ¬ (result ≡ 0) → handle.new.slot.held ≡ handle.old.slot.held }
+    ensures closed { IsFalse (holds_bucket handle.old.slot.held) → result ≡ 32 }
+{
+    let Some(mut content) = handle.take(alloc) else {
         return CLOSED;
     };
-    let done = bucket.write(request);
-    handle.put(bucket);
-    match done {
-        Ok(given) => {
-            *revision = given;
-            0
-        }
-        Err(KvError::WrongLastRevision { last }) => {
-            *revision = last;
-            11
-        }
-        Err(refusal) => refusal.code(),
-    }
+    let done = write_in(&mut content, request, revision);
+    handle.put(content);
+    done
 }
 
 /// Gives a key a value, and hands out the revision of the write.
@@ -65,18 +84,14 @@ pub extern "C" fn kv_put(
     value: &[u8],
     revision: &mut u64,
 ) -> u64
-    ensures accepted { result ≡ 0 → (old : Bucketed) → handle.old.slot.held ≡ Some old →
-        (new : Bucketed) × (handle.new.slot.held ≡ Some new) × IsWrite old (put key.now value.now) revision.new new }
+    ensures accepted { result ≡ 0 →
+        Accepts (put key.now value.now) handle.old.slot.held revision.new handle.new.slot.held }
+    ensures code { (state : State) → StandsAt state handle.old.slot.held → ¬ (result ≡ 1) →
+        result ≡ code_by accepted (outcome (put key.now value.now) state) }
     ensures refused { ¬ (result ≡ 0) → handle.new.slot.held ≡ handle.old.slot.held }
-    ensures closed { handle.old.slot.held ≡ None → result ≡ 32 }
+    ensures closed { IsFalse (holds_bucket handle.old.slot.held) → result ≡ 32 }
 {
-    if !handle.is_open() {
-        return CLOSED;
-    }
-    match calls::put_asked(alloc, key, value) {
-        Ok(request) => written(alloc, handle, &request, revision),
-        Err(refusal) => unasked(refusal),
-    }
+    write(alloc, handle, asking::put(alloc, key, value), revision)
 }
 
 /// The same, where the key has no value.
@@ -88,18 +103,14 @@ pub extern "C" fn kv_create(
     value: &[u8],
     revision: &mut u64,
 ) -> u64
-    ensures accepted { result ≡ 0 → (old : Bucketed) → handle.old.slot.held ≡ Some old →
-        (new : Bucketed) × (handle.new.slot.held ≡ Some new) × IsWrite old (create key.now value.now) revision.new new }
+    ensures accepted { result ≡ 0 →
+        Accepts (create key.now value.now) handle.old.slot.held revision.new handle.new.slot.held }
+    ensures code { (state : State) → StandsAt state handle.old.slot.held → ¬ (result ≡ 1) →
+        result ≡ code_by accepted (outcome (create key.now value.now) state) }
     ensures refused { ¬ (result ≡ 0) → handle.new.slot.held ≡ handle.old.slot.held }
-    ensures closed { handle.old.slot.held ≡ None → result ≡ 32 }
+    ensures closed { IsFalse (holds_bucket handle.old.slot.held) → result ≡ 32 }
 {
-    if !handle.is_open() {
-        return CLOSED;
-    }
-    match calls::create_asked(alloc, key, value) {
-        Ok(request) => written(alloc, handle, &request, revision),
-        Err(refusal) => unasked(refusal),
-    }
+    write(alloc, handle, asking::create(alloc, key, value), revision)
 }
 
 /// The same, where `last` is the key's last revision; where it is not, that one is handed out.
@@ -112,21 +123,21 @@ pub extern "C" fn kv_update(
     last: u64,
     revision: &mut u64,
 ) -> u64
-    ensures accepted { result ≡ 0 → (old : Bucketed) → handle.old.slot.held ≡ Some old →
-        (new : Bucketed) × (handle.new.slot.held ≡ Some new)
-        × IsWrite old (update key.now value.now last) revision.new new }
+    ensures accepted { result ≡ 0 →
+        Accepts (update key.now value.now last) handle.old.slot.held revision.new handle.new.slot.held }
+    ensures code { (state : State) → StandsAt state handle.old.slot.held → ¬ (result ≡ 1) →
+        result ≡ code_by accepted (outcome (update key.now value.now last) state) }
     ensures last { result ≡ 11 → (state : State) → StandsAt state handle.old.slot.held →
-        accept state.config (update key.now value.now last) state.acts ≡ Err (WrongLastRevision revision.new) }
+        outcome (update key.now value.now last) state ≡ Err (WrongLastRevision revision.new) }
     ensures refused { ¬ (result ≡ 0) → handle.new.slot.held ≡ handle.old.slot.held }
-    ensures closed { handle.old.slot.held ≡ None → result ≡ 32 }
+    ensures closed { IsFalse (holds_bucket handle.old.slot.held) → result ≡ 32 }
 {
-    if !handle.is_open() {
-        return CLOSED;
-    }
-    match calls::update_asked(alloc, key, value, last) {
-        Ok(request) => written(alloc, handle, &request, revision),
-        Err(refusal) => unasked(refusal),
-    }
+    write(
+        alloc,
+        handle,
+        asking::update(alloc, key, value, last),
+        revision,
+    )
 }
 
 /// Ends the value of a key; with `has_last`, only where `last` is the key's last revision.
@@ -139,22 +150,21 @@ pub extern "C" fn kv_delete(
     last: u64,
     revision: &mut u64,
 ) -> u64
-    ensures accepted { result ≡ 0 → (old : Bucketed) → handle.old.slot.held ≡ Some old →
-        (new : Bucketed) × (handle.new.slot.held ≡ Some new)
-        × IsWrite old (delete key.now (if_given has_last last)) revision.new new }
+    ensures accepted { result ≡ 0 →
+        Accepts (delete key.now (if_given has_last last)) handle.old.slot.held revision.new handle.new.slot.held }
+    ensures code { (state : State) → StandsAt state handle.old.slot.held → ¬ (result ≡ 1) →
+        result ≡ code_by accepted (outcome (delete key.now (if_given has_last last)) state) }
     ensures last { result ≡ 11 → (state : State) → StandsAt state handle.old.slot.held →
-        accept state.config (delete key.now (if_given has_last last)) state.acts
-        ≡ Err (WrongLastRevision revision.new) }
+        outcome (delete key.now (if_given has_last last)) state ≡ Err (WrongLastRevision revision.new) }
     ensures refused { ¬ (result ≡ 0) → handle.new.slot.held ≡ handle.old.slot.held }
-    ensures closed { handle.old.slot.held ≡ None → result ≡ 32 }
+    ensures closed { IsFalse (holds_bucket handle.old.slot.held) → result ≡ 32 }
 {
-    if !handle.is_open() {
-        return CLOSED;
-    }
-    match calls::delete_asked(alloc, key, has_last, last) {
-        Ok(request) => written(alloc, handle, &request, revision),
-        Err(refusal) => unasked(refusal),
-    }
+    write(
+        alloc,
+        handle,
+        asking::delete(alloc, key, has_last, last),
+        revision,
+    )
 }
 
 /// The same, and the key's earlier entries go.
@@ -167,38 +177,58 @@ pub extern "C" fn kv_purge(
     last: u64,
     revision: &mut u64,
 ) -> u64
-    ensures accepted { result ≡ 0 → (old : Bucketed) → handle.old.slot.held ≡ Some old →
-        (new : Bucketed) × (handle.new.slot.held ≡ Some new)
-        × IsWrite old (purge key.now (if_given has_last last)) revision.new new }
+    ensures accepted { result ≡ 0 →
+        Accepts (purge key.now (if_given has_last last)) handle.old.slot.held revision.new handle.new.slot.held }
+    ensures code { (state : State) → StandsAt state handle.old.slot.held → ¬ (result ≡ 1) →
+        result ≡ code_by accepted (outcome (purge key.now (if_given has_last last)) state) }
     ensures last { result ≡ 11 → (state : State) → StandsAt state handle.old.slot.held →
-        accept state.config (purge key.now (if_given has_last last)) state.acts ≡ Err (WrongLastRevision revision.new) }
+        outcome (purge key.now (if_given has_last last)) state ≡ Err (WrongLastRevision revision.new) }
     ensures refused { ¬ (result ≡ 0) → handle.new.slot.held ≡ handle.old.slot.held }
-    ensures closed { handle.old.slot.held ≡ None → result ≡ 32 }
+    ensures closed { IsFalse (holds_bucket handle.old.slot.held) → result ≡ 32 }
 {
-    if !handle.is_open() {
-        return CLOSED;
+    write(
+        alloc,
+        handle,
+        asking::purge(alloc, key, has_last, last),
+        revision,
+    )
+}
+
+fn seal(bucket: &mut Bucket) -> u64
+    ensures sealed { result ≡ 0 → IsStep bucket.old Seal Sealed bucket.new }
+    ensures code { ¬ (result ≡ 1) → result ≡ 0 }
+    ensures refused { ¬ (result ≡ 0) → bucket.new ≡ bucket.old }
+{
+    match bucket.seal() {
+        Ok(()) => 0,
+        Err(refusal) => refusal.code(),
     }
-    match calls::purge_asked(alloc, key, has_last, last) {
-        Ok(request) => written(alloc, handle, &request, revision),
-        Err(refusal) => unasked(refusal),
+}
+
+fn seal_in(content: &mut Content) -> u64
+    ensures sealed { result ≡ 0 → Steps Seal Sealed (Some content.old) (Some content.new) }
+    ensures code { IsTrue (holds_bucket (Some content.old)) → ¬ (result ≡ 1) → result ≡ 0 }
+    ensures refused { ¬ (result ≡ 0) → content.new ≡ content.old }
+    ensures closed { IsFalse (holds_bucket (Some content.old)) → result ≡ 32 }
+{
+    match content {
+        Content::Bucket(bucket) => seal(bucket),
+        Content::View(_) | Content::Feed(_) => CLOSED,
     }
 }
 
 /// Ends the writes.
 #[unsafe(no_mangle)]
 pub extern "C" fn kv_seal(alloc: Global, handle: &mut Handle) -> u64
-    ensures sealed { result ≡ 0 → (old : Bucketed) → handle.old.slot.held ≡ Some old →
-        (new : Bucketed) × (handle.new.slot.held ≡ Some new) × IsStep old Seal Sealed new }
+    ensures sealed { result ≡ 0 → Steps Seal Sealed handle.old.slot.held handle.new.slot.held }
+    ensures code { IsTrue (holds_bucket handle.old.slot.held) → ¬ (result ≡ 1) → result ≡ 0 }
     ensures refused { ¬ (result ≡ 0) → handle.new.slot.held ≡ handle.old.slot.held }
-    ensures closed { handle.old.slot.held ≡ None → result ≡ 32 }
+    ensures closed { IsFalse (holds_bucket handle.old.slot.held) → result ≡ 32 }
 {
-    let Some(mut bucket) = handle.take(alloc) else {
+    let Some(mut content) = handle.take(alloc) else {
         return CLOSED;
     };
-    let done = bucket.seal();
-    handle.put(bucket);
-    match done {
-        Ok(()) => 0,
-        Err(refusal) => refusal.code(),
-    }
+    let done = seal_in(&mut content);
+    handle.put(content);
+    done
 }

@@ -11,14 +11,14 @@ use Rattle.std.specs.Global.{Global}
 use Rattle.std.proofs.Crossing.{frees}
 use Rattle.std_alloc.proofs.SendSync.{quiet, lies}
 use Rattle.std_heap.proofs.Global.TheSendSync as heap
-use Rattle.kv_bucket.specs.contracts.bucket.Bucket as Bucket
-use Rattle.kv_c.proofs.Crossing.{bucket_send}
+use Rattle.kv_c.specs.contracts.content.Content as Content
+use Rattle.kv_c.proofs.Crossing.{content_send}
 use Rattle.kv_c.specs.Owned.{Held, slot_owns}
 use Rattle.kv_c.specs.contracts.slot.Slot.{the_row, the_type}
 
 owned : (alloc : Global) (at : Ptr) (held : Held) → Keyless (slot_owns alloc at held)
 owned alloc at None = tt
-owned alloc at (Some bucket) = (lies Bucket.the_row bucket_send at bucket, frees.frees alloc (raw (lone (Bucket.the_row).mir)) at)
+owned alloc at (Some content) = (lies Content.the_row content_send at content, frees.frees alloc (raw (lone (Content.the_row).mir)) at)
 
 pub send : IsSend the_row
 send =

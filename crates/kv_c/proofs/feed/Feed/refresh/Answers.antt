@@ -1,0 +1,7 @@
+use Rattle.std.proofs.Common.{rules}
+use Rattle.kv_c.specs.contracts.feed.Feed.{the_view}
+use Rattle.kv_c.proofs.Feeding.{refreshed}
+use Rattle.kv_c.proofs.feed.Feed.refresh.Goals as goal
+
+pub returns-clause-ok : goal.returns-clause-ok
+returns-clause-ok c = refreshed c.args.version.now c.args.self.now (the_view (record { base = c.self.inside.base; present = c.in_ok-self-inside.field-0; cursor = c.self.inside.cursor })) (search rules)

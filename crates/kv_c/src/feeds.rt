@@ -1,0 +1,240 @@
+//! The functions that C calls for views and for feeds over them, which may be on other threads than their bucket.
+
+ghost use Rattle.std.specs.Prelude.{◌≡◌, ℕ, List, None, Some, IfErr, IfOk, IsFalse, IsTrue, false, if◌then◌else◌, is_some, nat_le, true};
+ghost use Rattle.kv_c.specs.Calling.{Feeds, FeedsBy, Hands, Refreshes, comes_next, holds_feed, options_asked, refresh_code, version_in};
+ghost use Rattle.kv_c.specs.Codes.{feed_code, taken_code};
+ghost use Rattle.kv_keys.specs.Grammar.{are_filters, parts};
+ghost use Rattle.kv_keys.specs.declared.error.KvError.TheVariants.{BadFilter, OutOfMemory};
+ghost use Rattle.kv_model.specs.Acts.{Act};
+ghost use Rattle.kv_model.specs.Answers.{answer_item};
+ghost use Rattle.kv_c.specs.Feeding.{IsRefreshed};
+
+use crate::asking::{Wanted, options_of};
+use crate::codes::{CLOSED, NO_SUCH_START, OLDER_VIEW, OPEN_ALREADY};
+use crate::content::Content;
+use crate::feed::Feed;
+use crate::handing::Item;
+use crate::handle::Handle;
+use crate::names::filters_of;
+use kv_bucket::{KvError, Options, Version};
+use std::alloc::Global;
+
+fn view_of(alloc: Global, version: &Version) -> Result<Box<Content>, KvError>
+    ensures ok { IfOk result (λ b. version_in (Some b.value) ≡ Some version.now) }
+    ensures err { IfErr result (λ e. e ≡ OutOfMemory) }
+{
+    let copy = version.snapshot()?;
+    Ok(Box::new(alloc, Content::View(copy))?)
+}
+
+fn open_view(alloc: Global, version: &Version, view: &mut Handle) -> u64
+    ensures opened { result ≡ 0 → version_in view.new.slot.held ≡ Some version.now }
+    ensures code { view.old.slot.held ≡ None → ¬ (result ≡ 1) → result ≡ 0 }
+    ensures refused { ¬ (result ≡ 0) → view.new.slot.held ≡ view.old.slot.held }
+    ensures open_already { IsTrue (is_some view.old.slot.held) → result ≡ 34 }
+{
+    if view.is_open() {
+        return OPEN_ALREADY;
+    }
+    match view_of(alloc, version) {
+        Ok(content) => {
+            view.put(content);
+            0
+        }
+        Err(refusal) => refusal.code(),
+    }
+}
+
+/// Opens a view of what a bucket has accepted by now. A view of a view is of the same moment.
+#[unsafe(no_mangle)]
+pub extern "C" fn kv_snapshot(alloc: Global, handle: &mut Handle, view: &mut Handle) -> u64
+    ensures opened { result ≡ 0 → version_in view.new.slot.held ≡ version_in handle.old.slot.held }
+    ensures code { IsTrue (is_some (version_in handle.old.slot.held)) → view.old.slot.held ≡ None → ¬ (result ≡ 1) →
+        result ≡ 0 }
+    ensures refused { ¬ (result ≡ 0) → view.new.slot.held ≡ view.old.slot.held }
+    ensures unchanged { handle.new.slot.held ≡ handle.old.slot.held }
+    ensures closed { IsFalse (is_some (version_in handle.old.slot.held)) → result ≡ 32 }
+    ensures open_already { IsTrue (is_some (version_in handle.old.slot.held)) → IsTrue (is_some view.old.slot.held) →
+        result ≡ 34 }
+{
+    let Some(content) = handle.take(alloc) else {
+        return CLOSED;
+    };
+    let done = match content.version() {
+        Some(version) => open_view(alloc, version, view),
+        None => CLOSED,
+    };
+    handle.put(content);
+    done
+}
+
+fn feed_of(
+    alloc: Global,
+    version: &Version,
+    filters: &[u8],
+    options: Options,
+) -> Result<Box<Content>, KvError>
+    ensures ok { IfOk result (λ b. Feeds (Some version.now) (parts filters.now) options (Some b.value)) }
+    ensures filters { IfOk result (λ b. are_filters (parts filters.now) ≡ true) }
+    ensures err { IfErr result (λ e. ¬ (e ≡ OutOfMemory) → (e ≡ BadFilter) × (are_filters (parts filters.now) ≡ false)) }
+{
+    let filters = filters_of(alloc, filters)?;
+    let feed = Feed::open(alloc, version, &filters, options)?;
+    Ok(Box::new(alloc, Content::Feed(feed))?)
+}
+
+#[tactic(auto, using(crate::proofs::Refusing::code_memory))]
+fn open_feed(
+    alloc: Global,
+    version: &Version,
+    filters: &[u8],
+    wanted: &Wanted,
+    feed: &mut Handle,
+) -> u64
+    ensures opened { result ≡ 0 →
+        Feeds (Some version.now) (parts filters.now) (options_asked wanted.now) feed.new.slot.held }
+    ensures code { feed.old.slot.held ≡ None → ¬ (result ≡ 1) → result ≡ feed_code wanted.now.start filters.now }
+    ensures refused { ¬ (result ≡ 0) → feed.new.slot.held ≡ feed.old.slot.held }
+    ensures open_already { IsTrue (is_some feed.old.slot.held) → result ≡ 34 }
+{
+    if feed.is_open() {
+        return OPEN_ALREADY;
+    }
+    let Some(options) = options_of(wanted) else {
+        return NO_SUCH_START;
+    };
+    match feed_of(alloc, version, filters, options) {
+        Ok(content) => {
+            feed.put(content);
+            0
+        }
+        Err(refusal) => refusal.code(),
+    }
+}
+
+/// Opens a feed that begins with a view.
+#[unsafe(no_mangle)]
+pub extern "C" fn kv_feed_open(
+    alloc: Global,
+    view: &mut Handle,
+    filters: &[u8],
+    wanted: &Wanted,
+    feed: &mut Handle,
+) -> u64
+    ensures opened { result ≡ 0 →
+        Feeds (version_in view.old.slot.held) (parts filters.now) (options_asked wanted.now) feed.new.slot.held }
+    ensures code { IsTrue (is_some (version_in view.old.slot.held)) → feed.old.slot.held ≡ None → ¬ (result ≡ 1) →
+        result ≡ feed_code wanted.now.start filters.now }
+    ensures refused { ¬ (result ≡ 0) → feed.new.slot.held ≡ feed.old.slot.held }
+    ensures unchanged { view.new.slot.held ≡ view.old.slot.held }
+    ensures closed { IsFalse (is_some (version_in view.old.slot.held)) → result ≡ 32 }
+    ensures open_already { IsTrue (is_some (version_in view.old.slot.held)) → IsTrue (is_some feed.old.slot.held) →
+        result ≡ 34 }
+{
+    let Some(content) = view.take(alloc) else {
+        return CLOSED;
+    };
+    let done = match content.version() {
+        Some(version) => open_feed(alloc, version, filters, wanted, feed),
+        None => CLOSED,
+    };
+    view.put(content);
+    done
+}
+
+fn refresh_to(feed: &mut Feed, version: &Version) -> u64
+    ensures refreshed { result ≡ 0 → IsRefreshed version.now feed.old feed.new }
+    ensures code { ¬ (result ≡ 1) → result ≡ (if nat_le feed.old.present.last version.now.last then 0 else 36) }
+    ensures refused { ¬ (result ≡ 0) → feed.new ≡ feed.old }
+{
+    if !feed.may_go_on_to(version) {
+        return OLDER_VIEW;
+    }
+    match feed.refresh(version) {
+        Ok(()) => 0,
+        Err(refusal) => refusal.code(),
+    }
+}
+
+fn refresh_in(content: &mut Content, version: &Version) -> u64
+    ensures refreshed { result ≡ 0 → Refreshes (Some version.now) (Some content.old) (Some content.new) }
+    ensures code { ¬ (result ≡ 1) → result ≡ refresh_code (Some version.now) (Some content.old) }
+    ensures refused { ¬ (result ≡ 0) → content.new ≡ content.old }
+    ensures closed { IsFalse (holds_feed (Some content.old)) → result ≡ 32 }
+{
+    match content {
+        Content::Feed(feed) => refresh_to(feed, version),
+        Content::Bucket(_) | Content::View(_) => CLOSED,
+    }
+}
+
+fn refresh(alloc: Global, feed: &mut Handle, version: &Version) -> u64
+    ensures refreshed { result ≡ 0 → Refreshes (Some version.now) feed.old.slot.held feed.new.slot.held }
+    ensures code { ¬ (result ≡ 1) → result ≡ refresh_code (Some version.now) feed.old.slot.held }
+    ensures refused { ¬ (result ≡ 0) → feed.new.slot.held ≡ feed.old.slot.held }
+    ensures closed { IsFalse (holds_feed feed.old.slot.held) → result ≡ 32 }
+{
+    let Some(mut content) = feed.take(alloc) else {
+        return CLOSED;
+    };
+    let done = refresh_in(&mut content, version);
+    feed.put(content);
+    done
+}
+
+/// Goes on to a view: a later one of the same bucket. One that has fewer writes than the feed has gone on to is refused.
+#[unsafe(no_mangle)]
+pub extern "C" fn kv_feed_refresh(alloc: Global, feed: &mut Handle, view: &mut Handle) -> u64
+    ensures refreshed { result ≡ 0 → Refreshes (version_in view.old.slot.held) feed.old.slot.held feed.new.slot.held }
+    ensures code { ¬ (result ≡ 1) → result ≡ refresh_code (version_in view.old.slot.held) feed.old.slot.held }
+    ensures refused { ¬ (result ≡ 0) → feed.new.slot.held ≡ feed.old.slot.held }
+    ensures unchanged { view.new.slot.held ≡ view.old.slot.held }
+    ensures closed { IsFalse (holds_feed feed.old.slot.held) → result ≡ 32 }
+    ensures view_closed { IsFalse (is_some (version_in view.old.slot.held)) → result ≡ 32 }
+{
+    let Some(content) = view.take(alloc) else {
+        return CLOSED;
+    };
+    let done = match content.version() {
+        Some(version) => refresh(alloc, feed, version),
+        None => CLOSED,
+    };
+    view.put(content);
+    done
+}
+
+fn take_in(content: &mut Content, keys: &mut [u8], values: &mut [u8], item: &mut Item) -> u64
+    ensures taken { result ≡ 0 → Hands (Some content.old) item.new keys.new values.new (Some content.new) }
+    ensures code { (began acts : List Act) (n : ℕ) → FeedsBy began acts n (Some content.old) →
+        result ≡ taken_code keys.old values.old (answer_item (comes_next began acts n (Some content.old))) }
+    ensures refused { ¬ (result ≡ 0) → content.new ≡ content.old }
+    ensures closed { IsFalse (holds_feed (Some content.old)) → result ≡ 32 }
+{
+    match content {
+        Content::Feed(feed) => feed.take(keys, values, item),
+        Content::Bucket(_) | Content::View(_) => CLOSED,
+    }
+}
+
+/// Hands out the next item of a feed, as `kv_take` does of a watch.
+#[unsafe(no_mangle)]
+pub extern "C" fn kv_feed_take(
+    alloc: Global,
+    feed: &mut Handle,
+    keys: &mut [u8],
+    values: &mut [u8],
+    item: &mut Item,
+) -> u64
+    ensures taken { result ≡ 0 → Hands feed.old.slot.held item.new keys.new values.new feed.new.slot.held }
+    ensures code { (began acts : List Act) (n : ℕ) → FeedsBy began acts n feed.old.slot.held →
+        result ≡ taken_code keys.old values.old (answer_item (comes_next began acts n feed.old.slot.held)) }
+    ensures refused { ¬ (result ≡ 0) → feed.new.slot.held ≡ feed.old.slot.held }
+    ensures closed { IsFalse (holds_feed feed.old.slot.held) → result ≡ 32 }
+{
+    let Some(mut content) = feed.take(alloc) else {
+        return CLOSED;
+    };
+    let done = take_in(&mut content, keys, values, item);
+    feed.put(content);
+    done
+}

@@ -1,0 +1,271 @@
+//! The functions that C calls to read a bucket, or a view of one.
+
+ghost use Rattle.std.specs.Prelude.{◌≡◌, List, Some, IsFalse, is_some};
+ghost use Rattle.std.specs.Option.{option_copied};
+ghost use Rattle.kv_c.specs.Calling.{AreKeys, IsHistory, IsValue, Shows, StandsAt, holds_bucket, version_in};
+ghost use Rattle.kv_c.specs.Codes.{history_code, keys_code, read_code};
+ghost use Rattle.kv_c.specs.Handing.{numbers_told};
+ghost use Rattle.kv_model.specs.Acts.{Act};
+ghost use Rattle.kv_model.specs.Answers.{Numbers as Told};
+ghost use Rattle.kv_model.specs.Configuration.{Configuration};
+ghost use Rattle.kv_model.specs.Reads.{get_at_of, get_of, history_of, keys_of, status_of};
+ghost use Rattle.kv_model.specs.State.{State, answer_to};
+ghost use Rattle.kv_model.specs.declared.call.Call.TheVariants.{Status};
+
+use crate::codes::CLOSED;
+use crate::content::Content;
+use crate::handing::Item;
+use crate::handle::Handle;
+use crate::numbers::{Numbers, numbers_of};
+use crate::reads;
+use std::alloc::Global;
+
+/// Copies the value of a key to the beginning of `room`; how many bytes it has is told also where there is too little.
+#[unsafe(no_mangle)]
+pub extern "C" fn kv_get(
+    alloc: Global,
+    handle: &mut Handle,
+    key: &[u8],
+    room: &mut [u8],
+    size: &mut usize,
+    revision: &mut u64,
+) -> u64
+    ensures value { result ≡ 0 → (config : Configuration) (acts : List Act) → Shows config acts handle.old.slot.held →
+        IsValue (get_of key.now acts) room.new size.new revision.new }
+    ensures code { (config : Configuration) (acts : List Act) → Shows config acts handle.old.slot.held →
+        ¬ (result ≡ 1) → result ≡ read_code key.now room.old (get_of key.now acts) }
+    ensures unchanged { handle.new.slot.held ≡ handle.old.slot.held }
+    ensures closed { IsFalse (is_some (version_in handle.old.slot.held)) → result ≡ 32 }
+{
+    let Some(content) = handle.take(alloc) else {
+        return CLOSED;
+    };
+    let done = match content.version() {
+        Some(version) => reads::get(alloc, version, key, room, size, revision),
+        None => CLOSED,
+    };
+    handle.put(content);
+    done
+}
+
+/// The same, of a view.
+#[unsafe(no_mangle)]
+pub extern "C" fn kv_view_get(
+    alloc: Global,
+    view: &mut Handle,
+    key: &[u8],
+    room: &mut [u8],
+    size: &mut usize,
+    revision: &mut u64,
+) -> u64
+    ensures value { result ≡ 0 → (config : Configuration) (acts : List Act) → Shows config acts view.old.slot.held →
+        IsValue (get_of key.now acts) room.new size.new revision.new }
+    ensures code { (config : Configuration) (acts : List Act) → Shows config acts view.old.slot.held →
+        ¬ (result ≡ 1) → result ≡ read_code key.now room.old (get_of key.now acts) }
+    ensures unchanged { view.new.slot.held ≡ view.old.slot.held }
+    ensures closed { IsFalse (is_some (version_in view.old.slot.held)) → result ≡ 32 }
+{
+    kv_get(alloc, view, key, room, size, revision)
+}
+
+/// Copies the value that a key had at a revision, in the same way.
+#[unsafe(no_mangle)]
+pub extern "C" fn kv_get_at(
+    alloc: Global,
+    handle: &mut Handle,
+    key: &[u8],
+    at: u64,
+    room: &mut [u8],
+    size: &mut usize,
+    revision: &mut u64,
+) -> u64
+    ensures value { result ≡ 0 → (config : Configuration) (acts : List Act) → Shows config acts handle.old.slot.held →
+        IsValue (get_at_of config.history key.now at acts) room.new size.new revision.new }
+    ensures code { (config : Configuration) (acts : List Act) → Shows config acts handle.old.slot.held →
+        ¬ (result ≡ 1) → result ≡ read_code key.now room.old (get_at_of config.history key.now at acts) }
+    ensures unchanged { handle.new.slot.held ≡ handle.old.slot.held }
+    ensures closed { IsFalse (is_some (version_in handle.old.slot.held)) → result ≡ 32 }
+{
+    let Some(content) = handle.take(alloc) else {
+        return CLOSED;
+    };
+    let done = match content.version() {
+        Some(version) => reads::get_at(alloc, version, key, at, room, size, revision),
+        None => CLOSED,
+    };
+    handle.put(content);
+    done
+}
+
+/// The same, of a view.
+#[unsafe(no_mangle)]
+pub extern "C" fn kv_view_get_at(
+    alloc: Global,
+    view: &mut Handle,
+    key: &[u8],
+    at: u64,
+    room: &mut [u8],
+    size: &mut usize,
+    revision: &mut u64,
+) -> u64
+    ensures value { result ≡ 0 → (config : Configuration) (acts : List Act) → Shows config acts view.old.slot.held →
+        IsValue (get_at_of config.history key.now at acts) room.new size.new revision.new }
+    ensures code { (config : Configuration) (acts : List Act) → Shows config acts view.old.slot.held →
+        ¬ (result ≡ 1) → result ≡ read_code key.now room.old (get_at_of config.history key.now at acts) }
+    ensures unchanged { view.new.slot.held ≡ view.old.slot.held }
+    ensures closed { IsFalse (is_some (version_in view.old.slot.held)) → result ≡ 32 }
+{
+    kv_get_at(alloc, view, key, at, room, size, revision)
+}
+
+/// Copies the value of the retained entry of a key that has this index, oldest first, and tells how many there are.
+/// Past the last one the item says that nothing is left.
+#[unsafe(no_mangle)]
+pub extern "C" fn kv_history(
+    alloc: Global,
+    handle: &mut Handle,
+    key: &[u8],
+    index: usize,
+    room: &mut [u8],
+    item: &mut Item,
+    count: &mut usize,
+) -> u64
+    ensures entry { result ≡ 0 → (config : Configuration) (acts : List Act) → Shows config acts handle.old.slot.held →
+        IsHistory (history_of config.history key.now acts) index count.new item.new room.new }
+    ensures code { (config : Configuration) (acts : List Act) → Shows config acts handle.old.slot.held →
+        ¬ (result ≡ 1) → result ≡ history_code key.now index room.old (history_of config.history key.now acts) }
+    ensures unchanged { handle.new.slot.held ≡ handle.old.slot.held }
+    ensures closed { IsFalse (is_some (version_in handle.old.slot.held)) → result ≡ 32 }
+{
+    let Some(content) = handle.take(alloc) else {
+        return CLOSED;
+    };
+    let done = match content.version() {
+        Some(version) => reads::history(alloc, version, key, index, room, item, count),
+        None => CLOSED,
+    };
+    handle.put(content);
+    done
+}
+
+/// The same, of a view.
+#[unsafe(no_mangle)]
+pub extern "C" fn kv_view_history(
+    alloc: Global,
+    view: &mut Handle,
+    key: &[u8],
+    index: usize,
+    room: &mut [u8],
+    item: &mut Item,
+    count: &mut usize,
+) -> u64
+    ensures entry { result ≡ 0 → (config : Configuration) (acts : List Act) → Shows config acts view.old.slot.held →
+        IsHistory (history_of config.history key.now acts) index count.new item.new room.new }
+    ensures code { (config : Configuration) (acts : List Act) → Shows config acts view.old.slot.held →
+        ¬ (result ≡ 1) → result ≡ history_code key.now index room.old (history_of config.history key.now acts) }
+    ensures unchanged { view.new.slot.held ≡ view.old.slot.held }
+    ensures closed { IsFalse (is_some (version_in view.old.slot.held)) → result ≡ 32 }
+{
+    kv_history(alloc, view, key, index, room, item, count)
+}
+
+/// Copies the keys that match a filter and have a value, each with a zero byte behind it, in the order of their last
+/// puts, and tells how many there are. How many bytes that are is told also where there is too little room.
+#[unsafe(no_mangle)]
+pub extern "C" fn kv_keys(
+    alloc: Global,
+    handle: &mut Handle,
+    filter: &[u8],
+    room: &mut [u8],
+    size: &mut usize,
+    count: &mut usize,
+) -> u64
+    ensures keys { result ≡ 0 → (config : Configuration) (acts : List Act) → Shows config acts handle.old.slot.held →
+        AreKeys (keys_of filter.now acts) count.new size.new room.new }
+    ensures code { (config : Configuration) (acts : List Act) → Shows config acts handle.old.slot.held →
+        ¬ (result ≡ 1) → result ≡ keys_code filter.now room.old (keys_of filter.now acts) }
+    ensures unchanged { handle.new.slot.held ≡ handle.old.slot.held }
+    ensures closed { IsFalse (is_some (version_in handle.old.slot.held)) → result ≡ 32 }
+{
+    let Some(content) = handle.take(alloc) else {
+        return CLOSED;
+    };
+    let done = match content.version() {
+        Some(version) => reads::keys(alloc, version, filter, room, size, count),
+        None => CLOSED,
+    };
+    handle.put(content);
+    done
+}
+
+/// The same, of a view.
+#[unsafe(no_mangle)]
+pub extern "C" fn kv_view_keys(
+    alloc: Global,
+    view: &mut Handle,
+    filter: &[u8],
+    room: &mut [u8],
+    size: &mut usize,
+    count: &mut usize,
+) -> u64
+    ensures keys { result ≡ 0 → (config : Configuration) (acts : List Act) → Shows config acts view.old.slot.held →
+        AreKeys (keys_of filter.now acts) count.new size.new room.new }
+    ensures code { (config : Configuration) (acts : List Act) → Shows config acts view.old.slot.held →
+        ¬ (result ≡ 1) → result ≡ keys_code filter.now room.old (keys_of filter.now acts) }
+    ensures unchanged { view.new.slot.held ≡ view.old.slot.held }
+    ensures closed { IsFalse (is_some (version_in view.old.slot.held)) → result ≡ 32 }
+{
+    kv_keys(alloc, view, filter, room, size, count)
+}
+
+fn status_of_bucket(content: &Content, numbers: &mut Numbers) -> u64
+    ensures told { (state : State) → StandsAt state (Some content.now) →
+        (result ≡ 0) × (answer_to state Status ≡ numbers_told numbers.new) }
+    ensures closed { IsFalse (holds_bucket (Some content.now)) → result ≡ 32 }
+{
+    match content {
+        Content::Bucket(bucket) => {
+            *numbers = numbers_of(bucket.version(), bucket.watches());
+            0
+        }
+        Content::View(_) | Content::Feed(_) => CLOSED,
+    }
+}
+
+/// Hands out the numbers of a bucket.
+#[unsafe(no_mangle)]
+pub extern "C" fn kv_get_status(alloc: Global, handle: &mut Handle, numbers: &mut Numbers) -> u64
+    ensures told { (state : State) → StandsAt state handle.old.slot.held →
+        (result ≡ 0) × (answer_to state Status ≡ numbers_told numbers.new) }
+    ensures unchanged { handle.new.slot.held ≡ handle.old.slot.held }
+    ensures closed { IsFalse (holds_bucket handle.old.slot.held) → result ≡ 32 }
+{
+    let Some(content) = handle.take(alloc) else {
+        return CLOSED;
+    };
+    let done = status_of_bucket(&content, numbers);
+    handle.put(content);
+    done
+}
+
+/// Hands out the numbers of a view, which has no watches.
+#[unsafe(no_mangle)]
+pub extern "C" fn kv_view_get_status(alloc: Global, view: &mut Handle, numbers: &mut Numbers) -> u64
+    ensures told { (config : Configuration) (acts : List Act) → Shows config acts view.old.slot.held →
+        (result ≡ 0) × (numbers_told numbers.new ≡ Told (status_of config.history acts) 0) }
+    ensures unchanged { view.new.slot.held ≡ view.old.slot.held }
+    ensures closed { IsFalse (is_some (version_in view.old.slot.held)) → result ≡ 32 }
+{
+    let Some(content) = view.take(alloc) else {
+        return CLOSED;
+    };
+    let done = match content.version() {
+        Some(version) => {
+            *numbers = numbers_of(version, 0);
+            0
+        }
+        None => CLOSED,
+    };
+    view.put(content);
+    done
+}
