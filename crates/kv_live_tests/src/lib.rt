@@ -5,3 +5,5 @@
 mod buckets;
 #[cfg(test)]
 mod examples;
+#[cfg(test)]
+mod waits;
