@@ -84,7 +84,8 @@ static bool decoded(text word, size_t *size) {
 
 static void encoded(const uint8_t *bytes, size_t size) {
     for (size_t i = 0; i < size; i += 3) {
-        unsigned bits = (unsigned)bytes[i] << 16 | (i + 1 < size ? bytes[i + 1] : 0u) << 8 | (i + 2 < size ? bytes[i + 2] : 0u);
+        unsigned second = i + 1 < size ? bytes[i + 1] : 0, third = i + 2 < size ? bytes[i + 2] : 0;
+        unsigned bits = (unsigned)bytes[i] << 16 | second << 8 | third;
         putchar(letters[bits >> 18]);
         putchar(letters[bits >> 12 & 63]);
         putchar(i + 1 < size ? letters[bits >> 6 & 63] : '=');
@@ -113,12 +114,12 @@ static void wrote(uint64_t code, const uint64_t *revision) {
         printf("{\"revision\":%llu}\n", (unsigned long long)*revision);
 }
 
-static void got(uint64_t code, text name, size_t size, uint64_t revision) {
+static void got(uint64_t code, text name, const size_t *size, const uint64_t *revision) {
     if (code) {
         refused(code, 0);
         return;
     }
-    entry(name.at, name.size, "PUT", revision, size, true, 0);
+    entry(name.at, name.size, "PUT", *revision, *size, true, 0);
     putchar('\n');
 }
 
@@ -153,15 +154,26 @@ static void keys(text filter) {
     puts("]}");
 }
 
+/* Which option of a watch a word is: history, updates, from=R, nodeletes, meta, or none. */
+static int option(text word, uint64_t *from) {
+    static const char *const plain[] = {"history", "updates", "", "nodeletes", "meta"};
+    if (word.size > 5 && !memcmp(word.at, "from=", 5)) {
+        text rest = {word.at + 5, word.size - 5};
+        return number(rest, from) ? 2 : 5;
+    }
+    for (int i = 0; i < 5; i++)
+        if (word.size && is(word, plain[i]))
+            return i;
+    return 5;
+}
+
 static bool watch(text *words, size_t count) {
     kv_options options = {KV_LATEST, 0, false, false};
     bool given[5] = {false};
     unsigned starts = 0;
     uint64_t code, id, handed;
     for (size_t i = 2; i < count; i++) {
-        text from = {words[i].at + 5, words[i].size - 5};
-        int which = is(words[i], "history") ? 0 : is(words[i], "updates") ? 1 : is(words[i], "nodeletes") ? 3 :
-            is(words[i], "meta") ? 4 : words[i].size > 5 && !memcmp(words[i].at, "from=", 5) && number(from, &options.from) ? 2 : 5;
+        int which = option(words[i], &options.from);
         if (which == 5 || given[which])
             return false;
         given[which] = true;
@@ -201,7 +213,8 @@ static void take(uint64_t id, uint64_t most) {
             entry(key, item.key_size, ops[item.op], item.revision, item.size, item.has_value, id);
             putchar('\n');
         } else
-            printf("{\"%s\":true,\"watch\":%llu}\n", item.kind == KV_MARKER ? "marker" : "empty", (unsigned long long)id);
+            printf("{\"%s\":true,\"watch\":%llu}\n", item.kind == KV_MARKER ? "marker" : "empty",
+                   (unsigned long long)id);
     }
 }
 
@@ -211,7 +224,8 @@ static void status(void) {
     if (code)
         refused(code, 0);
     else
-        printf("{\"bucket\":\"kv\",\"history\":%llu,\"last\":%llu,\"sealed\":%s,\"stored\":%llu,\"values\":%llu,\"watches\":%llu}\n",
+        printf("{\"bucket\":\"kv\",\"history\":%llu,\"last\":%llu,\"sealed\":%s,\"stored\":%llu,\"values\":%llu,"
+               "\"watches\":%llu}\n",
                (unsigned long long)s.history, (unsigned long long)s.last, s.sealed ? "true" : "false",
                (unsigned long long)s.stored, (unsigned long long)s.values, (unsigned long long)s.watches);
 }
@@ -233,16 +247,20 @@ static void place(text name) {
 static bool done(text *w, size_t count) {
     uint64_t n = 0, most = 0, revision = 0;
     size_t size;
-    if (count == 3 && (is(w[0], "put") || is(w[0], "create")) && decoded(w[2], &size))
-        wrote((is(w[0], "put") ? kv_put : kv_create)(&bucket, w[1].at, w[1].size, value, size, &revision), &revision);
+    if (count == 3 && is(w[0], "put") && decoded(w[2], &size))
+        wrote(kv_put(&bucket, w[1].at, w[1].size, value, size, &revision), &revision);
+    else if (count == 3 && is(w[0], "create") && decoded(w[2], &size))
+        wrote(kv_create(&bucket, w[1].at, w[1].size, value, size, &revision), &revision);
     else if (count == 4 && is(w[0], "update") && number(w[2], &n) && decoded(w[3], &size))
         wrote(kv_update(&bucket, w[1].at, w[1].size, value, size, n, &revision), &revision);
-    else if ((count == 2 || (count == 3 && number(w[2], &n))) && (is(w[0], "delete") || is(w[0], "purge")))
-        wrote((is(w[0], "delete") ? kv_delete : kv_purge)(&bucket, w[1].at, w[1].size, count == 3, n, &revision), &revision);
+    else if ((count == 2 || (count == 3 && number(w[2], &n))) && is(w[0], "delete"))
+        wrote(kv_delete(&bucket, w[1].at, w[1].size, count == 3, n, &revision), &revision);
+    else if ((count == 2 || (count == 3 && number(w[2], &n))) && is(w[0], "purge"))
+        wrote(kv_purge(&bucket, w[1].at, w[1].size, count == 3, n, &revision), &revision);
     else if (count == 2 && is(w[0], "get"))
-        n = kv_get(&bucket, w[1].at, w[1].size, shown, sizeof shown, &size, &revision), got(n, w[1], size, revision);
+        got(kv_get(&bucket, w[1].at, w[1].size, shown, sizeof shown, &size, &revision), w[1], &size, &revision);
     else if (count == 3 && is(w[0], "get") && number(w[2], &n))
-        n = kv_get_at(&bucket, w[1].at, w[1].size, n, shown, sizeof shown, &size, &revision), got(n, w[1], size, revision);
+        got(kv_get_at(&bucket, w[1].at, w[1].size, n, shown, sizeof shown, &size, &revision), w[1], &size, &revision);
     else if (count == 2 && is(w[0], "history"))
         history(w[1]);
     else if (count == 2 && is(w[0], "keys"))

@@ -106,6 +106,6 @@ int main(int argc, char **argv) {
     for (int i = 0; i < 3; i++)
         pthread_join(readers[i], NULL);
     kv_close(&bucket);
-    puts("one writer, three readers, a feed: each read is of one moment, none goes back, and each write is handed out once");
+    puts("one writer, three readers, a feed: each read is of one moment, and each write is handed out once");
     return 0;
 }

@@ -1,7 +1,9 @@
 //! The functions that C calls for views and for feeds over them, which may be on other threads than their bucket.
 
-ghost use Rattle.std.specs.Prelude.{◌≡◌, ℕ, List, None, Some, IfErr, IfOk, IsFalse, IsTrue, false, if◌then◌else◌, is_some, nat_le, true};
-ghost use Rattle.kv_c.specs.Calling.{Feeds, FeedsBy, Hands, Refreshes, comes_next, holds_feed, options_asked, refresh_code, version_in};
+ghost use Rattle.std.specs.Prelude.{◌≡◌, ℕ, List, None, Some, IfErr, IfOk, IsFalse, IsTrue, false, is_some, true};
+ghost use Rattle.std.specs.Prelude.{if◌then◌else◌, nat_le};
+ghost use Rattle.kv_c.specs.Calling.{Feeds, FeedsBy, Hands, Refreshes, comes_next, holds_feed};
+ghost use Rattle.kv_c.specs.Calling.{options_asked, refresh_code, version_in};
 ghost use Rattle.kv_c.specs.Codes.{feed_code, taken_code};
 ghost use Rattle.kv_keys.specs.Grammar.{are_filters, parts};
 ghost use Rattle.kv_keys.specs.declared.error.KvError.TheVariants.{BadFilter, OutOfMemory};
@@ -76,7 +78,8 @@ fn feed_of(
 ) -> Result<Box<Content>, KvError>
     ensures ok { IfOk result (λ b. Feeds (Some version.now) (parts filters.now) options (Some b.value)) }
     ensures filters { IfOk result (λ b. are_filters (parts filters.now) ≡ true) }
-    ensures err { IfErr result (λ e. ¬ (e ≡ OutOfMemory) → (e ≡ BadFilter) × (are_filters (parts filters.now) ≡ false)) }
+    ensures err { IfErr result
+        (λ e. ¬ (e ≡ OutOfMemory) → (e ≡ BadFilter) × (are_filters (parts filters.now) ≡ false)) }
 {
     let filters = filters_of(alloc, filters)?;
     let feed = Feed::open(alloc, version, &filters, options)?;
@@ -182,7 +185,7 @@ fn refresh(alloc: Global, feed: &mut Handle, version: &Version) -> u64
     done
 }
 
-/// Goes on to a view: a later one of the same bucket. One that has fewer writes than the feed has gone on to is refused.
+/// Goes on to a view: a later one of the same bucket. One with fewer writes than the feed has gone on to is refused.
 #[unsafe(no_mangle)]
 pub extern "C" fn kv_feed_refresh(alloc: Global, feed: &mut Handle, view: &mut Handle) -> u64
     ensures refreshed { result ≡ 0 → Refreshes (version_in view.old.slot.held) feed.old.slot.held feed.new.slot.held }

@@ -1,6 +1,6 @@
 //! Reads of a version, for a bucket and for a view.
 
-ghost use Rattle.std.specs.Prelude.{◌≡◌, ◌++◌, ◌∷◌, [], List, MatchResult, Some, false, length, map, take, IfErr, IfOk, IfSome, is_some, true};
+ghost use Rattle.std.specs.Prelude.{◌≡◌, List, MatchResult, Some, false, length, map, IfErr, IfOk, is_some, true};
 ghost use Rattle.std.specs.List.{flat_map, slice_get};
 ghost use Rattle.kv_c.specs.Calling.{AreKeys, IsHistory, IsValue};
 ghost use Rattle.kv_c.specs.Codes.{found_code, history_code, keys_code, listed, read_code, value_code};

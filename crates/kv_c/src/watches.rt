@@ -28,7 +28,8 @@ fn opened(
     options: Options,
     number: &mut u64,
 ) -> u64
-    ensures opened { result ≡ 0 → IsStep bucket.old (Watch (parts filters.now) options) (Watching number.new) bucket.new }
+    ensures opened { result ≡ 0 →
+        IsStep bucket.old (Watch (parts filters.now) options) (Watching number.new) bucket.new }
     ensures code { (state : State) → Represents state bucket.old → ¬ (result ≡ 1) →
         result ≡ watch_code filters.now state }
     ensures refused { ¬ (result ≡ 0) → bucket.new ≡ bucket.old }
@@ -47,7 +48,8 @@ fn watch(
     number: &mut u64,
 ) -> u64
     ensures opened { result ≡ 0 →
-        Steps (Watch (parts filters.now) (options_asked wanted.now)) (Watching number.new) (Some content.old) (Some content.new) }
+        Steps (Watch (parts filters.now) (options_asked wanted.now)) (Watching number.new)
+        (Some content.old) (Some content.new) }
     ensures code { (state : State) → StandsAt state (Some content.old) → ¬ (result ≡ 1) →
         result ≡ (if nat_lt 3 wanted.now.start then 35 else watch_code filters.now state) }
     ensures refused { ¬ (result ≡ 0) → content.new ≡ content.old }
@@ -72,7 +74,8 @@ pub extern "C" fn kv_watch(
     number: &mut u64,
 ) -> u64
     ensures opened { result ≡ 0 →
-        Steps (Watch (parts filters.now) (options_asked wanted.now)) (Watching number.new) handle.old.slot.held handle.new.slot.held }
+        Steps (Watch (parts filters.now) (options_asked wanted.now)) (Watching number.new)
+        handle.old.slot.held handle.new.slot.held }
     ensures code { (state : State) → StandsAt state handle.old.slot.held → ¬ (result ≡ 1) →
         result ≡ (if nat_lt 3 wanted.now.start then 35 else watch_code filters.now state) }
     ensures refused { ¬ (result ≡ 0) → handle.new.slot.held ≡ handle.old.slot.held }
