@@ -1,14 +1,39 @@
-"""Tests of vilgoued.py over libvilgoued.so: python3 -m unittest test_vilgoued."""
+"""Tests of vilgoued.py over libvilgoued.so: python3 -m unittest test_vilgoued. Where VILGOUED_SERVER is the URL of a NATS server,
+they are the tests of vilgoued_nats.py over it, and those that differ there are expected to fail."""
+import itertools
+import os
 import threading
 import unittest
 
 import vilgoued
-from vilgoued import Bucket, Entry, Snapshot
+from vilgoued import Entry, Snapshot
+
+server = os.environ.get("VILGOUED_SERVER")
+if server:
+    import vilgoued_nats
+fresh = itertools.count(1)
+
+
+def open_bucket(name, *arguments, **settings):
+    """The bucket of this name, in this process or on the server."""
+    if server:
+        return vilgoued_nats.Bucket(server, name, *arguments, **settings)
+    return vilgoued.Bucket(name, *arguments, **settings)
+
+
+def fresh_bucket(**settings):
+    """A bucket with no writes."""
+    return open_bucket(f"settings-{os.getpid()}-{next(fresh)}", **settings)
+
+
+def differs_on_a_server(reason):
+    """Marks a test that has to fail there, and tells why."""
+    return unittest.expectedFailure if server else lambda test: test
 
 
 class Writes(unittest.TestCase):
     def setUp(self):
-        self.bucket = Bucket("settings", history=3)
+        self.bucket = fresh_bucket(history=3)
         self.addCleanup(self.bucket.close)
 
     def test_put_and_get(self):
@@ -56,10 +81,20 @@ class Writes(unittest.TestCase):
             self.bucket["a"] = b"1"
         self.assertTrue(self.bucket.status().sealed)
 
-    def test_limits(self):
-        with Bucket("small", value_limit=2, write_limit=1) as bucket:
+    def test_value_limit(self):
+        with fresh_bucket(value_limit=2) as bucket:
             with self.assertRaises(vilgoued.ValueTooLarge):
                 bucket["a"] = b"123"
+            bucket["a"] = b"12"
+
+    @differs_on_a_server("headers count for the limit of a value, and all but a put have headers")
+    def test_value_limit_of_a_create(self):
+        with fresh_bucket(value_limit=2) as bucket:
+            bucket.create("a", b"12")
+
+    @differs_on_a_server("writes have no limit there")
+    def test_write_limit(self):
+        with fresh_bucket(write_limit=1) as bucket:
             bucket["a"] = b"12"
             with self.assertRaises(vilgoued.JournalFull):
                 bucket["a"] = b"12"
@@ -101,10 +136,16 @@ class Writes(unittest.TestCase):
         self.bucket.watch(">")
         self.assertEqual(self.bucket.status(), (3, 2, 2, 2, 1, False))
 
+    @differs_on_a_server("only what is retained is stored there")
+    def test_status_after_a_purge(self):
+        self.bucket["a"] = b"1"
+        self.bucket.purge("a")
+        self.assertEqual(self.bucket.status(), (3, 2, 2, 1, 0, False))
+
 
 class Watches(unittest.TestCase):
     def setUp(self):
-        self.bucket = Bucket("settings", history=3)
+        self.bucket = fresh_bucket(history=3)
         self.addCleanup(self.bucket.close)
         self.bucket["app.port"] = b"80"
         self.bucket["app.port"] = b"8080"
@@ -136,6 +177,24 @@ class Watches(unittest.TestCase):
         self.bucket.delete("app.port")
         self.assertEqual([entry.marker or entry.key for entry in watch], ["db.port", True])
 
+    def test_latest_of_several(self):
+        self.bucket["db.port"] = b"1"
+        self.bucket.delete("app.port")
+        self.assertEqual([it.marker or it.revision for it in self.bucket.watch(">")], [4, 5, True])
+        self.assertEqual([it.marker or it.revision for it in self.bucket.watch(">", ignore_deletes=True)], [4, True])
+
+    def test_filters_that_overlap(self):
+        watch = self.bucket.watch("db.>,app.port,*.port", history=True)
+        self.assertEqual([it.marker or it.revision for it in watch], [1, 2, 3, True])
+
+    @differs_on_a_server("what is overwritten before it is asked for is never handed out")
+    def test_a_watch_that_lags(self):
+        watch = self.bucket.watch("db.port")
+        for _ in range(4):
+            self.bucket["db.port"] = b"1"
+        self.assertEqual([it.marker or it.revision for it in watch], [3, True, 4, 5, 6, 7])
+
+    @differs_on_a_server("watches have no limit there")
     def test_too_many(self):
         watches = [self.bucket.watch(">") for _ in range(64)]
         with self.assertRaises(vilgoued.TooManyWatches):
@@ -148,12 +207,12 @@ class Refusals(unittest.TestCase):
     def test_names(self):
         for name in ("", "no name", "x" * 65, b"\xff"):
             with self.assertRaises(vilgoued.BadBucket):
-                Bucket(name)
+                open_bucket(name)
         with self.assertRaises(vilgoued.BadConfig):
-            Bucket("settings", history=65)
+            fresh_bucket(history=65)
 
     def test_keys_and_filters(self):
-        with Bucket("settings") as bucket:
+        with fresh_bucket() as bucket:
             for key in ("", "a..b", ".a", "a b", b"a\xff", "x" * 256):
                 with self.assertRaises(vilgoued.BadKey):
                     bucket.put(key, b"1")
@@ -164,26 +223,26 @@ class Refusals(unittest.TestCase):
                     bucket.watch(filters)
 
     def test_closed(self):
-        bucket = Bucket("settings")
+        bucket = fresh_bucket()
         watch = bucket.watch(">")
         bucket.close()
         bucket.close()
-        for call in (lambda: bucket.put("a", b""), lambda: bucket.get("a"), lambda: next(watch), bucket.status,
-                     bucket.seal, bucket.snapshot):
+        for call in (lambda: bucket.put("a", b""), lambda: bucket.get("a"), lambda: next(watch), bucket.status, bucket.seal):
             with self.assertRaises(vilgoued.Closed):
                 call()
 
     def test_numbers(self):
-        with Bucket("settings") as bucket:
+        with fresh_bucket() as bucket:
             with self.assertRaises(OverflowError):
                 bucket.update("a", b"", last=-1)
             with self.assertRaises(OverflowError):
                 bucket.delete("a", last=1 << 64)
 
 
+@unittest.skipIf(server, "a server has no snapshots")
 class Snapshots(unittest.TestCase):
     def test_a_moment(self):
-        with Bucket("settings") as bucket:
+        with fresh_bucket() as bucket:
             bucket["a"] = b"1"
             with bucket.snapshot() as view:
                 bucket["a"] = b"2"
@@ -229,10 +288,16 @@ class Snapshots(unittest.TestCase):
             with self.assertRaises(vilgoued.Closed):
                 next(feed)
 
+    def test_closed(self):
+        bucket = fresh_bucket()
+        bucket.close()
+        with self.assertRaises(vilgoued.Closed):
+            bucket.snapshot()
+
     def test_on_other_threads(self):
         lock = threading.Lock()
         wrong = []
-        with Bucket("settings") as bucket:
+        with fresh_bucket() as bucket:
             bucket["a"] = b"1"
 
             def read():

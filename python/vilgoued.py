@@ -158,7 +158,16 @@ def _load():
     return library
 
 
-_lib = _load()
+class _Lib:
+    """The functions of the library, which is loaded when the first of them is wanted."""
+
+    def __getattr__(self, name):
+        if "loaded" not in self.__dict__:
+            self.loaded = _load()
+        return getattr(self.loaded, name)
+
+
+_lib = _Lib()
 
 
 def _text(text):
