@@ -3,11 +3,13 @@ pub mod ByteByByte
 pub mod Counting
 pub mod Dealt
 pub mod Ending
+pub mod Lacking
 pub mod Lines
 pub mod Parsing
 pub mod Plans
+pub mod Pouring
 pub mod Progress
-pub mod Putting
+pub mod Programs
 pub mod Racing
 pub mod Reached
 pub mod Reading

@@ -4,17 +4,23 @@ use Rattle.std.specs.Prelude.{OnOk}
 use Rattle.kv_keys.specs.declared.error.KvError.{KvError}
 use Rattle.kv_keys.specs.declared.error.KvError.TheVariants.{OutOfMemory, BadBucket, BadConfig, BadKey, BadFilter, OptionsClash, ValueTooLarge, Sealed, JournalFull, KeyExists, WrongLastRevision, KeyNotFound, NoSuchWatch, TooManyWatches, NoReader, BadCommand, ReadFault, WriteFault, BadFloor, WatchBehind, Lagged}
 use Rattle.kv_script.specs.Commands.{Meaning, Fails, is_skipped, line_command}
-use Rattle.kv_run.specs.Planning.{Planned, add_read, after_command}
+use Rattle.kv_run.specs.Planning.{Planned, add_read, after_command, refuse, takes_part}
 
 -- a skipped line adds nothing
 pub skipped_adds : (plan : Planned) (line : List ℕ) → is_skipped line ≡ true → plan ≡ after_command plan line
 unfolding after_command
 skipped_adds plan line skips = rw skips refl
 
--- another line adds what it asks for
-pub read_adds : (plan : Planned) (line : List ℕ) (outcome : Result Meaning KvError) → is_skipped line ≡ false → line_command line ≡ outcome → add_read plan outcome ≡ after_command plan line
+-- a line that takes no part is refused
+pub other_adds : (plan : Planned) (line : List ℕ) → is_skipped line ≡ false → takes_part line ≡ false → refuse plan BadCommand ≡ after_command plan line
 unfolding after_command
-read_adds plan line outcome reads is = rw (reads, is) refl
+other_adds plan line reads others = rw (reads, others) refl
+
+-- another line adds what it asks for
+pub read_adds : (plan : Planned) (line : List ℕ) (outcome : Result Meaning KvError) → is_skipped line ≡ false → takes_part line ≡ true → line_command line ≡ outcome
+    → add_read plan outcome ≡ after_command plan line
+unfolding after_command
+read_adds plan line outcome reads part is = rw (reads, part, is) refl
 
 -- a refusal for its own cause is that of the grammar
 pub refused_by : (error : KvError) (outcome : Result Meaning KvError) → Fails error outcome → error ≢ OutOfMemory → outcome ≡ Err error

@@ -1,5 +1,5 @@
 -- A race's script byte by byte gives the plan of its lines.
-use Rattle.std.proofs.Common.{◌≡◌, ℕ, ◌<◌, ◌==◌, nat_lt, true, false, cond, List, [], ◌∷◌, ◌++◌, length, length-append, Err, append-nil, Option, arith, refl, ap, sym, subst, ◌∙◌, inl, inr}
+use Rattle.std.proofs.Common.{◌≡◌, ℕ, ◌<◌, ◌==◌, nat_lt, Bool, true, false, cond, List, [], ◌∷◌, ◌++◌, length, length-append, append-nil, Option, arith, refl, ap, sym, subst, ◌∙◌, inl, inr}
 use Rattle.std.specs.Io.BufRead.{strip_last}
 use Rattle.std.specs.Io.KnownBytes.{Consumes}
 use Rattle.std.specs.List.{onto_first}
@@ -7,7 +7,7 @@ use Rattle.std.proofs.KnownBytes.{Consumes-trans}
 use Rattle.std.proofs.lemmas.Bool.{cases_Bool, ltb-true}
 use Rattle.kv_keys.specs.declared.error.KvError.TheVariants.{BadCommand}
 use Rattle.kv_script.specs.Commands.{is_skipped}
-use Rattle.kv_run.specs.Planning.{Planned, add_read, after_command, after_line, after_lines, nothing}
+use Rattle.kv_run.specs.Planning.{Planned, after_command, after_line, after_lines, nothing, refuse, takes_part}
 use Rattle.kv_run.specs.Lines.{lines_of}
 use Rattle.kv_run.specs.Races.{no_text, plan_of}
 use Rattle.kv_run.specs.inside.Reading.{Reading, beginning, step, after_bytes, line_ended}
@@ -16,17 +16,22 @@ use Rattle.kv_run.proofs.ByteByByte.{onto, onto-onto_first, lines_of-onto, lines
 use Rattle.kv_run.proofs.Texts.{long_command, skipped_more, skipped_strip, strip_length}
 
 -- of a line that is too long only the first byte counts
-long_adds : (plan : Planned) (line : List ℕ) → KEPT_BYTES < length line → after_line plan line ≡ cond (is_skipped line) plan (add_read plan (Err BadCommand))
+long_adds : (plan : Planned) (line : List ℕ) → KEPT_BYTES < length line → after_line plan line ≡ cond (is_skipped line) plan (refuse plan BadCommand)
 unfolding after_line after_command
 long_adds plan line h =
     let stripped : 1400000 < length (strip_last 13 line) = omega (arith, strip_length line) in
-    rw (skipped_strip line (omega arith), long_command (strip_last 13 line) stripped) refl
+    rw (skipped_strip line (omega arith), long_command (strip_last 13 line) stripped)
+    (ap (cond (is_skipped line) plan) (either (takes_part (strip_last 13 line))))
+  where
+    either : (part : Bool) → cond part (refuse plan BadCommand) (refuse plan BadCommand) ≡ refuse plan BadCommand
+    either true = refl
+    either false = refl
 
 -- what follows a line that is too long changes nothing
 long_same : (plan : Planned) (line more : List ℕ) → KEPT_BYTES < length line → after_line plan (line ++ more) ≡ after_line plan line
 long_same plan line more h =
     long_adds plan (line ++ more) (omega (arith, length-append line more))
-    ∙ ap (λ skips. cond skips plan (add_read plan (Err BadCommand))) (skipped_more line more (omega arith))
+    ∙ ap (λ skips. cond skips plan (refuse plan BadCommand)) (skipped_more line more (omega arith))
     ∙ sym (long_adds plan line h)
 
 abbrev After : Reading Planned → List ℕ → Reading Planned

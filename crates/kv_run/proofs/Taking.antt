@@ -1,6 +1,6 @@
 -- Takes in a row.
-use Rattle.std.proofs.Common.{◌≡◌, ◌⊎◌, inl, inr, ◌≤◌, ◌+◌, ◌-◌, ◌<◌, ℕ, suc, zero, true, false, cond, List, [], ◌∷◌, ◌++◌, length, take, drop, take-append-drop, length-append, append_assoc, append-nil, refl, sym, ap, subst, ◌∙◌, Ok, arith}
-use Rattle.std.specs.Io.BufRead.{strip_last}
+use Rattle.std.proofs.Common.{◌≡◌, ◌⊎◌, inl, inr, ◌≤◌, ◌+◌, ◌-◌, ◌<◌, ℕ, suc, zero, true, false, cond, List, [], ◌∷◌, ◌++◌, length, take, drop, take-append-drop, length-append, append_assoc, append-nil, Option, refl, sym, ap, subst, ◌∙◌, Ok, arith}
+use Rattle.std.specs.Io.KnownBytes.{Appends}
 use Rattle.std.proofs.lemmas.List.{take_at}
 use Rattle.kv_bucket.specs.Held.{Bucketed, Represents}
 use Rattle.kv_model.specs.State.{State, after, answer_to}
@@ -9,9 +9,12 @@ use Rattle.std.specs.Result.{result_unwrap_or}
 use Rattle.kv_script.specs.Answered.{taken_text}
 use Rattle.kv_script.specs.Commands.{Meaning, Status, Take, line_command}
 use Rattle.kv_run.specs.Steps.{Does, EndsBetween, EndsEarly}
-use Rattle.kv_run.specs.Text.{Step, hands_out, line_steps, line_text, takes, steps_text, steps_next}
-use Rattle.kv_run.specs.inside.Written.{AppendsFront}
-use Rattle.kv_run.proofs.Texts.{AreWhole, line_steps-whole, steps_text-whole}
+use Rattle.kv_run.specs.Outcome.{IsWholeLines}
+use Rattle.kv_run.specs.Text.{Step, hands_out, takes, steps_text, steps_next}
+use Rattle.kv_run.specs.inside.Written.{AppendsFront, Pours, PoursFront, Puts}
+use Rattle.kv_run.proofs.Pouring.{pours-trans, pours_none, pours_on, pours_out, puts_more, puts_waiting}
+use Rattle.kv_run.proofs.Texts.{AreWhole, steps_text-whole, taken_whole}
+use Rattle.kv_run.proofs.WholeLines.{IsWholeLines-append, IsWholeLines-nil}
 
 pub steps_text-append : (xs ys : List Step) → steps_text (xs ++ ys) ≡ steps_text xs ++ steps_text ys
 steps_text-append [] ys = refl
@@ -143,6 +146,91 @@ module _ (state : State) (watch count made : ℕ) (before now : List ℕ) (bucke
       nothing : (count made : ℕ) → count ≤ made → count - made ≡ 0
       nothing count made full = omega arith
 
+-- ---- takes whose answers are poured
+
+-- so many takes were made of a count, and what they answered waits or went
+pub record Poured (state : State) (watch count made : ℕ) (held : Option (List ℕ)) (waited : List ℕ) (holds : Option (List ℕ)) (waits : List ℕ) (bucket : Bucketed) : Type 0 where
+  pub said : List ℕ
+  pub took : Took state watch count made [] said bucket
+  pub whole : IsWholeLines said
+  pub poured : Pours said held waited holds waits
+
+pub poured_none : (state : State) (watch count : ℕ) (held : Option (List ℕ)) (out : List ℕ) (bucket : Bucketed) → Represents state bucket
+    → Poured state watch count 0 held out held out bucket
+poured_none state watch count held out bucket stands = record {
+  said = [];
+  took = took_none state watch count [] bucket stands;
+  whole = IsWholeLines-nil;
+  poured = pours_none held out;
+}
+
+module _ (state : State) (watch count made : ℕ) (held : Option (List ℕ)) (waited : List ℕ) (holds : Option (List ℕ)) (waits : List ℕ) (bucket : Bucketed)
+    (so_far : Poured state watch count made held waited holds waits bucket) where
+  -- what the next take answers
+  abbrev next_text : List ℕ
+  next_text = taken_text watch (answer_to so_far.took.current (calls.Take watch))
+
+  next_poured : (waits' : List ℕ) → waits' ≡ waits ++ next_text → Pours (so_far.said ++ next_text) held waited holds waits'
+  next_poured waits' added =
+      pours-trans so_far.said next_text held holds holds waited waits waits' so_far.poured (pours_out next_text holds waits waits' added)
+
+  pub poured_one : (bucket' : Bucketed) (waits' : List ℕ) (holds' : Option (List ℕ)) (left : List ℕ) → made < count → hands_out (answer_to so_far.took.current (calls.Take watch)) ≡ true
+      → waits' ≡ waits ++ next_text → Represents (after so_far.took.current (calls.Take watch)) bucket' → Pours [] holds waits' holds' left
+      → Poured state watch count (made + 1) held waited holds' left bucket'
+  poured_one bucket' waits' holds' left inside goes_on added stands pours = record {
+    said = so_far.said ++ next_text;
+    took = took_one state watch count made [] so_far.said bucket so_far.took (so_far.said ++ next_text) bucket' inside goes_on refl stands;
+    whole = IsWholeLines-append so_far.said next_text so_far.whole (taken_whole watch (answer_to so_far.took.current (calls.Take watch)));
+    poured = pours_on (so_far.said ++ next_text) held holds holds' waited waits' left (next_poured waits' added) pours;
+  }
+
+  pub poured_last : (bucket' : Bucketed) (waits' : List ℕ) (holds' : Option (List ℕ)) (left : List ℕ) → made < count → hands_out (answer_to so_far.took.current (calls.Take watch)) ≡ false
+      → waits' ≡ waits ++ next_text → Represents (after so_far.took.current (calls.Take watch)) bucket' → Pours [] holds waits' holds' left
+      → Pours (steps_text (takes watch count state)) held waited holds' left × Represents (steps_next state (takes watch count state)) bucket'
+  poured_last bucket' waits' holds' left inside stops added stands pours =
+      let does = took_last state watch count made [] so_far.said bucket so_far.took (so_far.said ++ next_text) bucket' inside stops refl stands in (
+        subst (λ t. Pours t held waited holds' left) does.0
+            (pours_on (so_far.said ++ next_text) held holds holds' waited waits' left (next_poured waits' added) pours),
+        does.1,
+      )
+
+  -- what all takes answer, by what was answered, what the next one answers, and the others
+  all_said : made < count → (more : List ℕ) × ((so_far.said ++ next_text) ++ more ≡ steps_text (takes watch count state))
+  all_said inside =
+      let rest = cond (hands_out (answer_to so_far.took.current (calls.Take watch))) (takes watch (count - (made + 1)) (after so_far.took.current (calls.Take watch))) [] in (
+        steps_text rest,
+        append_assoc so_far.said next_text (steps_text rest) ∙ ap (λ t. t ++ (next_text ++ steps_text rest)) so_far.took.text
+            ∙ ap (λ steps. steps_text so_far.took.done ++ steps_text steps) (sym (takes_one watch count made so_far.took.current inside))
+            ∙ sym (steps_text-append so_far.took.done (takes watch (count - made) so_far.took.current)) ∙ ap steps_text (sym so_far.took.parts),
+      )
+
+  -- the sink failed
+  pub poured_fault : (waits' : List ℕ) (holds' : Option (List ℕ)) → made < count → waits' ≡ waits ++ next_text → (n : ℕ) × Appends holds holds' (take n waits')
+      → Puts (waited ++ steps_text (takes watch count state)) held holds'
+  poured_fault waits' holds' inside added part =
+      let said = all_said inside in
+      subst (λ t. Puts (waited ++ t) held holds') said.1
+      (puts_more (so_far.said ++ next_text) said.0 held holds' waited
+      (puts_waiting (so_far.said ++ next_text) held holds holds' waited waits' (next_poured waits' added) part))
+
+  -- memory ran out before the next
+  pub poured_part : PoursFront (steps_text (takes watch count state)) held waited holds waits
+  poured_part =
+      let others = takes watch (count - made) so_far.took.current in
+      record {
+        front = so_far.said;
+        rest = steps_text others;
+        parts = ap steps_text so_far.took.parts ∙ steps_text-append so_far.took.done others ∙ ap (λ t. t ++ steps_text others) (sym so_far.took.text);
+        whole = so_far.whole;
+        poured = so_far.poured;
+      }
+
+  -- all were made
+  pub poured_all : count ≤ made → Pours (steps_text (takes watch count state)) held waited holds waits × Represents (steps_next state (takes watch count state)) bucket
+  poured_all full =
+      let does = took_all state watch count made [] so_far.said bucket so_far.took full in
+      (subst (λ t. Pours t held waited holds waits) does.0 so_far.poured, does.1)
+
 -- ---- lines of one call
 
 -- nothing was made
@@ -191,17 +279,14 @@ read_take line meaning watch count read same = ap (λ outcome. result_unwrap_or 
 whole_take : (n : ℕ) (steps : List Step) → AreWhole steps → AreWhole (take n steps)
 whole_take zero steps whole = tt
 whole_take (suc n) [] whole = tt
-whole_take (suc n) (step ∷ steps) (first, rest) = (first, whole_take n steps rest)
+whole_take (suc n) (one ∷ steps) (first, rest) = (first, whole_take n steps rest)
 
--- a beginning of the calls of a line is answered by a beginning of its text, of whole lines
-pub early_front : (state : State) (line : List ℕ) (before now : List ℕ) (bucket : Bucketed) → EndsEarly state (line_steps state (strip_last 13 line)) before now bucket → AppendsFront (line_text state line) before now
-unfolding line_text
-early_front state line before now bucket early =
-    let all = line_steps state (strip_last 13 line) in
-    record {
-      front = steps_text (take early.answered all);
-      rest = steps_text (drop early.answered all);
-      parts = ap steps_text (sym (take-append-drop early.answered all)) ∙ steps_text-append (take early.answered all) (drop early.answered all);
-      whole = steps_text-whole (take early.answered all) (whole_take early.answered all (line_steps-whole state (strip_last 13 line)));
-      appended = early.appended;
-    }
+-- a beginning of calls is answered by a beginning of their text, of whole lines
+pub early_front : (state : State) (steps : List Step) (before now : List ℕ) (bucket : Bucketed) → AreWhole steps → EndsEarly state steps before now bucket → AppendsFront (steps_text steps) before now
+early_front state steps before now bucket whole early = record {
+  front = steps_text (take early.answered steps);
+  rest = steps_text (drop early.answered steps);
+  parts = ap steps_text (sym (take-append-drop early.answered steps)) ∙ steps_text-append (take early.answered steps) (drop early.answered steps);
+  whole = steps_text-whole (take early.answered steps) (whole_take early.answered steps whole);
+  appended = early.appended;
+}

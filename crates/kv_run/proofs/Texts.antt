@@ -49,7 +49,7 @@ answer_whole bucket Empty = IsWholeLines-nil
 answer_whole bucket (Ended handed) = IsWholeLines-nil
 answer_whole bucket (Refused error) = refusal_whole error
 
-taken_whole : (watch : ℕ) (answer : Answer) → IsWholeLines (taken_text watch answer)
+pub taken_whole : (watch : ℕ) (answer : Answer) → IsWholeLines (taken_text watch answer)
 unfolding taken_entry_text marker_text empty_text
 taken_whole watch (AnsweredEntry entry) = ends (object_text (entry_members entry (watch_members watch)))
 taken_whole watch Marker = ends (object_text ((codes "marker", codes "true") ∷ watch_members watch))
@@ -93,7 +93,7 @@ takes_whole watch (suc n) s = (taken_whole watch (answer_to s (calls.Take watch)
     more true rest = rest
     more false rest = tt
 
-steps_whole : (s : State) (meaning : Meaning) → AreWhole (steps s meaning)
+pub steps_whole : (s : State) (meaning : Meaning) → AreWhole (steps s meaning)
 steps_whole s (Write asked) = (answer_whole s.config.bucket (answer_write (accept s.config asked s.acts)), tt)
 steps_whole s (Get key) = (answer_whole s.config.bucket (answer_to s (calls.Get key)), tt)
 steps_whole s (GetAt key revision) = (answer_whole s.config.bucket (answer_to s (calls.GetAt key revision)), tt)

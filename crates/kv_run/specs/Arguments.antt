@@ -1,5 +1,5 @@
 -- What the words of a command line ask for: the program's name, and then options with their values.
-use Rattle.std.specs.Prelude.{ℕ, ◌^◌, ◌&&◌, nat_lt, if◌then◌else◌, List, [], ◌∷◌, length, Option, Some, None, option_and_then, codes, unwrap_or}
+use Rattle.std.specs.Prelude.{ℕ, ◌^◌, ◌&&◌, nat_lt, true, if◌then◌else◌, List, [], ◌∷◌, length, Option, Some, None, option_and_then, codes, unwrap_or}
 use Rattle.std.specs.Char.{digit_value}
 use Rattle.std.specs.List.{list_all}
 use Rattle.std.specs.Option.{option_map_or}
@@ -7,7 +7,7 @@ use Rattle.std.specs.Str.Parse.{digits_value, without_leading_plus}
 use Rattle.clap.specs.Faults.{fault_of}
 use Rattle.clap.specs.Kinds.{Kinds}
 use Rattle.clap.specs.Walk.{Rule, Row, Text, first_of, one_of}
-use Rattle.clap.specs.Simple.{App, matches_of, new_app, new_rule, with_rule}
+use Rattle.clap.specs.Simple.{App, matches_of, new_app, new_rule, on_top, with_rule}
 use Rattle.clap.specs.declared.builder.action.ArgAction.TheVariants.{Set}
 use Rattle.clap.specs.declared.builder.value_parser.ValueParser.TheVariants as parsers
 use Rattle.kv_model.specs.Configuration.{Configuration}
@@ -27,10 +27,14 @@ abbrev pub race_option : Rule
 race_option =
     record (new_rule (codes "race")) { long = Some (codes "race"); action = Some Set; value_names = 1; parser = Some (parsers.Unsigned 1 16) }
 
+-- a program that tells its version
+abbrev pub versioned : App → App
+versioned app = on_top (λ shape. record shape { has_version = true }) app
+
 -- the program, and its options
 abbrev pub program_app : App
 program_app =
-    with_rule (with_rule (with_rule (with_rule (with_rule (with_rule (new_app (codes "kvbucket"))
+    with_rule (with_rule (with_rule (with_rule (with_rule (with_rule (versioned (new_app (codes "kvbucket")))
     (text_option (codes "bucket") (codes "kv")))
     (number_option (codes "history") (codes "1")))
     (number_option (codes "value-limit") (codes "1048576")))

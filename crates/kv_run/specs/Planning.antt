@@ -1,6 +1,7 @@
 -- What the lines of a script ask for, where many workers race.
-use Rattle.std.specs.Prelude.{ℕ, nat_lt, if◌then◌else◌, List, [], ◌∷◌, ◌++◌, length, Result, Ok, Err}
+use Rattle.std.specs.Prelude.{ℕ, ◌||◌, Bool, codes, nat_eq, nat_lt, if◌then◌else◌, List, [], ◌∷◌, ◌++◌, length, Result, Ok, Err}
 use Rattle.std.specs.Io.BufRead.{strip_last}
+use Rattle.std.specs.List.{starts_with}
 use Rattle.kv_keys.specs.declared.error.KvError.{KvError}
 use Rattle.kv_keys.specs.declared.error.KvError.TheVariants.{BadCommand, NoReader}
 use Rattle.kv_model.specs.Requests.{Asked}
@@ -42,9 +43,21 @@ abbrev pub add_read : Planned → Result Meaning KvError → Planned
 add_read plan (Ok meaning) = add plan meaning
 add_read plan (Err error) = refuse plan error
 
--- behind a line without its end; a skipped line adds nothing
+-- a line begins with the word of a command that takes part in a race, and a space
+abbrev pub takes_part : List ℕ → Bool
+takes_part line =
+    ((((starts_with nat_eq line (codes "put ") || starts_with nat_eq line (codes "create "))
+    || starts_with nat_eq line (codes "update "))
+    || starts_with nat_eq line (codes "delete "))
+    || starts_with nat_eq line (codes "purge "))
+    || starts_with nat_eq line (codes "watch ")
+
+-- behind a line without its end; a skipped line adds nothing, and one that takes no part is refused as it stands
 unfoldable pub after_command : Planned → List ℕ → Planned
-after_command plan line = if is_skipped line then plan else add_read plan (line_command line)
+after_command plan line =
+    if is_skipped line then plan
+    else if takes_part line then add_read plan (line_command line)
+    else refuse plan BadCommand
 
 -- behind a line as it was read: one carriage return at its end is dropped
 unfoldable pub after_line : Planned → List ℕ → Planned

@@ -7,6 +7,7 @@ ghost use Rattle.clap.specs.Walk.{rule_of};
 ghost use Rattle.kv_keys.specs.declared.error.KvError.TheVariants.{OutOfMemory};
 ghost use Rattle.kv_run.specs.Arguments.{faults_of, number_option, program_app, race_option, text_option, wanted_of};
 
+use crate::help::VERSION;
 use clap::{Arg, ArgAction, Command, Error, value_parser};
 use kv_keys::KvError;
 use kv_model::Config;
@@ -25,13 +26,7 @@ pub(crate) struct Arguments<'a> {
 }
 
 /// An option that takes a text.
-fn text<'a>(
-    alloc: Global,
-    name: &'a str,
-    value_name: &'a str,
-    default: &'a str,
-    help: &'a str,
-) -> Arg<'a>
+fn text<'a>(alloc: Global, name: &'a str, value_name: &'a str, default: &'a str) -> Arg<'a>
     ensures rule { rule_of result ≡ text_option name.entry.now default.entry.now }
     ensures local { result.global ≡ false }
 {
@@ -40,15 +35,14 @@ fn text<'a>(
         .action(ArgAction::Set)
         .value_name(value_name)
         .default_value(default)
-        .help(help)
 }
 
 /// An option that takes a number.
-fn number<'a>(alloc: Global, name: &'a str, default: &'a str, help: &'a str) -> Arg<'a>
+fn number<'a>(alloc: Global, name: &'a str, default: &'a str) -> Arg<'a>
     ensures rule { rule_of result ≡ number_option name.entry.now default.entry.now }
     ensures local { result.global ≡ false }
 {
-    text(alloc, name, "N", default, help).value_parser(value_parser!(u64))
+    text(alloc, name, "N", default).value_parser(value_parser!(u64))
 }
 
 /// The option for a race.
@@ -60,65 +54,20 @@ fn race<'a>(alloc: Global) -> Arg<'a>
         .long("race")
         .action(ArgAction::Set)
         .value_name("N")
-        .help(
-            "Read the whole script first, deal its writes to N workers that write at once, 1 to 16, and show each watch from its beginning",
-        )
         .value_parser(value_parser!(u64).range(1..=16))
 }
 
-/// What stands below the options in the help.
-const COMMANDS: &str =
-    "Commands, one a line (K is a key, B a value in base64 or - for the empty one, R a revision, F a filter):
-  put K B, create K B, update K R B  write a value: always, where there is none, where R is the last revision
-  delete K [R], purge K [R]          write a marker; purge forgets the entries before it
-  get K [R], history K, keys F       read a value, the entries of a key, the keys that have a value
-  watch F[,F..] [WORD..]             open a watch, numbered from 1; words: history, updates, from=R, nodeletes, meta
-  take ID N, stop ID                 hand out up to N items of a watch; end it
-  status, seal, place K              the numbers of the bucket; end all writes; where a key stands
-Empty lines and lines that begin with # are skipped. A refused line is answered, and the script goes on.
-
-Example: printf 'put a MQ==\\nget a\\n' | kvbucket
-Each command is shown with its answer in docs/script.md.";
-
+/// The program, with its options. Its help and its version are texts of their own, so clap's are not asked for.
 fn command<'a>(alloc: Global) -> Result<Command<'a>, AllocError>
     ensures { IfOk result (λ command. app_of command ≡ program_app) }
 {
     Command::new(alloc, "kvbucket")
-        .about(
-            "Runs a script of commands on a key-value bucket: one command a line from standard input, one JSON object a line to standard output.",
-        )
-        .after_help(COMMANDS)
-        .arg(text(
-            alloc,
-            "bucket",
-            "NAME",
-            "kv",
-            "The name of the bucket: 1 to 64 letters, digits, _ and -",
-        ))?
-        .arg(number(
-            alloc,
-            "history",
-            "1",
-            "How many entries of each key are kept, 1 to 64",
-        ))?
-        .arg(number(
-            alloc,
-            "value-limit",
-            "1048576",
-            "How many bytes a value may have, up to 1048576",
-        ))?
-        .arg(number(
-            alloc,
-            "write-limit",
-            "1000000",
-            "How many writes may be stored, 1 to 1000000",
-        ))?
-        .arg(number(
-            alloc,
-            "revision-limit",
-            "4294967295",
-            "The last revision, 1 to 4294967295",
-        ))?
+        .version(VERSION)
+        .arg(text(alloc, "bucket", "NAME", "kv"))?
+        .arg(number(alloc, "history", "1"))?
+        .arg(number(alloc, "value-limit", "1048576"))?
+        .arg(number(alloc, "write-limit", "1000000"))?
+        .arg(number(alloc, "revision-limit", "4294967295"))?
         .arg(race(alloc))
 }
 

@@ -2,6 +2,7 @@
 #![tactic(auto)]
 
 mod arguments;
+mod help;
 pub mod laws;
 mod races;
 mod running;

@@ -1,121 +1,131 @@
 //! The program, over the words, the reader and the writers that it is handed.
 
-ghost use Rattle.std.specs.Prelude.{◌≡◌, ◌≢◌, ◌≤◌, ◌⊎◌, [], map, string_bytes, Err, OnOk, IfErr};
-ghost use Rattle.clap.specs.Kinds.{IsAmong};
-ghost use Rattle.clap.specs.Values.{kind_of};
-ghost use Rattle.kv_run.specs.Arguments.{config_of, faults_of, race_of, wanted_of};
+ghost use Rattle.std.specs.Prelude.{◌≡◌, ◌≤◌, ◌+◌, ◌⊎◌, ℕ, take, map, string_bytes, OnOk, OnErr, IfErr, IsErrOf};
+ghost use Rattle.std.specs.Io.KnownBytes.{Appends};
+ghost use Rattle.clap.specs.Kinds.{HasKind, Kinds};
+ghost use Rattle.kv_keys.specs.declared.error.KvError.TheVariants.{OutOfMemory};
+ghost use Rattle.kv_run.specs.Arguments.{config_of, faults_of, race_of};
 ghost use Rattle.kv_run.specs.Faults.{IsBadConfiguration};
-ghost use Rattle.kv_run.specs.Programs.{checked, status_of, IsRefused, RunStops, Runs};
-ghost use Rattle.kv_run.specs.Races.{RanRace};
-ghost use Rattle.kv_run.specs.Replaying.{Ran};
+ghost use Rattle.kv_run.specs.Programs.{fault_text, status_of, AreWrong, EndsBy, IsRefusedBy, IsRun, IsShown, RanAs, ShowingEnds};
+ghost use Rattle.kv_run.specs.declared.scripts.streams.TheConstants.{READ_CALLS};
 
 use crate::arguments::Arguments;
+use crate::help::{HELP, VERSION};
 use crate::races::over_scripts::replay_race;
-use crate::scripts::input::CountedReader;
-use crate::scripts::output::CountedWriter;
+use crate::scripts::input::Input;
+use crate::scripts::output::Output;
 use crate::scripts::streams::replay;
 use clap::Error;
 use clap::error::ErrorKind;
 use kv_keys::KvError;
-use kv_model::Config;
 use std::alloc::Global;
-use std::io::{Read, Write};
 use std::sync::Wait;
 use std::thread::Threads;
 
-/// Replays from a reader of std into a writer of std.
-fn replay_noted<R: Read, W: Write>(
-    alloc: Global,
-    reader: &mut R,
-    writer: &mut W,
-    config: &Config,
-) -> Result<(), KvError>
-    ensures ran { Ran config.now (R.remaining reader.old) (R.remaining reader.new) (W.contents writer.old) (W.contents writer.new) result }
-    ensures refused { IfErr result (λ e. IsBadConfiguration e → (reader.new ≡ reader.old) × (writer.new ≡ writer.old)) }
-{
-    let mut source = CountedReader::new(reader);
-    let mut sink = CountedWriter::new(writer);
-    replay(alloc, &mut source, &mut sink, config)
-}
-
-/// Races over the script of a reader of std, into a writer of std.
-fn race_noted<T: Threads + Wait + Sync, R: Read, W: Write>(
-    rt: &T,
-    alloc: Global,
-    reader: &mut R,
-    writer: &mut W,
-    config: &Config,
-    workers: usize,
-) -> Result<(), KvError>
-    ensures ran { RanRace config.now workers (R.remaining reader.old) (R.remaining reader.new) (W.contents writer.old) (W.contents writer.new) result }
-    ensures refused { IfErr result (λ e. IsBadConfiguration e → (reader.new ≡ reader.old) × (writer.new ≡ writer.old)) }
-{
-    let mut source = CountedReader::new(reader);
-    let mut sink = CountedWriter::new(writer);
-    replay_race(rt, alloc, &mut source, &mut sink, config, workers)
-}
-
 /// Runs the script of the reader under the arguments, or a race over it.
-fn run<T: Threads + Wait + Sync, R: Read, W: Write>(
+fn run<T: Threads + Wait + Sync, R: Input, W: Output>(
     rt: &T,
     alloc: Global,
     arguments: &Arguments<'_>,
     reader: &mut R,
     writer: &mut W,
 ) -> Result<(), KvError>
-    ensures ok { OnOk result (Runs arguments.now.race arguments.now.config
-        (R.remaining reader.old) (R.remaining reader.new) (W.contents writer.old) (W.contents writer.new)) }
-    ensures stopped { IfErr result (λ e. status_of e ≡ 1 → RunStops arguments.now.race arguments.now.config
-        (R.remaining reader.old) (R.remaining reader.new) (W.contents writer.old) (W.contents writer.new)) }
-    ensures refused { IfErr result (λ e. status_of e ≡ 2 → (checked arguments.now.race arguments.now.config ≡ Err e)
-        × ((reader.new ≡ reader.old) × (writer.new ≡ writer.old))) }
+    ensures ran { RanAs arguments.now.race arguments.now.config
+        (R.left reader.old) (R.left reader.new) (W.held writer.old) (W.held writer.new) result
+        ⊎ (IsErrOf result OutOfMemory × ((reader.new ≡ reader.old) × (writer.new ≡ writer.old))) }
+    ensures read_fault { IsErrOf result KvError.ReadFault →
+        (R.failed_between reader.old reader.new ⊎ (R.asked reader.new ≡ R.asked reader.old + READ_CALLS)) }
+    ensures write_fault { IsErrOf result KvError.WriteFault → W.failed_between writer.old writer.new }
+    ensures refused { IfErr result (λ e. IsBadConfiguration e → (reader.new ≡ reader.old) × (writer.new ≡ writer.old)) }
 {
     let config = arguments.config(alloc)?;
     match arguments.race() {
-        Some(workers) => race_noted(rt, alloc, reader, writer, &config, workers as usize),
-        None => replay_noted(alloc, reader, writer, &config),
+        Some(workers) => replay_race(rt, alloc, reader, writer, &config, workers as usize),
+        None => replay(alloc, reader, writer, &config),
     }
 }
 
-/// Names on `faults` the refusal that ended the run, and answers its status.
-fn fail<F: Write>(error: KvError, faults: &mut F) -> u8
-    ensures { result ≡ status_of error }
+/// Writes the line that names a refusal.
+fn tell<F: Output>(error: KvError, faults: &mut F) -> Result<(), KvError>
+    ensures told { OnOk result (Appends (F.held faults.old) (F.held faults.new) (fault_text error)) }
+    ensures failed { OnErr result (F.failed_between faults.old faults.new) }
 {
-    let _ = writeln!(faults, "kvbucket: {}", error.name());
+    faults.write(b"kvbucket: ")?;
+    faults.write(error.name().as_bytes())?;
+    faults.write(b"\n")
+}
+
+/// Names on `faults` the refusal that ended the run, and answers its status.
+fn fail<F: Output>(error: KvError, faults: &mut F) -> u8
+    ensures status { result ≡ status_of error }
+    ensures told { Appends (F.held faults.old) (F.held faults.new) (fault_text error)
+        ⊎ F.failed_between faults.old faults.new }
+{
+    let _ = tell(error, faults);
     match error {
         KvError::BadBucket | KvError::BadConfig => 2,
         _ => 1,
     }
 }
 
-/// Shows help on the writer, or what is wrong with the arguments on `faults`.
-fn refuse<W: Write, F: Write>(error: &Error, writer: &mut W, faults: &mut F) -> u8
+/// Shows a text that the words ask for.
+fn show<W: Output, F: Output>(text: &str, writer: &mut W, faults: &mut F) -> u8
+    ensures status { result ≤ 1 }
+    ensures done { result ≡ 0 → (faults.new ≡ faults.old) × Appends (W.held writer.old) (W.held writer.new) text.now }
+    ensures stopped { result ≡ 1 → ((n : ℕ) × Appends (W.held writer.old) (W.held writer.new) (take n text.now))
+        × (W.failed_between writer.old writer.new
+        × (Appends (F.held faults.old) (F.held faults.new) (fault_text KvError.WriteFault)
+        ⊎ F.failed_between faults.old faults.new)) }
+{
+    match writer.write(text.as_bytes()) {
+        Ok(()) => 0,
+        Err(error) => fail(error, faults),
+    }
+}
+
+/// Tells what is wrong with the words.
+fn accuse<F: Output>(alloc: Global, error: &Error, faults: &mut F) -> u8
+    ensures status { (result ≡ 2) ⊎ (result ≡ 1) }
+    ensures stopped { result ≡ 1 →
+        Appends (F.held faults.old) (F.held faults.new) (fault_text KvError.OutOfMemory)
+        ⊎ F.failed_between faults.old faults.new }
+{
+    let Ok(text) = format!(in alloc; "{error}") else {
+        return fail(KvError::OutOfMemory, faults);
+    };
+    let _ = faults.write(text.as_bytes());
+    2
+}
+
+/// Shows what the words ask for, or tells what is wrong with them.
+fn refuse<W: Output, F: Output>(alloc: Global, error: &Error, writer: &mut W, faults: &mut F) -> u8
     ensures status { result ≤ 2 }
-    ensures help { result ≡ 0 → kind_of error.now ≡ ErrorKind.DisplayHelp }
-    ensures fault { result ≡ 2 → (kind_of error.now ≢ ErrorKind.OutOfMemory) × (writer.new ≡ writer.old) }
+    ensures done { result ≡ 0 → (faults.new ≡ faults.old) × ((kinds : Kinds) → HasKind kinds error.now →
+        IsShown kinds (W.held writer.old) (W.held writer.new)) }
+    ensures stopped { result ≡ 1 → (kinds : Kinds) → HasKind kinds error.now → (cause : KvError) ×
+        ((Appends (F.held faults.old) (F.held faults.new) (fault_text cause) ⊎ F.failed_between faults.old faults.new)
+        × ((ShowingEnds kinds (W.held writer.old) (W.held writer.new) cause × W.failed_between writer.old writer.new)
+        ⊎ ((cause ≡ OutOfMemory) × (writer.new ≡ writer.old)))) }
+    ensures wrong { result ≡ 2 → (writer.new ≡ writer.old) × ((kinds : Kinds) → HasKind kinds error.now →
+        AreWrong kinds) }
 {
     match error.kind() {
         ErrorKind::OutOfMemory => fail(KvError::OutOfMemory, faults),
-        ErrorKind::DisplayHelp => match write!(writer, "{error}") {
-            Ok(()) => 0,
-            Err(_) => fail(KvError::WriteFault, faults),
-        },
-        _ => {
-            let _ = write!(faults, "{error}");
-            2
-        }
+        ErrorKind::DisplayHelp => show(HELP, writer, faults),
+        ErrorKind::DisplayVersion => show(VERSION, writer, faults),
+        _ => accuse(alloc, error, faults),
     }
 }
 
 /// Does what the words ask for: the first is the program's name, the others are its arguments.
 ///
-/// The status is 0 where the script was run to its end, or help was shown; 1 where the run ended for want of memory or
-/// as a device failed; 2 for a fault in the arguments or a configuration that is not legal. What went wrong is told on
-/// `faults`; that this fails changes no status.
+/// The status is 0 where the script was run to its end, or help or the version was shown; 1 where the run ended for
+/// want of memory, as a device failed, or as a race ended early; 2 for a fault in the arguments or a configuration that
+/// is not legal. What went wrong is told on `faults`; that this fails changes no status.
 ///
 /// With the option for a race the script is read to its end first, and workers race over it: their threads are those of
-/// `rt`.
-pub fn program<T: Threads + Wait + Sync, R: Read, W: Write, F: Write>(
+/// `rt`. Memory goes to the bucket, to one line, and to 64 KiB and one answer.
+pub fn program<T: Threads + Wait + Sync, R: Input, W: Output, F: Output>(
     rt: &T,
     alloc: Global,
     words: &[String],
@@ -124,26 +134,36 @@ pub fn program<T: Threads + Wait + Sync, R: Read, W: Write, F: Write>(
     faults: &mut F,
 ) -> u8
     ensures status { result ≤ 2 }
-    // All was read, and its text under the configuration of the words was written; or the words ask for help.
-    ensures done { result ≡ 0 →
-        (IsAmong ErrorKind.DisplayHelp (faults_of (map string_bytes words.now)) × (reader.new ≡ reader.old))
-        ⊎ ((faults_of (map string_bytes words.now) ≡ [])
-        × Runs (race_of (map string_bytes words.now)) (config_of (map string_bytes words.now))
-        (R.remaining reader.old) (R.remaining reader.new) (W.contents writer.old) (W.contents writer.new)) }
-    // A beginning of the text was written; or nothing was read.
-    ensures stopped { result ≡ 1 → (reader.new ≡ reader.old)
-        ⊎ RunStops (race_of (map string_bytes words.now)) (config_of (map string_bytes words.now))
-        (R.remaining reader.old) (R.remaining reader.new) (W.contents writer.old) (W.contents writer.new) }
-    // The words are refused, or the configuration that they ask for is; then nothing was read or written.
-    ensures refused { result ≡ 2 →
-        IsRefused (faults_of (map string_bytes words.now)) (wanted_of (map string_bytes words.now))
-        × ((reader.new ≡ reader.old) × (writer.new ≡ writer.old)) }
+    // All was read, and its text under the configuration of the words, which is legal, was written; or the words ask
+    // for a text, which was written. Nothing is told of faults.
+    ensures done { result ≡ 0 → (faults.new ≡ faults.old)
+        × (IsRun (faults_of (map string_bytes words.now)) (race_of (map string_bytes words.now))
+        (config_of (map string_bytes words.now))
+        (R.left reader.old) (R.left reader.new) (W.held writer.old) (W.held writer.new)
+        ⊎ (IsShown (faults_of (map string_bytes words.now)) (W.held writer.old) (W.held writer.new)
+        × (reader.new ≡ reader.old))) }
+    // The run ended by a refusal, which is told unless `faults` failed, and what it says of the bytes holds.
+    ensures stopped { result ≡ 1 → (error : KvError) ×
+        ((Appends (F.held faults.old) (F.held faults.new) (fault_text error) ⊎ F.failed_between faults.old faults.new)
+        × EndsBy (faults_of (map string_bytes words.now)) (race_of (map string_bytes words.now))
+        (config_of (map string_bytes words.now))
+        (R.left reader.old) (R.left reader.new) (W.held writer.old) (W.held writer.new)
+        (R.failed_between reader.old reader.new ⊎ (R.asked reader.new ≡ R.asked reader.old + READ_CALLS))
+        (W.failed_between writer.old writer.new) error) }
+    // The words are wrong, or the configuration that they ask for is refused, which is told; then nothing was read or
+    // written. So where the words are fine and the configuration is legal, the status is 0 or 1.
+    ensures refused { result ≡ 2 → ((reader.new ≡ reader.old) × (writer.new ≡ writer.old))
+        × (AreWrong (faults_of (map string_bytes words.now)) ⊎ ((error : KvError) ×
+        (IsRefusedBy (faults_of (map string_bytes words.now)) (race_of (map string_bytes words.now))
+        (config_of (map string_bytes words.now)) error
+        × (Appends (F.held faults.old) (F.held faults.new) (fault_text error)
+        ⊎ F.failed_between faults.old faults.new)))) }
 {
     match Arguments::parse(alloc, words) {
         Ok(arguments) => match run(rt, alloc, &arguments, reader, writer) {
             Ok(()) => 0,
             Err(error) => fail(error, faults),
         },
-        Err(error) => refuse(&error, writer, faults),
+        Err(error) => refuse(alloc, &error, writer, faults),
     }
 }

@@ -7,6 +7,7 @@ pub mod failures;
 pub mod input;
 pub mod lines;
 pub mod output;
+pub mod pouring;
 pub mod reads;
 pub mod refusals;
 pub mod streams;

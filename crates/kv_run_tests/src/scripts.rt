@@ -8,6 +8,7 @@ use std::alloc::{AllocError, Global};
 use std::process::Abort;
 use std::test::Fail;
 
+mod adapters;
 mod arguments;
 mod devices;
 mod failing;

@@ -21,7 +21,7 @@ escape_plain (byte ∷ bytes) plain =
     let marks = and_parts (not (byte == 34)) (not (byte == 92)) byte_parts.1 in
     rw (escape_byte_plain byte (eqb-false byte 34 (not-true _ marks.0)) (eqb-false byte 92 (not-true _ marks.1)) (leb-true 32 byte byte_parts.0), escape_plain bytes parts.1)
 
-quoted_plain : (bytes : List ℕ) → IsPlain bytes → quoted bytes ≡ in_quotes bytes
+pub quoted_plain : (bytes : List ℕ) → IsPlain bytes → quoted bytes ≡ in_quotes bytes
 quoted_plain bytes plain = ap in_quotes (escape_plain bytes plain)
 
 key_character_plain : (c : ℕ) → is_key_character c ≡ true → is_plain_byte c ≡ true

@@ -1,7 +1,10 @@
+pub mod Base64Words
+mod Cases
 pub mod Choosing
 pub mod Compact
 pub mod Digits
 pub mod Escapes
 pub mod Lines
+pub mod Places
 pub mod PlainBase64
 pub mod Texts

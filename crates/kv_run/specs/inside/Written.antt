@@ -25,3 +25,17 @@ pub record PutsWhole (all : List ℕ) (held holds : Option (List ℕ)) : Type 0 
   pub parts : all ≡ front ++ rest
   pub whole : IsWholeLines front
   pub written : Appends held holds front
+
+-- of what waits and a text behind it, the first part went to a sink, and the rest waits
+pub record Pours (text : List ℕ) (held : Option (List ℕ)) (waited : List ℕ) (holds : Option (List ℕ)) (waits : List ℕ) : Type 0 where
+  pub gone : List ℕ
+  pub parts : waited ++ text ≡ gone ++ waits
+  pub written : Appends held holds gone
+
+-- the same, of whole lines from the beginning of a text
+pub record PoursFront (all : List ℕ) (held : Option (List ℕ)) (waited : List ℕ) (holds : Option (List ℕ)) (waits : List ℕ) : Type 0 where
+  pub front : List ℕ
+  pub rest : List ℕ
+  pub parts : all ≡ front ++ rest
+  pub whole : IsWholeLines front
+  pub poured : Pours front held waited holds waits

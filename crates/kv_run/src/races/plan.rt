@@ -4,7 +4,7 @@ ghost use Rattle.std.specs.Prelude.{◌≡◌, ◌≢◌, OnOk, IfErr, map};
 ghost use Rattle.kv_keys.specs.declared.error.KvError.TheVariants.{OutOfMemory};
 ghost use Rattle.kv_model.specs.Requests.{asked};
 ghost use Rattle.kv_script.specs.Commands.{meaning_of};
-ghost use Rattle.kv_run.specs.Planning.{add, add_request, add_watch, after_command, after_line, nothing, refuse};
+ghost use Rattle.kv_run.specs.Planning.{add, add_request, add_watch, after_command, after_line, nothing, refuse, takes_part};
 
 use kv_keys::{Filters, KvError};
 use kv_model::{Options, Request};
@@ -32,6 +32,18 @@ impl Model for Plan {
     ghost Value = { Planned };
 
     ghost view = { λ p. record { refused = p.refused.items; requests = map asked p.requests.items; watches = p.watches.items } };
+}
+
+/// Whether a line begins with the word of a command that takes part in a race, and a space.
+fn takes_part(line: &[u8]) -> bool
+    ensures { result ≡ takes_part line.now }
+{
+    line.starts_with(b"put ")
+        || line.starts_with(b"create ")
+        || line.starts_with(b"update ")
+        || line.starts_with(b"delete ")
+        || line.starts_with(b"purge ")
+        || line.starts_with(b"watch ")
 }
 
 impl Plan {
@@ -117,6 +129,9 @@ impl Plan {
     {
         if is_skipped(line) {
             return Ok(());
+        }
+        if !takes_part(line) {
+            return self.refuse(alloc, KvError::BadCommand);
         }
         match parse(alloc, line) {
             Ok(command) => self.add(alloc, command),

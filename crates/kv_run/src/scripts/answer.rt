@@ -1,24 +1,28 @@
 //! The answer to one line.
 
-ghost use Rattle.std.specs.Prelude.{◌≡◌, ◌++◌, ℕ, Ok, OnOk, OnErr, IfErr};
+ghost use Rattle.std.specs.Prelude.{◌≡◌, ◌++◌, ℕ, [], Ok, OnOk, OnErr, IfErr, IsErrOf};
 ghost use Rattle.kv_bucket.specs.Held.{Represents};
 ghost use Rattle.kv_model.specs.State.{State};
 ghost use Rattle.kv_keys.specs.declared.error.KvError.TheVariants.{OutOfMemory};
 ghost use Rattle.kv_script.specs.Commands.{Take, line_command, meaning_of};
+ghost use Rattle.kv_script.specs.Text.{refusal_text};
+ghost use Rattle.kv_run.specs.Faults.{IsRefusal, IsWriteOrMemory};
 ghost use Rattle.kv_run.specs.Steps.{Does, EndsBetween, EndsEarly};
-ghost use Rattle.kv_run.specs.Text.{line_next, line_steps, line_text, steps, takes};
-ghost use Rattle.kv_run.specs.inside.Written.{AppendsFront};
+ghost use Rattle.kv_run.specs.Text.{line_steps, steps, steps_next, steps_text, takes};
+ghost use Rattle.kv_run.specs.inside.Written.{Pours, PoursFront, Puts};
 
+use crate::scripts::output::Output;
+use crate::scripts::pouring::pour_many;
 use crate::scripts::reads::{
     answer_get, answer_get_at, answer_history, answer_keys, answer_place, answer_status,
 };
 use crate::scripts::refusals::answer_refusal;
-use crate::scripts::takes::answer_takes;
+use crate::scripts::takes::{answer_takes, pour_takes};
 use crate::scripts::watches::{answer_stop, answer_watch};
 use crate::scripts::writes::{answer_seal, answer_write};
 use kv_bucket::Bucket;
 use kv_keys::KvError;
-use kv_script::{Command, is_skipped, parse, without_return};
+use kv_script::{Command, is_skipped, parse};
 use std::alloc::Global;
 
 /// Does one command, and appends its answer lines.
@@ -81,20 +85,80 @@ pub fn answer_line(
     }
 }
 
-/// Answers a line as it was read, without its line feed.
-#[tactic(auto, unfolding(crate::specs::Text::line_text, crate::specs::Text::line_next))]
-pub(crate) fn answer_whole_line(
-    bucket: &mut Bucket,
+/// Does one command. Its answers wait behind others, and are written where they are many.
+fn pour_command<K: Output>(
     alloc: Global,
+    bucket: &mut Bucket,
+    command: &Command,
+    out: &mut Vec<u8>,
+    sink: &mut K,
+) -> Result<(), KvError>
+    ensures same { K.goes_on sink.old sink.new }
+    ensures ok { OnOk result ((state : State) → Represents state bucket.old →
+        Pours (steps_text (steps state (meaning_of command.now))) (K.held sink.old) out.old.items (K.held sink.new) out.new.items
+        × Represents (steps_next state (steps state (meaning_of command.now))) bucket.new) }
+    ensures write_fault { IsErrOf result KvError.WriteFault →
+        K.failed_between sink.old sink.new × ((state : State) → Represents state bucket.old →
+        Puts (out.old.items ++ steps_text (steps state (meaning_of command.now))) (K.held sink.old) (K.held sink.new)) }
+    ensures memory { IsErrOf result KvError.OutOfMemory → (state : State) → Represents state bucket.old →
+        PoursFront (steps_text (steps state (meaning_of command.now)))
+        (K.held sink.old) out.old.items (K.held sink.new) out.new.items }
+    ensures fault { IfErr result IsWriteOrMemory }
+{
+    if let Command::Take { watch, count } = command {
+        return pour_takes(alloc, bucket, *watch, *count, out, sink);
+    }
+    answer_command(alloc, bucket, command, out)?;
+    pour_many(out, sink)
+}
+
+/// Answers a refused line.
+fn pour_refusal<K: Output>(
+    alloc: Global,
+    error: KvError,
+    out: &mut Vec<u8>,
+    sink: &mut K,
+) -> Result<(), KvError>
+    ensures same { K.goes_on sink.old sink.new }
+    ensures cause { OnOk result (IsRefusal error) }
+    ensures ok { OnOk result (Pours (refusal_text error) (K.held sink.old) out.old.items (K.held sink.new) out.new.items) }
+    ensures write_fault { IsErrOf result KvError.WriteFault →
+        K.failed_between sink.old sink.new × (IsRefusal error ×
+        Puts (out.old.items ++ refusal_text error) (K.held sink.old) (K.held sink.new)) }
+    ensures memory { IsErrOf result KvError.OutOfMemory →
+        Pours [] (K.held sink.old) out.old.items (K.held sink.new) out.new.items }
+    ensures fault { IfErr result IsWriteOrMemory }
+{
+    answer_refusal(alloc, error, out)?;
+    pour_many(out, sink)
+}
+
+/// Answers a line without its end, and without the carriage return before that. Its answers wait behind others, and
+/// are written where they are many: so they are no more at a time than 64 KiB and one answer.
+pub(crate) fn pour_line<K: Output>(
+    alloc: Global,
+    bucket: &mut Bucket,
     line: &[u8],
     out: &mut Vec<u8>,
+    sink: &mut K,
 ) -> Result<(), KvError>
+    ensures same { K.goes_on sink.old sink.new }
     ensures ok { OnOk result ((state : State) → Represents state bucket.old →
-        (out.new.items ≡ out.old.items ++ line_text state line.now)
-        × Represents (line_next state line.now) bucket.new) }
-    ensures err { OnErr result ((state : State) → Represents state bucket.old →
-        AppendsFront (line_text state line.now) out.old.items out.new.items) }
-    ensures memory { IfErr result (λ e. e ≡ OutOfMemory) }
+        Pours (steps_text (line_steps state line.now)) (K.held sink.old) out.old.items (K.held sink.new) out.new.items
+        × Represents (steps_next state (line_steps state line.now)) bucket.new) }
+    ensures write_fault { IsErrOf result KvError.WriteFault →
+        K.failed_between sink.old sink.new × ((state : State) → Represents state bucket.old →
+        Puts (out.old.items ++ steps_text (line_steps state line.now)) (K.held sink.old) (K.held sink.new)) }
+    ensures memory { IsErrOf result KvError.OutOfMemory → (state : State) → Represents state bucket.old →
+        PoursFront (steps_text (line_steps state line.now))
+        (K.held sink.old) out.old.items (K.held sink.new) out.new.items }
+    ensures fault { IfErr result IsWriteOrMemory }
 {
-    answer_line(alloc, bucket, without_return(line), out)
+    if is_skipped(line) {
+        return Ok(());
+    }
+    match parse(alloc, line) {
+        Ok(command) => pour_command(alloc, bucket, &command, out, sink),
+        Err(error) => pour_refusal(alloc, error, out, sink),
+    }
 }

@@ -25,8 +25,8 @@ use std::alloc::Global;
 /// How many bytes are asked for at a time.
 pub const BUFFER_BYTES: usize = 65_536;
 
-/// Writes the answers to the lines that these bytes end. Where memory runs out, those that were made before are
-/// written.
+/// Writes the answers to the lines that these bytes end, as they are made. Where memory runs out, those that were made
+/// before are written.
 fn answer_bytes<K: Output>(
     script: &mut Script,
     alloc: Global,
@@ -45,12 +45,13 @@ fn answer_bytes<K: Output>(
     ensures fault { IfErr result IsWriteOrMemory }
 {
     let mut out = Vec::new(alloc);
-    match script.take_bytes(alloc, bytes, &mut out) {
+    match script.take_bytes(alloc, bytes, &mut out, sink) {
         Ok(()) => sink.write(&out),
-        Err(error) => {
+        Err(KvError::OutOfMemory) => {
             sink.write(&out)?;
-            Err(error)
+            Err(KvError::OutOfMemory)
         }
+        Err(error) => Err(error),
     }
 }
 
@@ -67,12 +68,13 @@ fn answer_end<K: Output>(script: &mut Script, alloc: Global, sink: &mut K) -> Re
     ensures fault { IfErr result IsWriteOrMemory }
 {
     let mut out = Vec::new(alloc);
-    match script.end_line(alloc, &mut out) {
+    match script.end_line(alloc, &mut out, sink) {
         Ok(()) => sink.write(&out),
-        Err(error) => {
+        Err(KvError::OutOfMemory) => {
             sink.write(&out)?;
-            Err(error)
+            Err(KvError::OutOfMemory)
         }
+        Err(error) => Err(error),
     }
 }
 
@@ -122,7 +124,8 @@ pub fn new_buffer(alloc: Global, bytes: usize) -> Result<Vec<u8>, KvError>
 
 /// Runs the script of a source on a new bucket, and writes its answers to a sink.
 ///
-/// The answers to all lines that are known so far are written before more is asked for. Where memory runs out in the
+/// The answers to all lines that are known so far are written before more is asked for, and no more than 64 KiB of
+/// them and one answer wait at a time. Where memory runs out in the
 /// midst of a line, the answer lines that were made before are written. Nothing is asked for after the end.
 pub fn run_script<S: BoundedInput, K: Output>(
     alloc: Global,

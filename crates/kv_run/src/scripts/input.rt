@@ -36,6 +36,7 @@ pub trait Input {
         ensures bytes { ReadConsumes (left self.old) (left self.new) result buffer.new }
         ensures fault { IfErr result (λ e. e ≡ ReadFault) }
         ensures failed { OnErr result (failed_between self.old self.new) }
+        ensures unfailed { OnOk result (failed_between self.old self.new → ⊥) }
         ensures at_most_one { asked self.new ≤ asked self.old + 1 }
         ensures one { OnOk result (asked self.new ≡ asked self.old + 1) }
         ensures ended { IfOk result (λ n. has_ended self.new ≡ (has_ended self.old || (n == 0))) }
@@ -51,7 +52,7 @@ pub trait Input {
 }
 
 /// A reader of std that notes how often it is asked, how often it fails, and where it is asked after its end. It counts
-/// as one that fails where it is asked for the 2^64th time.
+/// as one that fails where it is asked for the 2^64th time, and where it is asked after 2^64 − 1 failures.
 #[derive(Drop)]
 pub struct CountedReader<'r, R> {
     reader: &'r mut R,
@@ -78,6 +79,34 @@ impl<'r, R> CountedReader<'r, R> {
             was_asked_late: false,
         }
     }
+
+    /// How often it failed.
+    pub fn failures(&self) -> u64
+        ensures { result ≡ self.now.failures }
+    {
+        self.failures
+    }
+
+    /// How often it was asked.
+    pub fn asked(&self) -> u64
+        ensures { result ≡ self.now.asked }
+    {
+        self.asked
+    }
+
+    /// Whether it has given its end.
+    pub fn has_ended(&self) -> bool
+        ensures { result ≡ self.now.has_ended }
+    {
+        self.has_ended
+    }
+
+    /// Whether it was asked after its end.
+    pub fn was_asked_late(&self) -> bool
+        ensures { result ≡ self.now.was_asked_late }
+    {
+        self.was_asked_late
+    }
 }
 
 impl<'r, R: Read> Input for CountedReader<'r, R> {
@@ -98,7 +127,7 @@ impl<'r, R: Read> Input for CountedReader<'r, R> {
 
     fn read(&mut self, buffer: &mut [u8]) -> Result<usize, KvError> {
         self.was_asked_late = self.was_asked_late | self.has_ended;
-        if self.asked < u64::MAX {
+        if self.asked < u64::MAX && self.failures < u64::MAX {
             self.asked += 1;
             if let Ok(count) = self.reader.read(buffer) {
                 self.has_ended = self.has_ended | (count == 0);

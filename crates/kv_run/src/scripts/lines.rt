@@ -1,16 +1,18 @@
 //! A script that is being read: the bucket so far, and the line that has begun.
 
-ghost use Rattle.std.specs.Prelude.{◌≡◌, ◌++◌, [], OnOk, OnErr, IfErr};
+ghost use Rattle.std.specs.Prelude.{◌≡◌, ◌++◌, [], OnOk, IfErr, IsErrOf};
 ghost use Rattle.kv_model.specs.State.{State};
-ghost use Rattle.kv_keys.specs.declared.error.KvError.TheVariants.{OutOfMemory};
+ghost use Rattle.kv_run.specs.Faults.{IsWriteOrMemory};
 ghost use Rattle.kv_run.specs.inside.Reading.{Reading, step, said_by, after_bytes, said, ended, line_ended};
 ghost use Rattle.kv_run.specs.inside.Scripted.{Holds};
 ghost use Rattle.kv_run.specs.Text.{line_text, line_next};
-ghost use Rattle.kv_run.specs.inside.Written.{AppendsFront};
+ghost use Rattle.kv_run.specs.inside.Written.{Pours, PoursFront, Puts};
 
-use crate::scripts::answer::answer_whole_line;
+use crate::scripts::answer::pour_line;
+use crate::scripts::output::Output;
 use kv_bucket::Bucket;
 use kv_keys::KvError;
+use kv_script::without_return;
 use std::alloc::Global;
 use std::marker::Model;
 
@@ -44,31 +46,62 @@ impl Script {
         }
     }
 
-    /// Answers the line that has begun.
-    pub(crate) fn end_line(&mut self, alloc: Global, out: &mut Vec<u8>) -> Result<(), KvError>
+    /// Answers the line that has begun. Its answers wait behind others, and are written where they are many.
+    #[tactic(auto, unfolding(crate::specs::Text::line_text, crate::specs::Text::line_next))]
+    pub(crate) fn end_line<K: Output>(
+        &mut self,
+        alloc: Global,
+        out: &mut Vec<u8>,
+        sink: &mut K,
+    ) -> Result<(), KvError>
+        ensures same { K.goes_on sink.old sink.new }
         ensures ok { OnOk result ((r : Reading State) → Holds r self.old →
-            (out.new.items ≡ out.old.items ++ ended KEPT_BYTES line_text line_next r)
+            Pours (ended KEPT_BYTES line_text line_next r)
+            (K.held sink.old) out.old.items (K.held sink.new) out.new.items
             × Holds (line_ended KEPT_BYTES line_text line_next r) self.new) }
-        ensures err { OnErr result ((r : Reading State) → Holds r self.old →
-            AppendsFront (ended KEPT_BYTES line_text line_next r) out.old.items out.new.items) }
-        ensures memory { IfErr result (λ e. e ≡ OutOfMemory) }
+        ensures write_fault { IsErrOf result KvError.WriteFault →
+            K.failed_between sink.old sink.new × ((r : Reading State) → Holds r self.old →
+            Puts (out.old.items ++ ended KEPT_BYTES line_text line_next r) (K.held sink.old) (K.held sink.new)) }
+        ensures memory { IsErrOf result KvError.OutOfMemory → (r : Reading State) → Holds r self.old →
+            PoursFront (ended KEPT_BYTES line_text line_next r)
+            (K.held sink.old) out.old.items (K.held sink.new) out.new.items }
+        ensures fault { IfErr result IsWriteOrMemory }
     {
-        answer_whole_line(&mut self.bucket, alloc, &self.line, out)?;
+        pour_line(
+            alloc,
+            &mut self.bucket,
+            without_return(&self.line),
+            out,
+            sink,
+        )?;
         self.line.clear();
         Ok(())
     }
 
     /// Takes one byte: a line feed ends the line.
-    fn take_byte(&mut self, alloc: Global, byte: u8, out: &mut Vec<u8>) -> Result<(), KvError>
+    fn take_byte<K: Output>(
+        &mut self,
+        alloc: Global,
+        byte: u8,
+        out: &mut Vec<u8>,
+        sink: &mut K,
+    ) -> Result<(), KvError>
+        ensures same { K.goes_on sink.old sink.new }
         ensures ok { OnOk result ((r : Reading State) → Holds r self.old →
-            (out.new.items ≡ out.old.items ++ said_by KEPT_BYTES line_text line_next r byte)
+            Pours (said_by KEPT_BYTES line_text line_next r byte)
+            (K.held sink.old) out.old.items (K.held sink.new) out.new.items
             × Holds (step KEPT_BYTES line_text line_next r byte) self.new) }
-        ensures err { OnErr result ((r : Reading State) → Holds r self.old →
-            AppendsFront (said_by KEPT_BYTES line_text line_next r byte) out.old.items out.new.items) }
-        ensures memory { IfErr result (λ e. e ≡ OutOfMemory) }
+        ensures write_fault { IsErrOf result KvError.WriteFault →
+            K.failed_between sink.old sink.new × ((r : Reading State) → Holds r self.old →
+            Puts (out.old.items ++ said_by KEPT_BYTES line_text line_next r byte)
+            (K.held sink.old) (K.held sink.new)) }
+        ensures memory { IsErrOf result KvError.OutOfMemory → (r : Reading State) → Holds r self.old →
+            PoursFront (said_by KEPT_BYTES line_text line_next r byte)
+            (K.held sink.old) out.old.items (K.held sink.new) out.new.items }
+        ensures fault { IfErr result IsWriteOrMemory }
     {
         if byte == b'\n' {
-            return self.end_line(alloc, out);
+            return self.end_line(alloc, out, sink);
         }
         if self.line.len() <= KEPT_BYTES {
             self.line.push(byte)?;
@@ -77,21 +110,29 @@ impl Script {
     }
 
     /// Takes the next bytes, and answers the lines that they end.
-    pub(crate) fn take_bytes(
+    pub(crate) fn take_bytes<K: Output>(
         &mut self,
         alloc: Global,
         bytes: &[u8],
         out: &mut Vec<u8>,
+        sink: &mut K,
     ) -> Result<(), KvError>
+        ensures same { K.goes_on sink.old sink.new }
         ensures ok { OnOk result ((r : Reading State) → Holds r self.old →
-            (out.new.items ≡ out.old.items ++ said KEPT_BYTES line_text line_next r bytes.now)
+            Pours (said KEPT_BYTES line_text line_next r bytes.now)
+            (K.held sink.old) out.old.items (K.held sink.new) out.new.items
             × Holds (after_bytes KEPT_BYTES line_text line_next r bytes.now) self.new) }
-        ensures err { OnErr result ((r : Reading State) → Holds r self.old →
-            AppendsFront (said KEPT_BYTES line_text line_next r bytes.now) out.old.items out.new.items) }
-        ensures memory { IfErr result (λ e. e ≡ OutOfMemory) }
+        ensures write_fault { IsErrOf result KvError.WriteFault →
+            K.failed_between sink.old sink.new × ((r : Reading State) → Holds r self.old →
+            Puts (out.old.items ++ said KEPT_BYTES line_text line_next r bytes.now)
+            (K.held sink.old) (K.held sink.new)) }
+        ensures memory { IsErrOf result KvError.OutOfMemory → (r : Reading State) → Holds r self.old →
+            PoursFront (said KEPT_BYTES line_text line_next r bytes.now)
+            (K.held sink.old) out.old.items (K.held sink.new) out.new.items }
+        ensures fault { IfErr result IsWriteOrMemory }
     {
         for byte in bytes {
-            self.take_byte(alloc, *byte, out)?;
+            self.take_byte(alloc, *byte, out, sink)?;
         }
         Ok(())
     }

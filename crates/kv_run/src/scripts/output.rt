@@ -26,7 +26,8 @@ pub trait Output {
         ensures ok { OnOk result (Appends (held self.old) (held self.new) bytes.now) }
         ensures err { OnErr result ((n : ℕ) × Appends (held self.old) (held self.new) (take n bytes.now)) }
         ensures fault { IfErr result (λ e. e ≡ WriteFault) }
-        ensures failed { OnErr result (failed_between self.old self.new) };
+        ensures failed { OnErr result (failed_between self.old self.new) }
+        ensures unfailed { OnOk result (failed_between self.old self.new → ⊥) };
 
     ghost goes_on_itself: { (a : Self) → goes_on a a };
 
@@ -35,7 +36,8 @@ pub trait Output {
     ghost failed_later: { (a b c : Self) → goes_on a b → failed_between b c → failed_between a c };
 }
 
-/// A writer that is handed whole texts, and notes how often it fails.
+/// A writer that is handed whole texts, and notes how often it fails. It counts as one that fails after 2^64 − 1
+/// failures.
 #[derive(Drop)]
 pub struct CountedWriter<'w, W> {
     writer: &'w mut W,
@@ -53,6 +55,13 @@ impl<'w, W> CountedWriter<'w, W> {
             writer,
             failures: 0,
         }
+    }
+
+    /// How often it failed, or took no byte.
+    pub fn failures(&self) -> u64
+        ensures { result ≡ self.now.failures }
+    {
+        self.failures
     }
 }
 
@@ -83,6 +92,9 @@ impl<'w, W: Write> Output for CountedWriter<'w, W> {
     ghost failed_between = { λ a b. HasRisen a.failures b.failures };
 
     fn write(&mut self, bytes: &[u8]) -> Result<(), KvError> {
+        if self.failures == u64::MAX {
+            return Err(KvError::WriteFault);
+        }
         match write_all(self.writer, bytes) {
             Ok(()) => Ok(()),
             Err(error) => {

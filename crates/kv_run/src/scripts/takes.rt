@@ -1,6 +1,6 @@
 //! Answers to takes.
 
-ghost use Rattle.std.specs.Prelude.{◌≡◌, ◌++◌, IfOk, OnOk, OnErr, IfErr};
+ghost use Rattle.std.specs.Prelude.{◌≡◌, ◌++◌, IfOk, OnOk, OnErr, IfErr, IsErrOf};
 ghost use Rattle.kv_model.specs.Answers.{answer_item, event_answered};
 ghost use Rattle.kv_bucket.specs.Held.{Represents};
 ghost use Rattle.kv_model.specs.State.{State, after, answer_to};
@@ -8,9 +8,13 @@ ghost use Rattle.kv_model.specs.declared.call.Call.TheVariants.{Take};
 ghost use Rattle.kv_keys.specs.declared.error.KvError.TheVariants.{OutOfMemory};
 ghost use Rattle.kv_script.specs.Answered.{taken_text};
 ghost use Rattle.kv_watch.specs.Taking.{item_taken};
+ghost use Rattle.kv_run.specs.Faults.{IsWriteOrMemory};
 ghost use Rattle.kv_run.specs.Steps.{Does, EndsBetween};
-ghost use Rattle.kv_run.specs.Text.{hands_out, takes};
+ghost use Rattle.kv_run.specs.Text.{hands_out, steps_next, steps_text, takes};
+ghost use Rattle.kv_run.specs.inside.Written.{Pours, PoursFront, Puts};
 
+use crate::scripts::output::Output;
+use crate::scripts::pouring::pour_many;
 use kv_bucket::{Bucket, Event};
 use kv_keys::KvError;
 use kv_script::{append_empty, append_marker, append_refusal, append_taken_entry};
@@ -106,6 +110,37 @@ pub(crate) fn answer_takes(
 {
     for _ in 0..count {
         if !answer_take(alloc, bucket, watch, out)? {
+            return Ok(());
+        }
+    }
+    Ok(())
+}
+
+/// Makes so many takes, up to the first that hands out no item. The answers wait behind others, and are written where
+/// they are many.
+pub(crate) fn pour_takes<K: Output>(
+    alloc: Global,
+    bucket: &mut Bucket,
+    watch: u64,
+    count: u64,
+    out: &mut Vec<u8>,
+    sink: &mut K,
+) -> Result<(), KvError>
+    ensures same { K.goes_on sink.old sink.new }
+    ensures ok { OnOk result ((state : State) → Represents state bucket.old →
+        Pours (steps_text (takes watch count state)) (K.held sink.old) out.old.items (K.held sink.new) out.new.items
+        × Represents (steps_next state (takes watch count state)) bucket.new) }
+    ensures write_fault { IsErrOf result KvError.WriteFault →
+        K.failed_between sink.old sink.new × ((state : State) → Represents state bucket.old →
+        Puts (out.old.items ++ steps_text (takes watch count state)) (K.held sink.old) (K.held sink.new)) }
+    ensures memory { IsErrOf result KvError.OutOfMemory → (state : State) → Represents state bucket.old →
+        PoursFront (steps_text (takes watch count state)) (K.held sink.old) out.old.items (K.held sink.new) out.new.items }
+    ensures fault { IfErr result IsWriteOrMemory }
+{
+    for _ in 0..count {
+        let goes_on = answer_take(alloc, bucket, watch, out)?;
+        pour_many(out, sink)?;
+        if !goes_on {
             return Ok(());
         }
     }

@@ -1,12 +1,13 @@
 use Rattle.std.proofs.Common.{◌≡◌, codes, ap, ap₂, ◌∙◌}
 use Rattle.std.proofs.lemmas.Result.{IfOk-weaker}
 use Rattle.clap.specs.Simple.{app_of, app_of_fields, new_app, with_rule}
+use Rattle.kv_run.specs.Arguments.{versioned}
 use Rattle.kv_run.proofs.arguments.command.Goals as goal
 
 pub returns : goal.returns
 returns c =
-    let named : app_of c.after_help.result ≡ new_app (codes "kvbucket") =
-    ap app_of_fields c.after_help.ensures ∙ ap app_of_fields c.about.ensures ∙ c.new.ensures.app in
+    let named : app_of c.version.result ≡ versioned (new_app (codes "kvbucket")) =
+    ap app_of_fields c.version.ensures ∙ ap versioned c.new.ensures.app in
     let one = c.in_ok-arg.ensures.shape c.text.ensures.local ∙ ap₂ with_rule named c.text.ensures.rule in
     let two = c.in_ok-arg-2.ensures.shape c.number.ensures.local ∙ ap₂ with_rule one c.number.ensures.rule in
     let three = c.in_ok-arg-3.ensures.shape c.number-2.ensures.local ∙ ap₂ with_rule two c.number-2.ensures.rule in

@@ -1,18 +1,35 @@
-use Rattle.std.proofs.Common.{◌<◌, length, arith}
-use Rattle.kv_run.proofs.Progress.{on_err}
-use Rattle.kv_run.proofs.TakingBytes.{drop_here, took_one, took_part}
+use Rattle.std.proofs.Common.{◌<◌, length, arith, rules}
+use Rattle.kv_run.proofs.TakingBytes.{drop_here, took_fault, took_none, took_one, took_part}
 use Rattle.kv_run.proofs.scripts.lines.Script.take_bytes.Goals as goal
 
 pub loop-byte-preserved : goal.loop-byte-preserved
-loop-byte-preserved c =
+loop-byte-preserved g c =
     let inside : c.loop-byte.byte-index < length c.args.bytes.now = omega arith in
-    λ r holding.
-    let so_far = c.loop-byte.invariant r holding in
-    took_one r _ _ _ _ _ _ so_far (drop_here _ _ inside) _ _ (c.in_ok-take_byte.ensures.ok so_far.reading so_far.holds)
+    record {
+      same = g.met.K.Output.goes_on_later _ _ _ c.loop-byte.invariant.same c.in_ok-take_byte.ensures.same;
+      took = λ r holding.
+          let so_far = c.loop-byte.invariant.took r holding in
+          took_one r _ _ _ _ _ _ _ _ so_far (drop_here _ _ inside) _ _ _ (c.in_ok-take_byte.ensures.ok so_far.reading so_far.holds);
+    }
 
-pub returns-in_err-take_byte-clause-err : goal.returns-in_err-take_byte-clause-err
-returns-in_err-take_byte-clause-err c =
+pub returns-in_err-take_byte-clause-write_fault : goal.returns-in_err-take_byte-clause-write_fault
+returns-in_err-take_byte-clause-write_fault g c = λ fault.
     let inside : c.loop-byte.byte-index < length c.args.bytes.now = omega arith in
-    on_err c.from_residual.result (λ r holding.
-    let so_far = c.loop-byte.invariant r holding in
-    took_part r _ _ _ _ _ _ so_far (drop_here _ _ inside) _ (c.in_err-take_byte.ensures.err so_far.reading so_far.holds))
+    let stop = c.in_err-take_byte.ensures.write_fault (search rules) in (
+      g.met.K.Output.failed_later _ _ _ c.loop-byte.invariant.same stop.0,
+      λ r holding.
+          let so_far = c.loop-byte.invariant.took r holding in
+          took_fault r _ _ _ _ _ _ _ _ so_far (drop_here _ _ inside) _ (stop.1 so_far.reading so_far.holds),
+    )
+
+pub returns-in_err-take_byte-clause-memory : goal.returns-in_err-take_byte-clause-memory
+returns-in_err-take_byte-clause-memory g c = λ fault r holding.
+    let inside : c.loop-byte.byte-index < length c.args.bytes.now = omega arith in
+    let so_far = c.loop-byte.invariant.took r holding in
+    took_part r _ _ _ _ _ _ _ _ so_far (drop_here _ _ inside) _ _ (c.in_err-take_byte.ensures.memory (search rules) so_far.reading so_far.holds)
+
+pub loop-byte-init : goal.loop-byte-init
+loop-byte-init g c = record {
+  same = g.met.K.Output.goes_on_itself _;
+  took = λ r holding. took_none r _ _ _ _ holding;
+}

@@ -4,6 +4,10 @@ use Rattle.kv_run.specs.inside.Scripted.{Holds}
 use Rattle.kv_run.proofs.TakingBytes.{Took}
 use Rattle.kv_run.proofs.scripts.lines.Script.take_bytes.Given as goal
 
--- the bytes so far were taken
+-- the sink is the same, and the bytes so far were taken
 abbrev pub invariant-loop-byte : goal.invariant-loop-byte
-invariant-loop-byte l = (r : Reading State) → Holds r l.fn.self → Took r l.bytes l.fn.out.items l.out.items l.self l.byte-index
+invariant-loop-byte g l = record {
+  same : g.K.Output.goes_on l.initial.sink l.sink;
+  took : (r : Reading State) → Holds r l.initial.self
+      → Took r l.bytes (g.K.Output.held l.initial.sink) l.initial.out.items (g.K.Output.held l.sink) l.out.items l.self l.byte-index;
+}

@@ -1,0 +1,45 @@
+//! What `--help` and `--version` show.
+
+/// The text of `--help`: each argument, and each command with an example.
+pub const HELP: &str = "\
+Runs a script of commands on a key-value bucket: one command a line from standard input, one JSON object a line to
+standard output.
+
+Usage: kvbucket [OPTIONS] < SCRIPT
+
+Options:
+      --bucket NAME         the name of the bucket: 1 to 64 letters, digits, _ and - [kv]
+      --history N           how many entries of each key are kept, 1 to 64 [1]
+      --value-limit N       how many bytes a value may have, to 1048576 [1048576]
+      --write-limit N       how many writes may be stored, 1 to 1000000 [1000000]
+      --revision-limit N    the last revision, 1 to 4294967295 [4294967295]
+      --race N              read the whole script first, deal its writes to N workers that write at once, 1 to 16,
+                            and show each watch from its beginning
+  -h, --help                show this
+  -V, --version             show the version, and the kit that proved it
+
+Commands: K is a key, B a value in base64, or - for the empty one, R a revision, F a filter.
+  put K B                   put app.port ODA4MA==        write a value
+  create K B                create app.name YQ==         write a value where there is none
+  update K R B              update app.port 1 OTA5MA==   write a value where R is the last revision of the key
+  delete K [R]              delete app.port              write a marker
+  purge K [R]               purge app.name 2             write a marker, and forget the entries before it
+  get K [R]                 get app.port                 the latest value, or the one of a revision
+  history K                 history app.port             the entries of a key
+  keys F                    keys app.>                   the keys that have a value and match
+  watch F[,F..] [WORD..]    watch app.*,db.> history     open a watch, numbered from 1; words: history, updates,
+                                                         from=R, nodeletes, meta
+  take ID N                 take 1 10                    hand out up to N items of a watch
+  stop ID                   stop 1                       end a watch
+  status                    status                       the numbers of the bucket
+  seal                      seal                         end all writes
+  place K                   place app.port               where a key stands in the hash trie
+
+Empty lines and lines that begin with # are skipped. A refused line is answered, and the script goes on.
+
+Example: printf 'put a MQ==\\nget a\\n' | kvbucket
+Each command is shown with its answer in docs/script.md.
+";
+
+/// The text of `--version`: the program's version, and the kit that it is proved with.
+pub const VERSION: &str = "kvbucket 0.1.0, proved with rattle-kit-13b logic dac8208d650f15bf\n";
