@@ -39,13 +39,31 @@ fn held_guard<N: LiveName + Send + Sync, R: Threads + Wait + Abort + Sync>(
     readers: Vec<Reader<N>>,
 ) -> Result<(), KvError> {
     let (first, _second) = two(readers)?;
+    three_puts(rt, alloc, live)?;
+    let feed = opened_beside_the_guard(rt, alloc, live, first)?;
+    stopped_behind_a_writer(rt, alloc, live, feed)?;
+    seal_then_write(rt, alloc, live)
+}
+
+fn three_puts<N: LiveName, R: Wait + Abort>(
+    rt: &R,
+    alloc: Global,
+    live: &Live<N>,
+) -> Result<(), KvError> {
     for (key, revision) in [("a", 1), ("b", 2), ("c", 3)] {
         puts_at(rt, alloc, live, key, revision)?;
     }
-    let feed = opened_beside_the_guard(rt, alloc, live, first)?;
+    Ok(())
+}
+
+fn stopped_behind_a_writer<N: LiveName + Send + Sync, R: Threads + Wait + Abort + Sync>(
+    rt: &R,
+    alloc: Global,
+    live: &Live<N>,
+    feed: Feed<N>,
+) -> Result<(), KvError> {
     let feed = written_beside(rt, alloc, live, feed)?;
-    stopped_after_five(rt, feed)?;
-    seal_then_write(rt, alloc, live)
+    stopped_after_five(rt, feed)
 }
 
 // This thread has the guard while another opens a feed, and takes all that it is given.
@@ -222,15 +240,24 @@ fn kept_guard<N: LiveName + Send + Sync, R: Threads + Wait + Abort + Sync>(
     readers: Vec<Reader<N>>,
 ) -> Result<(), KvError> {
     three_writes(rt, alloc, live)?;
-    let (first, second) = two(readers)?;
-    let filters = all_keys(alloc)?;
-    let feed = taken_with_the_marker(rt, first, &filters)?;
-    let reader = stopped_beside(rt, alloc, live, feed)?;
-    // A feed that is dropped takes its reader with it, and nobody waits for either.
-    drop(open_feed(reader, &filters)?);
+    let (first, mut second) = two(readers)?;
+    followed_and_dropped(rt, alloc, live, first)?;
     puts_at(rt, alloc, live, "d", 5)?;
-    let mut second = second;
     reads_up_to(rt, &mut second, 5)
+}
+
+// A feed that is dropped takes its reader with it, and nobody waits for either.
+fn followed_and_dropped<N: LiveName + Send + Sync, R: Threads + Wait + Abort + Sync>(
+    rt: &R,
+    alloc: Global,
+    live: &Live<N>,
+    reader: Reader<N>,
+) -> Result<(), KvError> {
+    let filters = all_keys(alloc)?;
+    let feed = taken_with_the_marker(rt, reader, &filters)?;
+    let reader = stopped_beside(rt, alloc, live, feed)?;
+    drop(open_feed(reader, &filters)?);
+    Ok(())
 }
 
 fn taken_with_the_marker<N: LiveName, R: Abort>(
@@ -250,12 +277,20 @@ fn stopped_beside<N: LiveName + Send + Sync, R: Threads + Wait + Abort + Sync>(
     live: &Live<N>,
     feed: Feed<N>,
 ) -> Result<Reader<N>, KvError> {
-    let request = put(alloc, "c", "")?;
     let mut keeper = live.lock(rt);
-    keeps_at(rt, &mut keeper, &request, 4)?;
+    keeps_the_fourth(rt, alloc, &mut keeper)?;
     let (reader, ()) = join(rt, || fourth_taken(rt, feed), || ());
     is_at(rt, &keeper, 4);
     reader
+}
+
+fn keeps_the_fourth<N: LiveName, R: Wait + Abort>(
+    rt: &R,
+    alloc: Global,
+    keeper: &mut Keeper<N>,
+) -> Result<(), KvError> {
+    let request = put(alloc, "c", "")?;
+    keeps_at(rt, keeper, &request, 4)
 }
 
 fn keep_once<N: LiveName, R: Wait>(
