@@ -253,7 +253,7 @@ class Snapshots(unittest.TestCase):
                 view.get("a")
 
     def test_reads(self):
-        with Bucket("settings", history=2) as bucket:
+        with fresh_bucket(history=2) as bucket:
             for value in (b"1", b"2"):
                 bucket["a.x"] = value
             with bucket.snapshot() as view:
@@ -269,7 +269,7 @@ class Snapshots(unittest.TestCase):
                     self.assertEqual(same["a.x"], b"2")
 
     def test_feed(self):
-        with Bucket("settings", history=2) as bucket:
+        with fresh_bucket(history=2) as bucket:
             for value in (b"1", b"2"):
                 bucket["a"] = value
             with bucket.snapshot() as view:
