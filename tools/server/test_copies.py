@@ -46,7 +46,7 @@ def shown(bucket):
 
 
 class Relay:
-    """A way to the server that is cut when so many writes went over it."""
+    """A way to the server that is cut when so many writes went over it: the answer to the last one is not let through."""
 
     def __init__(self, port, writes):
         self._listener = socket.create_server(("127.0.0.1", 0))
@@ -60,10 +60,11 @@ class Relay:
             threading.Thread(target=self._answers, args=(there, client), daemon=True).start()
             while writes > 0:
                 data = client.recv(65536)
-                there.sendall(data)
                 writes -= data.count(b"PUB $KV.")
+                if writes <= 0:
+                    client.shutdown(socket.SHUT_RDWR)
+                there.sendall(data)
             there.shutdown(socket.SHUT_RDWR)
-            client.shutdown(socket.SHUT_RDWR)
 
     def _answers(self, there, client):
         try:
