@@ -1,5 +1,5 @@
 -- What a run that ended early says of the program.
-use Rattle.std.proofs.Common.{◌≡◌, ◌⊎◌, ℕ, List, [], Option, Result, Ok, Err, sym, ap, subst, inl, inr, ◌∙◌}
+use Rattle.std.proofs.Common.{◌≡◌, ◌⊎◌, ℕ, List, [], Option, Result, Err, sym, ap, subst, inl, inr, ◌∙◌}
 use Rattle.std.specs.Prelude.{⊤, IsErrOf}
 use Rattle.clap.specs.Kinds.{HasKind, IsAmong, Kinds}
 use Rattle.clap.specs.Values.{kind_of}
