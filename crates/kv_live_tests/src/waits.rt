@@ -15,13 +15,16 @@ use std::test::Fail;
 use std::thread::{Threads, join};
 use std::time::Duration;
 
-const MOMENT: Duration = Duration::from_millis(20);
-
 const UPDATES: Options = Options {
     start: Start::Updates,
     ignore_deletes: false,
     headers_only: false,
 };
+
+// Long enough for who doesn't wait, and short enough for a test.
+fn moment() -> Duration {
+    Duration::from_millis(20)
+}
 
 // What is run on an opening with one reader.
 #[derive(Clone, Copy)]
@@ -93,7 +96,7 @@ fn put<N: LiveName, R: Wait>(rt: &R, alloc: Global, live: &Live<N>) -> Result<u6
 }
 
 fn waits<N: LiveName, R: Wait + Clock + Abort>(rt: &R, reader: &Reader<N>, woken: Option<Woken>) {
-    assert_eq!(rt; reader.wait_timeout(rt, MOMENT), woken);
+    assert_eq!(rt; reader.wait_timeout(rt, moment()), woken);
 }
 
 #[test]
@@ -167,11 +170,11 @@ fn feeds<N: LiveName, R: Wait + Clock + Abort>(
     reader: Reader<N>,
 ) -> Result<(), KvError> {
     let mut feed = open_feed(reader, &Filters::parse(alloc, "app.>")?)?;
-    assert_eq!(rt; feed.wait_timeout(rt, MOMENT), None);
+    assert_eq!(rt; feed.wait_timeout(rt, moment()), None);
     put(rt, alloc, live)?;
     assert_eq!(rt; feed.wait(rt), Woken::Changed);
     feed.refresh()?;
-    assert_eq!(rt; feed.wait_timeout(rt, MOMENT), None);
+    assert_eq!(rt; feed.wait_timeout(rt, moment()), None);
     live.finish();
     assert_eq!(rt; feed.wait(rt), Woken::Closed);
     Ok(())
