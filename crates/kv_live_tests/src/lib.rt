@@ -5,5 +5,3 @@
 mod buckets;
 #[cfg(test)]
 mod examples;
-#[cfg(test)]
-mod waits;
