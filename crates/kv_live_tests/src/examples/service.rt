@@ -61,6 +61,10 @@ fn pause<R: Clock>(rt: &R, millis: u64) {
     thread::sleep(rt, Duration::from_millis(millis));
 }
 
+fn micros(time: Duration) -> u64 {
+    u64::try_from(time.as_micros()).unwrap_or(u64::MAX)
+}
+
 fn run<N: LiveName, R: Wait + Clock + CpuClock>(
     rt: &R,
     alloc: Global,
@@ -93,7 +97,7 @@ fn run<N: LiveName, R: Wait + Clock + CpuClock>(
             let before = rt.process_cpu_time().unwrap_or(Duration::ZERO);
             pause(rt, 1000);
             let after = rt.process_cpu_time().unwrap_or(Duration::MAX);
-            Ok(after.saturating_sub(before).as_micros() as u64)
+            Ok(micros(after.saturating_sub(before)))
         }
     }
 }

@@ -78,14 +78,18 @@ fn told_write<N: LiveName + Send + Sync, R: Threads + Wait + Abort + Sync>(
     live: &Live<N>,
     readers: Vec<Reader<N>>,
 ) -> Result<(), KvError> {
-    let filters = all_keys(alloc)?;
     let (first, second) = two(readers)?;
-    let feed = open_feed(first, &filters)?;
+    let feed = feed_of_all(alloc, first)?;
     let (receipt, ()) = join(rt, || told_at(rt, alloc, live, 1), || ());
     let receipt = receipt?;
     feed_sees(rt, feed, &receipt)?;
     reader_sees(rt, second, &receipt, 1)?;
     Ok(())
+}
+
+fn feed_of_all<N: LiveName>(alloc: Global, reader: Reader<N>) -> Result<Feed<N>, KvError> {
+    let filters = all_keys(alloc)?;
+    open_feed(reader, &filters)
 }
 
 fn feed_sees<N: LiveName, R: Abort>(
@@ -128,13 +132,30 @@ fn told_twice<N: LiveName + Send + Sync, R: Threads + Wait + Abort + Sync>(
     live: &Live<N>,
     readers: Vec<Reader<N>>,
 ) -> Result<(), KvError> {
+    let (older, newer) = two_told(rt, alloc, live)?;
     let (first, second) = two(readers)?;
+    sees_both(rt, first, &newer, &older)?;
+    sees_both(rt, second, &older, &newer)
+}
+
+fn two_told<N: LiveName, R: Wait + Abort>(
+    rt: &R,
+    alloc: Global,
+    live: &Live<N>,
+) -> Result<(Receipt<N>, Receipt<N>), KvError> {
     let older = told_at(rt, alloc, live, 1)?;
     let newer = told_at(rt, alloc, live, 2)?;
-    let first = reader_sees(rt, first, &newer, 2)?;
-    reader_sees(rt, first, &older, 2)?;
-    let second = reader_sees(rt, second, &older, 2)?;
-    reader_sees(rt, second, &newer, 2)?;
+    Ok((older, newer))
+}
+
+fn sees_both<N: LiveName, R: Abort>(
+    rt: &R,
+    reader: Reader<N>,
+    one: &Receipt<N>,
+    other: &Receipt<N>,
+) -> Result<(), KvError> {
+    let reader = reader_sees(rt, reader, one, 2)?;
+    reader_sees(rt, reader, other, 2)?;
     Ok(())
 }
 
@@ -172,12 +193,23 @@ fn seen_in_turn<N: LiveName + Send + Sync, R: Threads + Wait + Abort + Sync>(
 ) -> Result<(), KvError> {
     let (mut first, mut second) = two(readers)?;
     compare_as(rt, &first, &second, (true, true));
-    let receipt = told_at(rt, alloc, live, 1)?;
-    has_seen_as(rt, &first, &receipt, false);
-    reads_up_to(rt, &mut first, 1)?;
-    has_seen_as(rt, &first, &receipt, true);
+    sees_a_write(rt, alloc, live, &mut first)?;
     compare_as(rt, &first, &second, (true, false));
     reads_up_to(rt, &mut second, 1)?;
     compare_as(rt, &first, &second, (true, true));
+    Ok(())
+}
+
+// A reader has seen a told write once it has entered behind it.
+fn sees_a_write<N: LiveName, R: Wait + Abort>(
+    rt: &R,
+    alloc: Global,
+    live: &Live<N>,
+    reader: &mut Reader<N>,
+) -> Result<(), KvError> {
+    let receipt = told_at(rt, alloc, live, 1)?;
+    has_seen_as(rt, reader, &receipt, false);
+    reads_up_to(rt, reader, 1)?;
+    has_seen_as(rt, reader, &receipt, true);
     Ok(())
 }
