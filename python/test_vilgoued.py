@@ -9,15 +9,13 @@ import vilgoued
 from vilgoued import Entry, Snapshot
 
 server = os.environ.get("VILGOUED_SERVER")
-if server:
-    import vilgoued_nats
 fresh = itertools.count(1)
 
 
 def open_bucket(name, *arguments, **settings):
     """The bucket of this name, in this process or on the server."""
     if server:
-        return vilgoued_nats.Bucket(server, name, *arguments, **settings)
+        return vilgoued.nats.Bucket(server, name, *arguments, **settings)
     return vilgoued.Bucket(name, *arguments, **settings)
 
 

@@ -420,3 +420,12 @@ class Feed(_Held, _Items):
 
     def _take(self):
         return self._item(_lib.kv_feed_take)
+
+
+def __getattr__(name):
+    """`vilgoued.nats` is the same bucket on a NATS server, where vilgoued_nats.py lies beside this file."""
+    if name == "nats":
+        import vilgoued_nats
+
+        return vilgoued_nats
+    raise AttributeError(f"module 'vilgoued' has no attribute '{name}'")
