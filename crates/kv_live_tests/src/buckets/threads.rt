@@ -114,6 +114,11 @@ fn two<N: LiveName>(readers: Vec<Reader<N>>) -> Result<(Reader<N>, Reader<N>), K
     }
 }
 
+fn feed_of_all<N: LiveName>(alloc: Global, reader: Reader<N>) -> Result<Feed<N>, KvError> {
+    let filters = all_keys(alloc)?;
+    open_feed(reader, &filters)
+}
+
 // What the lock has: its numbers, and its open watches.
 fn look<N: LiveName, R: Wait>(rt: &R, live: &Live<N>) -> (Status, u64) {
     let keeper = live.lock(rt);

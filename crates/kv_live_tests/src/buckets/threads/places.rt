@@ -44,14 +44,20 @@ pub(super) fn freed<N: LiveName, R: Wait + Abort>(
     puts_at(rt, alloc, live, "a", 1)?;
     finds_no_place(rt, live);
     drop(first);
-    let third = finds_a_place(rt, live, 1)?;
-    finds_no_place(rt, live);
-    let feed = open_feed(second, &all_keys(alloc)?)?;
-    drop(feed);
-    let _fourth = finds_a_place(rt, live, 1)?;
-    finds_no_place(rt, live);
-    drop(third);
+    let _third = takes_the_place(rt, live)?;
+    drop(feed_of_all(alloc, second)?);
+    let _fourth = takes_the_place(rt, live)?;
     Ok(())
+}
+
+// The one place that is free.
+fn takes_the_place<N: LiveName, R: Wait + Abort>(
+    rt: &R,
+    live: &Live<N>,
+) -> Result<Reader<N>, KvError> {
+    let reader = finds_a_place(rt, live, 1)?;
+    finds_no_place(rt, live);
+    Ok(reader)
 }
 
 #[test]
@@ -66,11 +72,17 @@ pub(super) fn left_behind<N: LiveName, R: Wait + Abort>(
     live: &Live<N>,
     readers: Vec<Reader<N>>,
 ) -> Result<(), KvError> {
-    let (first, _second) = two(readers)?;
+    let (first, second) = two(readers)?;
+    drop(second);
     puts_at(rt, alloc, live, "a", 1)?;
-    let mut feed = open_feed(first, &all_keys(alloc)?)?;
+    let mut feed = feed_of_all(alloc, first)?;
     puts_at(rt, alloc, live, "b", 2)?;
+    leaves_the_first(rt, &mut feed)
+}
+
+fn leaves_the_first<N: LiveName, R: Abort>(rt: &R, feed: &mut Feed<N>) -> Result<(), KvError> {
     let left = feed.refresh_keeping()?;
-    assert_eq!(rt; (left.revision(), feed.version()?.revision()), (1, 2));
+    let present = feed.version()?;
+    assert_eq!(rt; (left.revision(), present.revision()), (1, 2));
     Ok(())
 }

@@ -87,11 +87,6 @@ fn told_write<N: LiveName + Send + Sync, R: Threads + Wait + Abort + Sync>(
     Ok(())
 }
 
-fn feed_of_all<N: LiveName>(alloc: Global, reader: Reader<N>) -> Result<Feed<N>, KvError> {
-    let filters = all_keys(alloc)?;
-    open_feed(reader, &filters)
-}
-
 fn feed_sees<N: LiveName, R: Abort>(
     rt: &R,
     feed: Feed<N>,
