@@ -30,11 +30,15 @@ enum {
     KV_KEY_NOT_FOUND = 12,
     KV_NO_SUCH_WATCH = 13,
     KV_TOO_MANY_WATCHES = 14,
+    KV_BAD_FLOOR = 19,
+    KV_WATCH_BEHIND = 20,
+    KV_LAGGED = 21,
     KV_CLOSED = 32,
     KV_TOO_LITTLE_ROOM = 33,
     KV_OPEN_ALREADY = 34,
     KV_NO_SUCH_START = 35,
-    KV_OLDER_VIEW = 36
+    KV_OLDER_VIEW = 36,
+    KV_NO_SUCH_CODE = 37
 };
 
 /* What a take hands out: nothing is left, the end marker, an entry. */
@@ -82,7 +86,7 @@ typedef struct kv_item {
     uint64_t revision;
     size_t key_size;
     uint64_t size;     /* of the value, also where it isn't shown */
-    size_t value_size; /* how much of it was copied: all, or 0 where it isn't shown */
+    size_t value_size; /* how much of it is copied: all, or 0 where it isn't shown */
     bool has_value;
 } kv_item;
 
@@ -107,13 +111,21 @@ uint64_t kv_purge(kv_bucket *bucket, const uint8_t *key, size_t key_size, bool h
                   uint64_t *revision);
 uint64_t kv_seal(kv_bucket *bucket);
 
+/* Compacts to a floor: of the writes at or below it only the retained ones stay stored. KV_BAD_FLOOR where the floor is
+ * 0, above the last revision, or below the floor so far; else KV_WATCH_BEHIND where a watch has still to be handed an
+ * entry at or below it that came after its opening: *watch is then the least number of such a watch. */
+uint64_t kv_compact(kv_bucket *bucket, uint64_t floor, uint64_t *watch);
+/* The highest floor to which the bucket can be compacted, 0 where there is none. */
+uint64_t kv_reach(kv_bucket *bucket, uint64_t *floor);
+
 /* The value is copied to the room; where that is too little, *size tells how much is needed. */
 uint64_t kv_get(kv_bucket *bucket, const uint8_t *key, size_t key_size, uint8_t *room, size_t room_size, size_t *size,
                 uint64_t *revision);
 uint64_t kv_get_at(kv_bucket *bucket, const uint8_t *key, size_t key_size, uint64_t at, uint8_t *room,
                    size_t room_size, size_t *size, uint64_t *revision);
 /* The retained entry of the key that has this index, oldest first, without the key; past the last, item->kind is
- * KV_EMPTY. *count tells how many there are: 64 at the most. */
+ * KV_EMPTY. *count tells how many there are: 64 at the most. Where there is too little room, item->value_size tells how
+ * much is needed. */
 uint64_t kv_history(kv_bucket *bucket, const uint8_t *key, size_t key_size, size_t index, uint8_t *room,
                     size_t room_size, kv_item *item, size_t *count);
 uint64_t kv_get_status(kv_bucket *bucket, kv_status *status);
@@ -126,7 +138,8 @@ uint64_t kv_keys(kv_bucket *bucket, const uint8_t *filter, size_t filter_size, u
 /* The filters stand with a comma between two. */
 uint64_t kv_watch(kv_bucket *bucket, const uint8_t *filters, size_t filters_size, const kv_options *options,
                   uint64_t *number);
-/* Where there is too little room, nothing moves and nothing is copied. A key has at most 255 bytes. */
+/* Where there is too little room, nothing moves and nothing is copied, and item->key_size and item->value_size tell how
+ * much is needed. A key has at most 255 bytes. */
 uint64_t kv_take(kv_bucket *bucket, uint64_t number, uint8_t *keys, size_t keys_size, uint8_t *values,
                  size_t values_size, kv_item *item);
 uint64_t kv_stop(kv_bucket *bucket, uint64_t number, uint64_t *handed);
@@ -148,10 +161,17 @@ void kv_view_close(kv_view *view);
  * write up to the view that it has gone on to: a later view of the same bucket, which is read during the call alone. */
 uint64_t kv_feed_open(kv_view *view, const uint8_t *filters, size_t filters_size, const kv_options *options,
                       kv_feed *feed);
-uint64_t kv_feed_refresh(kv_feed *feed, kv_view *view);
+/* KV_LAGGED where entries that the feed has still to hand out may be gone from the view, which has been compacted: its
+ * floor, to which *floor is set, is above the last revision that the feed has gone on to, or the feed has still to hand
+ * out an entry at or below it that came after its opening. The feed stays where it is, and can be taken to its end. */
+uint64_t kv_feed_refresh(kv_feed *feed, kv_view *view, uint64_t *floor);
 uint64_t kv_feed_take(kv_feed *feed, uint8_t *keys, size_t keys_size, uint8_t *values, size_t values_size,
                       kv_item *item);
 void kv_feed_close(kv_feed *feed);
+
+/* The name of a code, such as WrongLastRevision, with no zero byte behind it: at most 17 bytes. Where there is too little
+ * room, *size tells how much is needed. KV_NO_SUCH_CODE where the number is no refusal's, as KV_OK is none. */
+uint64_t kv_code_name(uint64_t code, uint8_t *room, size_t room_size, size_t *size);
 
 #ifdef __cplusplus
 }

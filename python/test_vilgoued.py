@@ -1,5 +1,6 @@
 """Tests of vilgoued.py over libvilgoued.so: python3 -m unittest test_vilgoued. Where VILGOUED_SERVER is the URL of a NATS server,
 they are the tests of vilgoued_nats.py over it, and those that differ there are expected to fail."""
+import ctypes
 import itertools
 import os
 import threading
@@ -201,6 +202,86 @@ class Watches(unittest.TestCase):
         self.assertEqual(self.bucket.watch(">").number, 65)
 
 
+@unittest.skipIf(server, "a server has no floors")
+class Compactions(unittest.TestCase):
+    def setUp(self):
+        self.bucket = fresh_bucket(history=2)
+        self.addCleanup(self.bucket.close)
+        for value in (b"1", b"2", b"3", b"4"):
+            self.bucket["a"] = value
+
+    def test_compact(self):
+        self.bucket["b"] = b"1"
+        del self.bucket["b"]
+        self.assertEqual(self.bucket.reach(), 6)
+        self.bucket.compact(5)
+        self.assertEqual(self.bucket.status(), (2, 6, 4, 4, 0, False))
+        self.assertEqual([entry.revision for entry in self.bucket.history("a")], [3, 4])
+        self.bucket.compact(6)
+        self.assertEqual(self.bucket.history("b"), [])
+        self.assertEqual(self.bucket.status().stored, 2)
+
+    def test_more_writes_than_the_limit(self):
+        with fresh_bucket(write_limit=2) as bucket:
+            for number in range(1, 101):
+                self.assertEqual(bucket.put("a", b"%d" % number), number)
+                bucket.compact(number)
+            self.assertEqual(bucket.status().stored, 1)
+
+    def test_bad_floors(self):
+        for floor in (0, 5):
+            with self.assertRaises(vilgoued.BadFloor):
+                self.bucket.compact(floor)
+        self.bucket.compact(3)
+        with self.assertRaises(vilgoued.BadFloor):
+            self.bucket.compact(2)
+        with self.assertRaises(OverflowError):
+            self.bucket.compact(-1)
+
+    def test_a_watch_that_is_behind(self):
+        first, second = self.bucket.watch("b"), self.bucket.watch("a")
+        self.bucket["a"] = b"5"
+        self.bucket["a"] = b"6"
+        self.bucket.compact(4)
+        self.assertEqual(self.bucket.reach(), 4)
+        with self.assertRaises(vilgoued.WatchBehind) as refused:
+            self.bucket.compact(5)
+        self.assertEqual(refused.exception.watch, second.number)
+        self.assertEqual([it.marker or it.revision for it in second], [4, True, 5, 6])
+        self.assertEqual(self.bucket.reach(), 6)
+        self.bucket.compact(6)
+        self.assertEqual([it.marker for it in first], [True])
+
+    def test_a_feed_that_lags(self):
+        with self.bucket.snapshot() as view:
+            feed, ahead = view.watch("a"), view.watch("a")
+        self.bucket["a"] = b"5"
+        with self.bucket.snapshot() as view:
+            feed.refresh(view)
+            ahead.refresh(view)
+        self.assertEqual([it.marker or it.revision for it in ahead], [4, True, 5])
+        self.bucket.compact(5)
+        self.bucket["a"] = b"6"
+        with self.bucket.snapshot() as view:
+            with self.assertRaises(vilgoued.Lagged) as refused:
+                feed.refresh(view)
+            self.assertEqual(refused.exception.floor, 5)
+            ahead.refresh(view)
+            self.assertEqual([it.marker or it.revision for it in feed], [4, True, 5])
+            feed.refresh(view)
+        self.assertEqual([it.revision for it in feed], [6])
+        self.assertEqual([it.revision for it in ahead], [6])
+
+    def test_a_feed_whose_snapshot_ends_below_the_floor(self):
+        with self.bucket.snapshot() as view:
+            feed = view.watch("b")
+        self.bucket["b"] = b"1"
+        self.bucket.compact(5)
+        with self.bucket.snapshot() as view, self.assertRaises(vilgoued.Lagged) as refused:
+            feed.refresh(view)
+        self.assertEqual(refused.exception.floor, 5)
+
+
 class Refusals(unittest.TestCase):
     def test_names(self):
         for name in ("", "no name", "x" * 65, b"\xff"):
@@ -228,6 +309,18 @@ class Refusals(unittest.TestCase):
         for call in (lambda: bucket.put("a", b""), lambda: bucket.get("a"), lambda: next(watch), bucket.status, bucket.seal):
             with self.assertRaises(vilgoued.Closed):
                 call()
+
+    @unittest.skipIf(server, "the names are the library's")
+    def test_names_of_codes(self):
+        room, size = ctypes.create_string_buffer(17), ctypes.c_size_t()
+
+        def name_of(code):
+            done = vilgoued._lib.kv_code_name(code, room, len(room), ctypes.byref(size))
+            return room.raw[: size.value].decode() if done == 0 else done
+
+        for code, refusal in vilgoued._REFUSALS.items():
+            self.assertEqual(name_of(code), refusal.__name__)
+        self.assertEqual([name_of(code) for code in (0, 22, 31, 38, (1 << 64) - 1)], [37] * 5)
 
     def test_numbers(self):
         with fresh_bucket() as bucket:

@@ -49,12 +49,22 @@ _REFUSALS = {
         (12, "KeyNotFound"),
         (13, "NoSuchWatch"),
         (14, "TooManyWatches"),
+        (19, "BadFloor"),
+        (20, "WatchBehind"),
+        (21, "Lagged"),
         (32, "Closed"),
         (33, "TooLittleRoom"),
         (34, "OpenAlready"),
         (35, "NoSuchStart"),
         (36, "OlderView"),
     )
+}
+
+# The refusals that tell a number: its name, and what it is.
+_TOLD = {
+    11: ("last", "the key's last revision is %d"),
+    20: ("watch", "the watch %d has still to be handed an entry at or below the floor"),
+    21: ("floor", "the feed lags behind the snapshot's floor, which is %d"),
 }
 
 Value = namedtuple("Value", "value revision")
@@ -140,13 +150,16 @@ def _load():
         "kv_delete": [handle, *text, flag, number, out],
         "kv_purge": [handle, *text, flag, number, out],
         "kv_seal": [handle],
+        "kv_compact": [handle, number, out],
+        "kv_reach": [handle, out],
         "kv_watch": [handle, *text, options, out],
         "kv_take": [handle, number, *text, *text, item],
         "kv_stop": [handle, number, out],
         "kv_snapshot": [handle, handle],
         "kv_feed_open": [handle, *text, options, handle],
-        "kv_feed_refresh": [handle, handle],
+        "kv_feed_refresh": [handle, handle, out],
         "kv_feed_take": [handle, *text, *text, item],
+        "kv_code_name": [number, *text, sized],
         **{"kv_" + name: arguments for name, arguments in reads.items()},
         **{"kv_view_" + name: arguments for name, arguments in reads.items()},
     }.items():
@@ -195,16 +208,17 @@ class _Held:
         self._handle = _Handle()
         self._close = close
         self._size = ctypes.c_size_t()
-        self._revision = ctypes.c_uint64()
+        self._number = ctypes.c_uint64()
         self._values = ctypes.create_string_buffer(4096)
 
     def _ask(self, function, *arguments):
         code = function(ctypes.byref(self._handle), *arguments)
         if code:
             refusal = _REFUSALS[code]()
-            if code == 11:
-                refusal.last = self._revision.value
-                refusal.args = (f"the key's last revision is {refusal.last}",)
+            if code in _TOLD:
+                name, text = _TOLD[code]
+                setattr(refusal, name, self._number.value)
+                refusal.args = (text % self._number.value,)
             raise refusal
 
     def _sized(self, function, arguments, *told):
@@ -222,7 +236,7 @@ class _Held:
         try:
             self._ask(function, *arguments, key, len(key), self._values, len(self._values), ctypes.byref(item))
         except _REFUSALS[33]:
-            self._values = ctypes.create_string_buffer(1_048_576)
+            self._values = ctypes.create_string_buffer(item.value_size)
             return self._item(function, *arguments)
         if item.kind == 0:
             return None
@@ -258,8 +272,8 @@ class _Reader(_Held):
             setattr(self, "_kv_" + name, getattr(_lib, prefix + name))
 
     def _read(self, function, *arguments):
-        value = self._sized(function, arguments, ctypes.byref(self._revision))
-        return Value(value, self._revision.value)
+        value = self._sized(function, arguments, ctypes.byref(self._number))
+        return Value(value, self._number.value)
 
     def get(self, key, default=None, *, at=None):
         """The value of the key with its revision, or `default`; with `at`, the put of that revision, if retained."""
@@ -291,7 +305,7 @@ class _Reader(_Held):
             except _REFUSALS[12]:
                 return entries
             except _REFUSALS[33]:
-                self._values = ctypes.create_string_buffer(1_048_576)
+                self._values = ctypes.create_string_buffer(item.value_size)
                 continue
             if item.kind == 0:
                 return entries
@@ -324,8 +338,8 @@ class Bucket(_Reader):
         self._ask(_lib.kv_open, *_text(name), ctypes.byref(limits))
 
     def _write(self, function, *arguments):
-        self._ask(function, *arguments, ctypes.byref(self._revision))
-        return self._revision.value
+        self._ask(function, *arguments, ctypes.byref(self._number))
+        return self._number.value
 
     def put(self, key, value):
         """Gives the key the value, and answers the revision of the write."""
@@ -350,6 +364,17 @@ class Bucket(_Reader):
     def seal(self):
         """Ends the writes."""
         self._ask(_lib.kv_seal)
+
+    def compact(self, floor):
+        """Compacts to the floor: of the writes at or below it only the retained ones stay stored. BadFloor where it is 0,
+        above the last revision, or below the floor so far; else WatchBehind, which has `watch`, the least number of one
+        that has still to hand out an entry at or below the floor that came after it was opened."""
+        self._ask(_lib.kv_compact, _u64(floor), ctypes.byref(self._number))
+
+    def reach(self):
+        """The highest floor to which the bucket can be compacted now, 0 where there is none."""
+        self._ask(_lib.kv_reach, ctypes.byref(self._number))
+        return self._number.value
 
     def __setitem__(self, key, value):
         self.put(key, value)
@@ -415,8 +440,9 @@ class Feed(_Held, _Items):
         snapshot._ask(_lib.kv_feed_open, *_text(filters), ctypes.byref(options), ctypes.byref(self._handle))
 
     def refresh(self, snapshot):
-        """Goes on to a later snapshot of the same bucket, which may be closed then."""
-        self._ask(_lib.kv_feed_refresh, ctypes.byref(snapshot._handle))
+        """Goes on to a later snapshot of the same bucket, which may be closed then. Lagged, which has `floor`, where the
+        bucket was compacted past what the feed has still to hand out: then take what is left, and watch the snapshot."""
+        self._ask(_lib.kv_feed_refresh, ctypes.byref(snapshot._handle), ctypes.byref(self._number))
 
     def _take(self):
         return self._item(_lib.kv_feed_take)

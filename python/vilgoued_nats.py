@@ -410,6 +410,14 @@ class Bucket:
         """Is refused: a server has none."""
         raise NotImplementedError("a server has no snapshots")
 
+    def compact(self, floor):
+        """Is refused: a server has no floors. What is no longer retained is gone there, with no call."""
+        raise NotImplementedError("a server has no floors")
+
+    def reach(self):
+        """Is refused in the same way."""
+        raise NotImplementedError("a server has no floors")
+
     def close(self):
         """Ends the connection. The bucket stays, and what is closed stays so."""
         self._is_open = False

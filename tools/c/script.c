@@ -21,22 +21,19 @@ static bool is(text word, const char *name) {
     return word.size == strlen(name) && !memcmp(word.at, name, word.size);
 }
 
-static const char *name_of(uint64_t code) {
-    static const char *const known[] = {
-        "", "OutOfMemory", "BadBucket", "BadConfig", "BadKey", "BadFilter", "OptionsClash", "ValueTooLarge", "Sealed",
-        "JournalFull", "KeyExists", "WrongLastRevision", "KeyNotFound", "NoSuchWatch", "TooManyWatches", "NoReader",
-        "BadCommand"};
-    if (code > BAD_COMMAND) {
+/* What a refusal tells besides its code is the key's last revision, or the number of a watch. */
+static void refused(uint64_t code, uint64_t told) {
+    uint8_t name[32];
+    size_t size;
+    if (code >= KV_CLOSED || kv_code_name(code, name, sizeof name, &size)) {
         printf("code %u\n", (unsigned)code);
         exit(1);
     }
-    return known[code];
-}
-
-static void refused(uint64_t code, uint64_t last) {
-    printf("{\"code\":%u,\"error\":\"%s\"", (unsigned)code, name_of(code));
+    printf("{\"code\":%u,\"error\":\"%.*s\"", (unsigned)code, (int)size, (const char *)name);
     if (code == KV_WRONG_LAST_REVISION)
-        printf(",\"last\":%llu", (unsigned long long)last);
+        printf(",\"last\":%llu", (unsigned long long)told);
+    if (code == KV_WATCH_BEHIND)
+        printf(",\"watch\":%llu", (unsigned long long)told);
     puts("}");
 }
 
@@ -283,6 +280,12 @@ static bool done(text *w, size_t count) {
             refused(code, 0);
         else
             puts("{\"sealed\":true}");
+    } else if (count == 2 && is(w[0], "compact") && number(w[1], &n)) {
+        uint64_t watch = 0, code = kv_compact(&bucket, n, &watch);
+        if (code)
+            refused(code, watch);
+        else
+            printf("{\"compacted\":%llu}\n", (unsigned long long)n);
     } else if (count == 2 && is(w[0], "place"))
         place(w[1]);
     else

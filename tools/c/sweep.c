@@ -52,10 +52,11 @@ static void session(void) {
     kv_bucket b = {0};
     kv_view view = {0}, later = {0};
     kv_feed feed = {0};
-    uint64_t revision, number, handed;
+    uint64_t revision, number, handed, floor;
     size_t size, count;
     uint8_t key[64], value[64], keys[256];
     kv_item item;
+    kv_status status;
     int seen = 0;
     TRY(kv_open(&b, B("settings"), &limits));
     TRY(kv_watch(&b, B("app.>,db.*"), &latest, &number));
@@ -92,7 +93,7 @@ static void session(void) {
     TRY(kv_snapshot(&b, &later));
     TRY(kv_feed_take(&feed, key, sizeof key, value, sizeof value, &item));
     WANT(item.kind == KV_MARKER);
-    TRY(kv_feed_refresh(&feed, &later));
+    TRY(kv_feed_refresh(&feed, &later, &floor));
     TRY(kv_feed_take(&feed, key, sizeof key, value, sizeof value, &item));
     WANT(item.kind == KV_ENTRY && item.revision == 62);
     do {
@@ -102,6 +103,12 @@ static void session(void) {
     WANT(seen == 63);
     TRY(kv_stop(&b, number, &handed));
     WANT(handed == 64);
+    TRY(kv_reach(&b, &floor));
+    WANT(floor == 63);
+    TRY(kv_compact(&b, 40, &floor));
+    TRY(kv_compact(&b, 63, &floor));
+    TRY(kv_get_status(&b, &status));
+    WANT(status.stored == status.values && status.stored < 63);
     kv_close(&b);
     kv_view_close(&view);
     kv_view_close(&later);

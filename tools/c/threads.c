@@ -64,7 +64,7 @@ static void *follows(void *unused) {
     (void)unused;
     while (last < rounds) {
         kv_view view = {0};
-        uint64_t code;
+        uint64_t code, floor;
         uint8_t key[255], value[32];
         kv_item item;
         pthread_mutex_lock(&lock);
@@ -77,7 +77,7 @@ static void *follows(void *unused) {
             want(kv_view_get_status(&view, &status) == KV_OK, "its beginning");
             last = status.last;
         } else
-            want(kv_feed_refresh(&feed, &view) == KV_OK, "a refresh");
+            want(kv_feed_refresh(&feed, &view, &floor) == KV_OK, "a refresh");
         kv_view_close(&view);
         for (;;) {
             want(kv_feed_take(&feed, key, sizeof key, value, sizeof value, &item) == KV_OK, "a take");

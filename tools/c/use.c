@@ -63,13 +63,14 @@ static void closed(void) {
     WANT(kv_view_get_status(&view, &status) == KV_CLOSED);
     WANT(kv_feed_open(&view, B(">"), &from_latest, &feed) == KV_CLOSED && !feed.is_open);
     WANT(kv_feed_take(&feed, key, sizeof key, value, sizeof value, &item) == KV_CLOSED);
-    WANT(kv_feed_refresh(&feed, &view) == KV_CLOSED);
+    WANT(kv_feed_refresh(&feed, &view, &n) == KV_CLOSED);
+    WANT(kv_compact(&b, 1, &n) == KV_CLOSED && kv_reach(&b, &n) == KV_CLOSED);
     WANT(n == 77 && size == 77 && !view.is_open);
     kv_close(&b);
     kv_view_close(&view);
     kv_feed_close(&feed);
     WANT(kv_open(&b, B("settings"), &largest) == KV_OK && kv_snapshot(&b, &open) == KV_OK);
-    WANT(kv_feed_refresh(&feed, &open) == KV_CLOSED);
+    WANT(kv_feed_refresh(&feed, &open, &n) == KV_CLOSED);
     kv_view_close(&open);
     kv_close(&b);
 }
@@ -131,7 +132,7 @@ static void kept(void) {
     size_t count = 0;
     WANT(kv_open(&b, B("settings"), &largest) == KV_OK && kv_put(&b, B("a"), B("12"), &r) == KV_OK);
     WANT(kv_delete(&b, B("a"), false, 0, &r) == KV_OK);
-    WANT(kv_history(&b, B("a"), 0, value, 1, &item, &count) == KV_TOO_LITTLE_ROOM && count == 2);
+    WANT(kv_history(&b, B("a"), 0, value, 1, &item, &count) == KV_TOO_LITTLE_ROOM && count == 2 && item.value_size == 2);
     WANT(kv_history(&b, B("a"), 0, value, sizeof value, &item, &count) == KV_OK && item.kind == KV_ENTRY);
     WANT(item.op == KV_PUT && item.revision == 1 && item.size == 2 && item.has_value && !memcmp(value, "12", 2));
     WANT(kv_history(&b, B("a"), 1, value, sizeof value, &item, &count) == KV_OK && item.op == KV_DELETE);
@@ -156,8 +157,8 @@ static void watched(void) {
     WANT(kv_watch(&b, B(">"), &updates, &n) == KV_OK && n == 3);
     WANT(kv_watch(&b, B(">"), &from, &n) == KV_OK && n == 4);
     WANT(take(&b, 9) == KV_NO_SUCH_WATCH);
-    WANT(kv_take(&b, 1, key, 3, value, sizeof value, &item) == KV_TOO_LITTLE_ROOM);
-    WANT(kv_take(&b, 1, key, sizeof key, value, 1, &item) == KV_TOO_LITTLE_ROOM);
+    WANT(kv_take(&b, 1, key, 3, value, sizeof value, &item) == KV_TOO_LITTLE_ROOM && item.key_size == 8);
+    WANT(kv_take(&b, 1, key, sizeof key, value, 1, &item) == KV_TOO_LITTLE_ROOM && item.value_size == 2);
     WANT(take(&b, 1) == KV_OK && shows("app.port", KV_PUT, 2, "81"));
     WANT(take(&b, 1) == KV_OK && item.kind == KV_MARKER);
     WANT(take(&b, 1) == KV_OK && item.kind == KV_EMPTY);
@@ -240,21 +241,101 @@ static void fed(void) {
     WANT(kv_feed_open(&first, B("app.>.x"), &latest, &feed) == KV_BAD_FILTER && !feed.is_open);
     WANT(kv_feed_open(&first, B("app.>"), &latest, &feed) == KV_OK && feed.is_open);
     WANT(kv_feed_open(&first, B("app.>"), &latest, &feed) == KV_OPEN_ALREADY);
-    WANT(kv_feed_take(&feed, key, 3, value, sizeof value, &item) == KV_TOO_LITTLE_ROOM);
-    WANT(kv_feed_take(&feed, key, sizeof key, value, 1, &item) == KV_TOO_LITTLE_ROOM);
+    WANT(kv_feed_take(&feed, key, 3, value, sizeof value, &item) == KV_TOO_LITTLE_ROOM && item.key_size == 8);
+    WANT(kv_feed_take(&feed, key, sizeof key, value, 1, &item) == KV_TOO_LITTLE_ROOM && item.value_size == 2);
     WANT(feed_take(&feed) == KV_OK && shows("app.port", KV_PUT, 1, "80"));
     WANT(feed_take(&feed) == KV_OK && item.kind == KV_MARKER);
     WANT(feed_take(&feed) == KV_OK && item.kind == KV_EMPTY);
-    WANT(kv_feed_refresh(&feed, &second) == KV_OK);
+    WANT(kv_feed_refresh(&feed, &second, &r) == KV_OK);
     kv_view_close(&second);
     WANT(feed_take(&feed) == KV_OK && shows("app.port", KV_DELETE, 2, NULL));
-    WANT(kv_feed_refresh(&feed, &first) == KV_OLDER_VIEW);
+    WANT(kv_feed_refresh(&feed, &first, &r) == KV_OLDER_VIEW);
     kv_view_close(&first);
     WANT(feed_take(&feed) == KV_OK && shows("app.host", KV_PUT, 4, "h"));
     WANT(feed_take(&feed) == KV_OK && item.kind == KV_EMPTY);
     kv_feed_close(&feed);
     kv_feed_close(&feed);
     WANT(!feed.is_open);
+}
+
+static void compacted(void) {
+    kv_bucket b = {0};
+    kv_status status;
+    kv_options latest = {KV_LATEST, 0, false, false};
+    uint64_t n = 0, r = 0;
+    size_t size = 0;
+    WANT(kv_open(&b, B("settings"), &largest) == KV_OK && kv_reach(&b, &n) == KV_OK && n == 0);
+    for (int i = 0; i < 5; i++)
+        WANT(kv_put(&b, B("a"), B("1"), &r) == KV_OK);
+    WANT(kv_compact(&b, 0, &n) == KV_BAD_FLOOR && kv_compact(&b, 6, &n) == KV_BAD_FLOOR && n == 0);
+    WANT(kv_reach(&b, &n) == KV_OK && n == 5 && kv_compact(&b, 4, &n) == KV_OK);
+    WANT(kv_compact(&b, 3, &n) == KV_BAD_FLOOR);
+    WANT(kv_get_status(&b, &status) == KV_OK && status.last == 5 && status.stored == 3 && status.values == 3);
+    WANT(kv_watch(&b, B("b"), &latest, &n) == KV_OK && n == 1 && kv_watch(&b, B(">"), &latest, &n) == KV_OK && n == 2);
+    WANT(kv_put(&b, B("a"), B("2"), &r) == KV_OK && r == 6 && kv_put(&b, B("c"), B("3"), &r) == KV_OK && r == 7);
+    WANT(kv_reach(&b, &n) == KV_OK && n == 5);
+    WANT(kv_compact(&b, 6, &n) == KV_WATCH_BEHIND && n == 2);
+    WANT(kv_compact(&b, 5, &n) == KV_OK);
+    WANT(take(&b, 2) == KV_OK && shows("a", KV_PUT, 5, "1") && take(&b, 2) == KV_OK && item.kind == KV_MARKER);
+    WANT(take(&b, 2) == KV_OK && shows("a", KV_PUT, 6, "2"));
+    WANT(kv_compact(&b, 7, &n) == KV_WATCH_BEHIND && n == 2 && kv_compact(&b, 6, &n) == KV_OK);
+    WANT(take(&b, 2) == KV_OK && shows("c", KV_PUT, 7, "3") && kv_compact(&b, 7, &n) == KV_OK);
+    WANT(kv_get_at(&b, B("a"), 4, value, sizeof value, &size, &r) == KV_OK && r == 4);
+    WANT(kv_get_at(&b, B("a"), 3, value, sizeof value, &size, &r) == KV_KEY_NOT_FOUND);
+    kv_close(&b);
+}
+
+static void lagged(void) {
+    kv_bucket b = {0};
+    kv_view first = {0}, second = {0}, third = {0};
+    kv_feed feed = {0}, late = {0};
+    kv_options latest = {KV_LATEST, 0, false, false};
+    uint64_t r = 0, floor = 0;
+    WANT(kv_open(&b, B("settings"), &largest) == KV_OK && kv_put(&b, B("a"), B("1"), &r) == KV_OK);
+    WANT(kv_snapshot(&b, &first) == KV_OK && kv_feed_open(&first, B("a"), &latest, &feed) == KV_OK);
+    WANT(kv_feed_open(&first, B("b"), &latest, &late) == KV_OK);
+    WANT(kv_put(&b, B("a"), B("2"), &r) == KV_OK && kv_put(&b, B("b"), B("3"), &r) == KV_OK);
+    WANT(kv_snapshot(&b, &second) == KV_OK && kv_feed_refresh(&feed, &second, &floor) == KV_OK && floor == 0);
+    WANT(kv_compact(&b, 2, &floor) == KV_OK && kv_put(&b, B("a"), B("4"), &r) == KV_OK);
+    WANT(kv_snapshot(&b, &third) == KV_OK);
+    kv_close(&b);
+    WANT(kv_feed_refresh(&feed, &third, &floor) == KV_LAGGED && floor == 2);
+    floor = 0;
+    WANT(kv_feed_refresh(&late, &third, &floor) == KV_LAGGED && floor == 2);
+    WANT(kv_feed_refresh(&late, &second, &floor) == KV_OK && kv_feed_refresh(&late, &third, &floor) == KV_OK);
+    WANT(feed_take(&late) == KV_OK && item.kind == KV_MARKER && feed_take(&late) == KV_OK && shows("b", KV_PUT, 3, "3"));
+    WANT(feed_take(&feed) == KV_OK && shows("a", KV_PUT, 1, "1") && feed_take(&feed) == KV_OK && item.kind == KV_MARKER);
+    WANT(kv_feed_refresh(&feed, &third, &floor) == KV_LAGGED);
+    WANT(feed_take(&feed) == KV_OK && shows("a", KV_PUT, 2, "2") && feed_take(&feed) == KV_OK && item.kind == KV_EMPTY);
+    WANT(kv_feed_refresh(&feed, &third, &floor) == KV_OK && feed_take(&feed) == KV_OK && shows("a", KV_PUT, 4, "4"));
+    kv_view_close(&first);
+    kv_view_close(&second);
+    kv_view_close(&third);
+    kv_feed_close(&feed);
+    kv_feed_close(&late);
+}
+
+static bool named(uint64_t code, const char *name) {
+    size_t size = 0;
+    return kv_code_name(code, value, sizeof value, &size) == KV_OK && size == strlen(name) && !memcmp(value, name, size);
+}
+
+static void names(void) {
+    size_t size = 0;
+    WANT(named(KV_OUT_OF_MEMORY, "OutOfMemory") && named(KV_BAD_BUCKET, "BadBucket") && named(KV_BAD_CONFIG, "BadConfig"));
+    WANT(named(KV_BAD_KEY, "BadKey") && named(KV_BAD_FILTER, "BadFilter") && named(6, "OptionsClash"));
+    WANT(named(KV_VALUE_TOO_LARGE, "ValueTooLarge") && named(KV_SEALED, "Sealed"));
+    WANT(named(KV_JOURNAL_FULL, "JournalFull") && named(KV_KEY_EXISTS, "KeyExists"));
+    WANT(named(KV_WRONG_LAST_REVISION, "WrongLastRevision") && named(KV_KEY_NOT_FOUND, "KeyNotFound"));
+    WANT(named(KV_NO_SUCH_WATCH, "NoSuchWatch") && named(KV_TOO_MANY_WATCHES, "TooManyWatches") && named(15, "NoReader"));
+    WANT(named(16, "BadCommand") && named(17, "ReadFault") && named(18, "WriteFault") && named(KV_BAD_FLOOR, "BadFloor"));
+    WANT(named(KV_WATCH_BEHIND, "WatchBehind") && named(KV_LAGGED, "Lagged") && named(KV_CLOSED, "Closed"));
+    WANT(named(KV_TOO_LITTLE_ROOM, "TooLittleRoom") && named(KV_OPEN_ALREADY, "OpenAlready"));
+    WANT(named(KV_NO_SUCH_START, "NoSuchStart") && named(KV_OLDER_VIEW, "OlderView") && named(KV_NO_SUCH_CODE, "NoSuchCode"));
+    WANT(kv_code_name(KV_BAD_KEY, value, 5, &size) == KV_TOO_LITTLE_ROOM && size == 6);
+    WANT(kv_code_name(KV_OK, value, sizeof value, &size) == KV_NO_SUCH_CODE);
+    WANT(kv_code_name(22, value, sizeof value, &size) == KV_NO_SUCH_CODE);
+    WANT(kv_code_name(UINT64_MAX, value, sizeof value, &size) == KV_NO_SUCH_CODE);
 }
 
 int main(void) {
@@ -267,6 +348,9 @@ int main(void) {
     listed();
     seen();
     fed();
+    compacted();
+    lagged();
+    names();
     puts("each function and each code: as the header says");
     return 0;
 }

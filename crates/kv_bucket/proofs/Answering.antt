@@ -14,13 +14,14 @@ use Rattle.kv_model.proofs.Numbered.{accepted_is_next, writes_of-wrote}
 use Rattle.kv_store.specs.Stored.{Stored}
 use Rattle.kv_model.specs.declared.event.Event.{Event}
 use Rattle.kv_model.specs.declared.options.Options.{Options}
-use Rattle.kv_watch.specs.Following.{Following, InPlace, given_to as all_of}
+use Rattle.kv_watch.specs.Following.{Following, InReach, IsOpening, given_to as all_of}
 use Rattle.kv_model.specs.Given.{Item, AnEntry, EndMarker, event_of}
 use Rattle.kv_model.specs.declared.call.Call.TheVariants as ask
 use Rattle.kv_model.specs.Answers.{Revision, Watching, Ended, Refused, answer_item, event_answered}
 use Rattle.kv_bucket.specs.Held.{Holding, Bucketed, Follows, Represents, has_number, held_at}
 use Rattle.kv_model.specs.State.{after_handed, State, Watch, watch_at, next_of, open_at, set_watch, opened, has_room, after_item, after_take, after_stop, after_write, answer_write, answer_take, answer_stop, after, answer_to}
 use Rattle.kv_model.proofs.Finds.{find_at, find_none, find_some}
+use Rattle.kv_watch.proofs.Owing.{opening_on}
 use Rattle.kv_bucket.proofs.Later.{later}
 use Rattle.kv_bucket.proofs.Moving.{all_is, behind, moves}
 use Rattle.kv_model.proofs.Numbers.{at_get, open_is, set_get}
@@ -74,7 +75,7 @@ module _ (state : State) (bucket : Bucketed) (i place : ℕ) (held : Holding) (a
   pub watch_of : (w : Watch) × (open_at i state ≡ Some w) × Follows state.acts bucket.version held w
   watch_of = held_some state.acts bucket.version (held_at i bucket.watches) (open_at i state) held (r.held i) (where_is.1 ∙ here)
 
-  is_now : (watch_at i state.watches ≡ Some watch_of.0) × (watch_of.0.is_open ≡ true)
+  pub is_now : (watch_at i state.watches ≡ Some watch_of.0) × (watch_of.0.is_open ≡ true)
   is_now = open_is (watch_at i state.watches) watch_of.0 watch_of.1
 
   history : bucket.version.config.history ≡ state.config.history
@@ -87,10 +88,12 @@ module _ (state : State) (bucket : Bucketed) (i place : ℕ) (held : Holding) (a
   answer_next = ap (answer_take state) watch_of.1 ∙ ap (λ h. answer_item (next_of h state.acts watch_of.0)) (sym history)
 
   -- a peek
-  pub peeked : (item : Option Item) → ((n : ℕ) (began acts : List Act) → InPlace began acts n held.base bucket.version held.cursor → item ≡ slice_get (all_of held.base.config.history began acts held.cursor) n) →
+  pub peeked : (item : Option Item) →
+      (IsOpening held.kept held.base held.cursor → (n : ℕ) (began acts : List Act) → InReach began acts n held.base bucket.version held.cursor → item ≡ slice_get (all_of held.base.config.history began acts held.cursor) n) →
       answer_item item ≡ answer_take state (open_at i state)
-  peeked item peeks =
+  peeked item looks =
       let f = watch_of.2 in
+      let peeks = looks f.opening in
       let is : item ≡ next = peeks watch_of.0.handed watch_of.0.began state.acts f.place ∙ ap (λ es. slice_get es watch_of.0.handed) (all_is state.acts bucket.version held watch_of.0 f) in
       ap answer_item is ∙ sym answer_next
 
@@ -110,48 +113,55 @@ module _ (state : State) (bucket : Bucketed) (i place : ℕ) (held : Holding) (a
   take_is = ap (after_take i state) watch_of.1 ∙ ap (λ h. after_item i state watch_of.0 (next_of h state.acts watch_of.0)) (sym history) ∙ sym (after_is next)
 
   -- what is held after it follows the watch after it
-  held_on : (cursor : Following) → Follows state.acts bucket.version (record held { cursor = cursor }) (after_handed watch_of.0 next) →
-      Represents (after_take i state (open_at i state)) (record bucket { watches = slice_set bucket.watches place (record held { cursor = cursor }) })
-  held_on cursor follows =
-      let new : Holding = record held { cursor = cursor } in
+  held_on : (kept : Option Stored) (cursor : Following) → Follows state.acts bucket.version (record held { kept = kept; cursor = cursor }) (after_handed watch_of.0 next) →
+      Represents (after_take i state (open_at i state)) (record bucket { watches = slice_set bucket.watches place (record held { kept = kept; cursor = cursor }) })
+  held_on kept cursor follows =
+      let new : Holding = record held { kept = kept; cursor = cursor } in
       let all = represents_moved state bucket i held new watch_of.0 (after_handed watch_of.0 next) r (ap (slice_get bucket.watches) where_is.0 ∙ here) own own watch_of.1 (still_open next) follows in
       subst (λ (s : State). Represents s (record bucket { watches = slice_set bucket.watches place new })) (sym take_is)
       (subst (λ p. Represents (set_watch i (after_handed watch_of.0 next) state) (record bucket { watches = slice_set bucket.watches p new })) where_is.0 all)
 
-  pub taken : (cursor : Following) (item : Option Item) → cursor.filters ≡ held.cursor.filters → cursor.options ≡ held.cursor.options →
-      ((n : ℕ) (began acts : List Act) → InPlace began acts n held.base bucket.version held.cursor → item ≡ slice_get (all_of held.base.config.history began acts held.cursor) n) →
-      ((n : ℕ) (began acts : List Act) → InPlace began acts n held.base bucket.version held.cursor → InPlace began acts (n + option_len item) held.base bucket.version cursor) →
-      Represents (after_take i state (open_at i state)) (record bucket { watches = slice_set bucket.watches place (record held { cursor = cursor }) })
-  taken cursor item fs os peeks stays = held_on cursor (moves bucket.version held cursor item fs os peeks stays state.acts watch_of.0 watch_of.2)
+  -- what was kept of its opening may have been let go before
+  pub taken : (kept : Option Stored) (cursor : Following) (item : Option Item) → (IsOpening held.kept held.base held.cursor → IsOpening kept held.base held.cursor) → (held.cursor.owed ≡ [] → cursor.owed ≡ []) →
+      cursor.filters ≡ held.cursor.filters → cursor.options ≡ held.cursor.options →
+      (IsOpening kept held.base held.cursor → (n : ℕ) (began acts : List Act) → InReach began acts n held.base bucket.version held.cursor → item ≡ slice_get (all_of held.base.config.history began acts held.cursor) n) →
+      (IsOpening kept held.base held.cursor → (n : ℕ) (began acts : List Act) → InReach began acts n held.base bucket.version held.cursor → InReach began acts (n + option_len item) held.base bucket.version cursor) →
+      Represents (after_take i state (open_at i state)) (record bucket { watches = slice_set bucket.watches place (record held { kept = kept; cursor = cursor }) })
+  taken kept cursor item goes owes fs os peeks stays =
+      let opening = goes watch_of.2.opening in
+      held_on kept cursor (moves bucket.version held kept cursor item fs os (opening_on kept held.base held.cursor cursor owes opening) (peeks opening) (stays opening) state.acts watch_of.0 watch_of.2)
 
   -- the same by the event of the item
-  pub passed : (cursor : Following) (event : Option Event) → cursor.filters ≡ held.cursor.filters → cursor.options ≡ held.cursor.options →
-      ((n : ℕ) (began acts : List Act) (base : Stored) → InPlace began acts n base bucket.version held.cursor → event ≡ option_map event_of (slice_get (all_of base.config.history began acts held.cursor) n) →
-      InPlace began acts (n + option_len event) base bucket.version cursor) →
+  pub passed : (kept : Option Stored) (cursor : Following) (event : Option Event) → (IsOpening held.kept held.base cursor → IsOpening kept held.base cursor) → (held.cursor.owed ≡ [] → cursor.owed ≡ []) →
+      cursor.filters ≡ held.cursor.filters → cursor.options ≡ held.cursor.options →
+      ((n : ℕ) (began acts : List Act) (base : Stored) → InReach began acts n base bucket.version held.cursor → event ≡ option_map event_of (slice_get (all_of base.config.history began acts held.cursor) n) →
+      InReach began acts (n + option_len event) base bucket.version cursor) →
       event ≡ event_answered (answer_take state (open_at i state)) →
-      Represents (after_take i state (open_at i state)) (record bucket { watches = slice_set bucket.watches place (record held { cursor = cursor }) })
-  passed cursor event fs os stays is =
+      Represents (after_take i state (open_at i state)) (record bucket { watches = slice_set bucket.watches place (record held { kept = kept; cursor = cursor }) })
+  passed kept cursor event goes owes fs os stays is =
       let w = watch_of.0 in
       let f = watch_of.2 in
       let of_next : event ≡ option_map event_of next = is ∙ ap event_answered answer_next ∙ event_of_answer next in
       let there : slice_get (all_of held.base.config.history w.began state.acts held.cursor) w.handed ≡ next = ap (λ es. slice_get es w.handed) (all_is state.acts bucket.version held w f) in
       let place' = stays w.handed w.began state.acts held.base f.place (of_next ∙ ap (option_map event_of) (sym there)) in
       let long : option_len event ≡ option_len next = ap option_len of_next ∙ len_of_event next in
-      held_on cursor (behind state.acts bucket.version held cursor w next (fs ∙ f.filters) (os ∙ f.options) (subst (λ n. InPlace w.began state.acts (w.handed + n) held.base bucket.version cursor) long place'))
+      let opening = goes (opening_on held.kept held.base held.cursor cursor owes f.opening) in
+      held_on kept cursor (behind state.acts bucket.version held kept cursor w next (fs ∙ f.filters) (os ∙ f.options) opening (subst (λ n. InReach w.began state.acts (w.handed + n) held.base bucket.version cursor) long place'))
 
   -- a stop
   pub stop_some : (Ended held.cursor.handed ≡ answer_stop (open_at i state)) × Represents (after_stop i state (open_at i state)) (record bucket { watches = filter (λ held. not (has_number i held)) bucket.watches })
-  stop_some = rw (watch_of.1) (ap Ended watch_of.2.place.handed, represents_stopped state bucket i watch_of.0 r watch_of.1)
+  stop_some = rw (watch_of.1) (ap Ended watch_of.2.place.place.handed, represents_stopped state bucket i watch_of.0 r watch_of.1)
 
 -- a cursor that was opened on the present version
-pub opened_follows : (state : State) (bucket : Bucketed) (filters : List (List ℕ)) (options : Options) (base : Stored) (cursor : Following) → Represents state bucket → base ≡ bucket.version → cursor.filters ≡ filters → cursor.options ≡ options →
-    ((acts : List Act) → StandsFor acts base → InPlace acts acts 0 base base cursor) →
-    Follows state.acts bucket.version (record { number = bucket.opened + 1; base = base; cursor = cursor }) (opened filters options state)
-opened_follows state bucket filters options base cursor r same fs os place =
+pub opened_follows : (state : State) (bucket : Bucketed) (filters : List (List ℕ)) (options : Options) (base : Stored) (kept : Option Stored) (cursor : Following) → Represents state bucket → base ≡ bucket.version → cursor.filters ≡ filters → cursor.options ≡ options → IsOpening kept base cursor →
+    ((acts : List Act) → StandsFor acts base → InReach acts acts 0 base base cursor) →
+    Follows state.acts bucket.version (record { number = bucket.opened + 1; base = base; kept = kept; cursor = cursor }) (opened filters options state)
+opened_follows state bucket filters options base kept cursor r same fs os opening place =
     record {
       filters = fs;
       options = os;
-      place = subst (λ (v : Stored). InPlace state.acts state.acts 0 base v cursor) same (place state.acts (subst (λ (v : Stored). StandsFor state.acts v) (sym same) r.version));
+      opening = opening;
+      place = subst (λ (v : Stored). InReach state.acts state.acts 0 base v cursor) same (place state.acts (subst (λ (v : Stored). StandsFor state.acts v) (sym same) r.version));
     }
 
 pub watch_done : (state : State) (bucket : Bucketed) (filters : List (List ℕ)) (options : Options) (held : Holding) → Represents state bucket → has_room state ≡ true → held.number ≡ bucket.opened + 1 →
@@ -173,4 +183,4 @@ write_done state bucket request version revision r same ok last =
     let number : w.revision ≡ length (writes_of state.acts) + 1 = ap (λ (v : Write). v.revision) (sym (accepted_is_next state.config request state.acts w is)) in
     let total : length (writes_of (state.acts ++ Wrote w ∷ [])) ≡ length (writes_of state.acts) + 1 = ap length (writes_of-wrote state.acts w) ∙ length-append (writes_of state.acts) (w ∷ []) in
     let answer : revision ≡ w.revision = last ∙ wrote.1.1.last ∙ total ∙ sym number in
-    rw is (ap Revision answer, represents_act later state bucket (Wrote w) version r same wrote.1.1)
+    rw is (ap Revision answer, represents_act later state bucket (Wrote w) version refl r same wrote.1.1)

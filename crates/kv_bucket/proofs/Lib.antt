@@ -3,3 +3,4 @@ pub mod Later
 pub mod Moving
 pub mod Answering
 pub mod Running
+pub mod Least

@@ -1,43 +1,88 @@
 -- What each step keeps of a bucket that represents a state.
-use Rattle.std.proofs.Common.{◌≡◌, ℕ, ◌+◌, ◌-◌, ⊎_elim, Bool, true, false, not, cond, eqb, List, [], ◌∷◌, ◌++◌, Option, Some, None, length, filter, refl, sym, ap, ◌∙◌, subst, arith, length-append, length-set}
+use Rattle.std.proofs.Common.{◌≡◌, ℕ, ◌+◌, ◌-◌, ◌≤◌, ⊎_elim, Bool, true, false, not, cond, eqb, List, [], ◌∷◌, ◌++◌, Option, Some, None, length, filter, refl, sym, ap, ◌∙◌, subst, arith, length-append, length-set}
 use Rattle.std.specs.Prelude.{slice_set}
 use Rattle.std.specs.List.{slice_get, position_or_len}
 use Rattle.std.specs.Option.{option_len, option_and_then}
 use Rattle.std.proofs.lemmas.Bool.Decides.{eqb_tells}
 use Rattle.std.proofs.lemmas.Bool.{ne_eqb, eq-eqb, eqb-true}
-use Rattle.kv_model.specs.Acts.{Act, IsPrefix}
+use Rattle.kv_model.specs.Acts.{Act, Wrote, Seal, Compact, IsPrefix, writes_of, floor_of, is_compaction}
+use Rattle.kv_model.specs.Configuration.{Configuration}
+use Rattle.kv_model.specs.Given.{is_behind}
+use Rattle.kv_model.specs.declared.options.Options.{Options}
+use Rattle.kv_model.proofs.Storing.{floor_of-wrote, floor_of-seal, floor_within}
 use Rattle.kv_store.specs.Standing.{StandsFor}
 use Rattle.kv_store.specs.Stored.{Stored}
-use Rattle.kv_watch.specs.Following.{Following, InPlace}
+use Rattle.kv_watch.specs.Following.{Following, InReach}
 use Rattle.kv_bucket.specs.Held.{Holding, Bucketed, Follows, IsHeld, Represents, has_number, held_at}
 use Rattle.kv_model.specs.State.{State, Watch, watch_at, add_act, add_watch, set_watch, stopped, if_open, open_at}
 use Rattle.kv_model.proofs.Finds.{find_set, find_set_other, count_set, count_fewer, find_push, find_push_other, count_push, find_filter, find_none_left, filter_filter_same, filter_filter_none, length_parts}
 use Rattle.kv_model.proofs.Numbers.{at_set_same, at_set_other, at_push_here, at_push_other, at_past, at_get, open_is}
 
--- what is held goes on for a later version
+-- what is held goes on for a later version, where it is not behind its floor
 abbrev pub GoesOnLater : Type 0
-GoesOnLater = (began acts later : List Act) (n : ℕ) (base version newer : Stored) (cursor : Following) → InPlace began acts n base version cursor → StandsFor later newer → IsPrefix acts later → newer.config ≡ version.config → InPlace began later n base newer cursor
+GoesOnLater = (began acts later : List Act) (n : ℕ) (base version newer : Stored) (cursor : Following) → InReach began acts n base version cursor → StandsFor later newer → IsPrefix acts later → newer.config ≡ version.config
+    → newer.floor ≤ length (writes_of acts) → is_behind newer.floor n base.config.history began acts cursor.filters cursor.options ≡ false → InReach began later n base newer cursor
 
-held_later : GoesOnLater → (acts later : List Act) (version newer : Stored) (held : Option Holding) (watch : Option Watch) → StandsFor later newer → IsPrefix acts later → newer.config ≡ version.config → IsHeld acts version held watch → IsHeld later newer held watch
-held_later on acts later version newer None None stands p same is = tt
-held_later on acts later version newer (Some held) None stands p same is = is
-held_later on acts later version newer None (Some watch) stands p same is = is
-held_later on acts later version newer (Some held) (Some watch) stands p same is = record {
+-- whether an open watch is behind a floor, by what is held of it and by itself
+pub behind_same : (floor h : ℕ) (acts : List Act) (version : Stored) (held : Holding) (watch : Watch) → version.config.history ≡ h → Follows acts version held watch
+    → is_behind floor watch.handed held.base.config.history watch.began acts held.cursor.filters held.cursor.options ≡ is_behind floor watch.handed h watch.began acts watch.filters watch.options
+behind_same floor h acts version held watch e f =
+    ap (λ (fs : List (List ℕ)). is_behind floor watch.handed held.base.config.history watch.began acts fs held.cursor.options) f.filters
+    ∙ ap (λ (o : Options). is_behind floor watch.handed held.base.config.history watch.began acts watch.filters o) f.options
+    ∙ ap (λ (k : ℕ). is_behind floor watch.handed k watch.began acts watch.filters watch.options) (ap (λ (c : Configuration). c.history) (sym f.place.place.same_config) ∙ e)
+
+held_later : GoesOnLater → (h : ℕ) (acts later : List Act) (version newer : Stored) (held : Option Holding) (watch : Option Watch) → version.config.history ≡ h → StandsFor later newer → IsPrefix acts later → newer.config ≡ version.config
+    → newer.floor ≤ length (writes_of acts) → ((w : Watch) → watch ≡ Some w → is_behind newer.floor w.handed h w.began acts w.filters w.options ≡ false) → IsHeld acts version held watch → IsHeld later newer held watch
+held_later on h acts later version newer None None e stands p same low ahead is = tt
+held_later on h acts later version newer (Some held) None e stands p same low ahead is = is
+held_later on h acts later version newer None (Some watch) e stands p same low ahead is = is
+held_later on h acts later version newer (Some held) (Some watch) e stands p same low ahead is = record {
   filters = is.filters;
   options = is.options;
-  place = on watch.began acts later watch.handed held.base version newer held.cursor is.place stands p same;
+  opening = is.opening;
+  place = on watch.began acts later watch.handed held.base version newer held.cursor is.place stands p same low (behind_same newer.floor h acts version held watch e is ∙ ahead watch refl);
 }
 
--- one act more
-pub represents_act : GoesOnLater → (state : State) (bucket : Bucketed) (act : Act) (version : Stored) → Represents state bucket → version.config ≡ bucket.version.config → StandsFor (state.acts ++ act ∷ []) version → Represents (add_act act state) (record bucket { version = version })
-represents_act on state bucket act version r same stands = record {
+-- one act more, where no open watch is behind the floor
+pub represents_later : GoesOnLater → (state : State) (bucket : Bucketed) (act : Act) (version : Stored) → Represents state bucket → version.config ≡ bucket.version.config → StandsFor (state.acts ++ act ∷ []) version
+    → version.floor ≤ length (writes_of state.acts) → ((number : ℕ) (w : Watch) → open_at number state ≡ Some w → is_behind version.floor w.handed state.config.history w.began state.acts w.filters w.options ≡ false)
+    → Represents (add_act act state) (record bucket { version = version })
+represents_later on state bucket act version r same stands low ahead = record {
   config = same ∙ r.config;
   version = stands;
   opened = r.opened;
-  held = λ n. held_later on state.acts (state.acts ++ act ∷ []) bucket.version version (held_at n bucket.watches) (open_at n state) stands (act ∷ [], refl) same (r.held n);
+  held = λ n. held_later on state.config.history state.acts (state.acts ++ act ∷ []) bucket.version version (held_at n bucket.watches) (open_at n state) (ap (λ (c : Configuration). c.history) r.config) stands (act ∷ [], refl) same low (ahead n) (r.held n);
   once = r.once;
   open_count = r.open_count;
 }
+
+-- no open watch is behind the floor
+ahead_held : (h : ℕ) (acts : List Act) (version : Stored) (held : Option Holding) (watch : Option Watch) → version.config.history ≡ h → IsHeld acts version held watch
+    → (w : Watch) → watch ≡ Some w → is_behind version.floor w.handed h w.began acts w.filters w.options ≡ false
+ahead_held h acts version None None e is w f = cc
+ahead_held h acts version (Some held) None e is w f = absurd is
+ahead_held h acts version None (Some watch) e is w f = absurd is
+ahead_held h acts version (Some held) (Some watch) e is w f =
+    let same : watch ≡ w = cc in
+    let follows = subst (λ v. Follows acts version held v) same is in
+    sym (behind_same version.floor h acts version held w e follows) ∙ follows.place.ahead
+
+pub none_behind_floor : (state : State) (bucket : Bucketed) → Represents state bucket → (number : ℕ) (w : Watch) → open_at number state ≡ Some w → is_behind bucket.version.floor w.handed state.config.history w.began state.acts w.filters w.options ≡ false
+none_behind_floor state bucket r number w is =
+    ahead_held state.config.history state.acts bucket.version (held_at number bucket.watches) (open_at number state) (ap (λ (c : Configuration). c.history) r.config) (r.held number) w is
+
+-- one act more that is no compaction
+pub represents_act : GoesOnLater → (state : State) (bucket : Bucketed) (act : Act) (version : Stored) → is_compaction act ≡ false → Represents state bucket → version.config ≡ bucket.version.config → StandsFor (state.acts ++ act ∷ []) version → Represents (add_act act state) (record bucket { version = version })
+represents_act on state bucket act version plain r same stands =
+    let floor : version.floor ≡ bucket.version.floor = stands.floor ∙ floor_stays state.acts act plain ∙ sym r.version.floor in
+    represents_later on state bucket act version r same stands
+    (omega (arith, floor, r.version.floor, floor_within bucket.version.config state.acts r.version.lawful))
+    (λ number w is. ap (λ f. is_behind f w.handed state.config.history w.began state.acts w.filters w.options) floor ∙ none_behind_floor state bucket r number w is)
+  where
+    floor_stays : (acts : List Act) (a : Act) → is_compaction a ≡ false → floor_of (acts ++ a ∷ []) ≡ floor_of acts
+    floor_stays acts (Wrote w) e = floor_of-wrote acts w
+    floor_stays acts Seal e = floor_of-seal acts
+    floor_stays acts (Compact floor) e = cc
 
 -- what is held where a watch is open, and where none is
 pub held_some : (acts : List Act) (version : Stored) (held : Option Holding) (watch : Option Watch) (x : Holding) → IsHeld acts version held watch → held ≡ Some x → (w : Watch) × (watch ≡ Some w) × Follows acts version x w

@@ -5,13 +5,14 @@ use Rattle.std.specs.Option.{option_len}
 use Rattle.kv_model.specs.Acts.{Act}
 use Rattle.kv_store.specs.Standing.{StandsFor}
 use Rattle.kv_store.specs.Stored.{Stored}
-use Rattle.kv_watch.specs.Following.{Following, InPlace}
+use Rattle.kv_watch.specs.Following.{Following, InReach, IsOpening}
 use Rattle.kv_model.specs.State.{State, Watch, open_at, open_count}
 
--- a watch that is held: its number, the version when it was opened, and its cursor
+-- a watch that is held: its number, what the version was when it was opened, that version as long as it is kept, and its cursor
 pub record Holding : Type 0 where
   pub number : ℕ
   pub base : Stored
+  pub kept : Option Stored
   pub cursor : Following
 
 -- what a bucket holds: its version, the open watches, and how many were ever opened
@@ -20,11 +21,12 @@ pub record Bucketed : Type 0 where
   pub watches : List Holding
   pub opened : ℕ
 
--- what is held stands for an open watch: its cursor shows what the watch does, and is in place for the version of its beginning and the present one, behind as many items as the watch was handed
+-- what is held stands for an open watch: its cursor shows what the watch does, and is in reach for the version of its beginning and the present one, behind as many items as the watch was handed: so no open watch is behind the floor. The version of its beginning is kept as long as it owes initial entries
 pub record Follows (acts : List Act) (version : Stored) (holding : Holding) (watch : Watch) : Type 0 where
   pub filters : holding.cursor.filters ≡ watch.filters
   pub options : holding.cursor.options ≡ watch.options
-  pub place : InPlace watch.began acts watch.handed holding.base version holding.cursor
+  pub opening : IsOpening holding.kept holding.base holding.cursor
+  pub place : InReach watch.began acts watch.handed holding.base version holding.cursor
 
 abbrev pub has_number : ℕ → Holding → Bool
 has_number number holding = holding.number == number

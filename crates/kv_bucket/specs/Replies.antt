@@ -1,7 +1,7 @@
 -- A reply without where it lies in memory.
 use Rattle.kv_bucket.specs.declared.reply.Reply.{Reply}
 use Rattle.kv_bucket.specs.declared.reply.Reply.TheVariants as replies
-use Rattle.kv_model.specs.Answers.{Answer, Revision, Sealed, AnsweredEntry, Entries, Keys, Numbers, Watching, Marker, Empty, Ended, Refused}
+use Rattle.kv_model.specs.Answers.{Answer, Revision, Sealed, AnsweredEntry, Entries, Keys, Numbers, Watching, Marker, Empty, Ended, Compacted, Refused}
 
 -- a reply as an answer
 abbrev pub answer_of : Reply → Answer
@@ -15,4 +15,5 @@ answer_of (replies.Watch number) = Watching number
 answer_of replies.Marker = Marker
 answer_of replies.Empty = Empty
 answer_of (replies.Stopped stopped) = Ended stopped.handed
+answer_of (replies.Compacted floor) = Compacted floor
 answer_of (replies.Refused error) = Refused error

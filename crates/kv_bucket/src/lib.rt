@@ -2,6 +2,7 @@
 #![tactic(auto)]
 
 mod bucket;
+mod compacting;
 mod held;
 mod reading;
 mod reply;

@@ -32,6 +32,8 @@ pub enum Reply {
     Empty,
     /// The watch has ended.
     Stopped(Stopped),
+    /// The version was compacted to this floor.
+    Compacted(u64),
     /// Never with want of memory: then there is no reply.
     Refused(KvError),
 }

@@ -57,6 +57,7 @@ impl Bucket {
             Call::Watch(filters, options) => self.watch_reply(filters, *options),
             Call::Take(number) => self.take_reply(*number),
             Call::Stop(number) => self.stop_reply(*number),
+            Call::Compact(floor) => self.compact_reply(*floor),
         }
     }
 

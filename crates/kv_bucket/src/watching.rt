@@ -38,7 +38,8 @@ impl Bucket {
     /// Opens a watch that begins now, and answers its number: 1 for the first, and never one that was given before. At
     /// most 64 watches are open at a time.
     ///
-    /// It costs what opening a cursor does, and a snapshot of the version.
+    /// It costs what opening a cursor does, and a snapshot of the version, which is held until the initial entries were
+    /// handed out.
     pub fn watch(&mut self, filters: &Filters, options: Options) -> Result<u64, KvError>
         ensures ok { IfOk result (λ number. IsStep self.old (Watch filters.now options) (Watching number) self.new) }
         ensures refused { IfErr result
@@ -51,11 +52,7 @@ impl Bucket {
         let base = self.version.snapshot()?;
         let cursor = Cursor::open(self.alloc, &base, filters, options)?;
         let number = self.opened + 1;
-        self.watches.push(Held {
-            number,
-            base,
-            cursor,
-        })?;
+        self.watches.push(Held::new(number, base, cursor))?;
         self.opened = number;
         Ok(number)
     }
@@ -71,7 +68,7 @@ impl Bucket {
             return Err(KvError::NoSuchWatch);
         };
         let held = &self.watches[place];
-        Ok(held.cursor.peek(&held.base, &self.version))
+        Ok(held.cursor.peek(held.kept.as_ref(), &self.version))
     }
 
     /// Hands out the next item of a watch, lent from the bucket, and moves the watch on behind it. Where there is none
@@ -90,7 +87,8 @@ impl Bucket {
             return Err(KvError::NoSuchWatch);
         };
         let held = &mut self.watches[place];
-        Ok(held.cursor.take_settled(&held.base, &self.version))
+        held.cursor.let_go(&mut held.kept);
+        Ok(held.cursor.take_settled(held.kept.as_ref(), &self.version))
     }
 
     /// Moves a watch on behind the item that `peek` showed, as `take` does, and doesn't look it up again: so that what
@@ -104,6 +102,7 @@ impl Bucket {
         if let Some(place) = place_of(&self.watches, number) {
             let held = &mut self.watches[place];
             held.cursor.pass(peeked, &self.version);
+            held.cursor.let_go(&mut held.kept);
         }
     }
 

@@ -1,12 +1,12 @@
 -- What C is told by a call, in the words of the model.
-use Rattle.std.specs.Prelude.{◌≡◌, ℕ, Bool, true, false, List, Option, Some, None, ◌==◌, if◌then◌else◌, Result, Ok, Err, IsTrue, take, length, slice_get, nat_le}
+use Rattle.std.specs.Prelude.{◌≡◌, ℕ, ◌<◌, Bool, true, false, List, Option, Some, None, ◌==◌, if◌then◌else◌, Result, Ok, Err, IsTrue, take, length, slice_get, nat_le}
 use Rattle.kv_model.specs.Answers.{Answer, Revision}
 use Rattle.kv_model.specs.Given.{Item as Given}
 use Rattle.kv_model.specs.declared.call.Call.{Call}
 use Rattle.kv_c.specs.declared.handing.Item.{Item}
 use Rattle.kv_c.specs.Codes.{listed}
 use Rattle.kv_c.specs.Handing.{IsEntry}
-use Rattle.kv_c.specs.Feeding.{HandsNext, HasHanded, IsRefreshed, Opens, next_of}
+use Rattle.kv_c.specs.Feeding.{Fed, HandsNext, HasHanded, IsRefreshed, Opens, lags, next_of}
 use Rattle.kv_bucket.specs.Held.{Bucketed, Represents}
 use Rattle.kv_c.specs.declared.content.Content.{Content}
 use Rattle.kv_c.specs.declared.content.Content.TheVariants.{Bucket, View, Feed}
@@ -16,7 +16,7 @@ use Rattle.kv_keys.specs.declared.error.KvError.TheVariants.{BadKey, OutOfMemory
 use Rattle.kv_model.specs.Acts.{Act, Write}
 use Rattle.kv_store.specs.Standing.{StandsFor}
 use Rattle.kv_store.specs.Stored.{Stored}
-use Rattle.kv_model.specs.State.{State}
+use Rattle.kv_model.specs.State.{State, may_compact}
 use Rattle.kv_bucket.specs.Stepping.{IsStep}
 use Rattle.kv_model.specs.declared.call.Call.TheVariants as calls
 use Rattle.kv_c.specs.declared.asking.Limits.{Limits}
@@ -77,6 +77,11 @@ abbrev pub Steps : Call → Answer → Option Content → Option Content → Typ
 Steps call answer (Some (Bucket old)) (Some (Bucket new)) = IsStep old call answer new
 Steps call answer old new = ⊥
 
+-- the highest floor for which a compaction is not refused, 0 where there is none
+abbrev pub IsReach : State → ℕ → Type 0
+IsReach state reach = (0 < reach → may_compact reach state ≡ Ok reach)
+    × ((floor : ℕ) → reach < floor → (e : KvError) × (may_compact floor state ≡ Err e))
+
 -- a handle holds a feed that begins with what is read through another one
 abbrev pub Feeds : Option Stored → List (List ℕ) → Options → Option Content → Type 0
 Feeds (Some v) filters options (Some (Feed f)) = Opens v filters options f
@@ -87,10 +92,19 @@ abbrev pub Refreshes : Option Stored → Option Content → Option Content → T
 Refreshes (Some v) (Some (Feed old)) (Some (Feed new)) = IsRefreshed v old new
 Refreshes of old new = ⊥
 
--- the code of a feed that is to go on: 36 where that version has fewer writes than its own
-abbrev pub refresh_code : Option Stored → Option Content → ℕ
-refresh_code (Some v) (Some (Feed f)) = if nat_le f.present.last v.last then 0 else 36
-refresh_code of held = 32
+-- the code of a feed that is to go on: 36 where that version has fewer writes than its own, else 21 where it lags behind that one's floor
+abbrev pub refreshed_code : List Act → List Act → ℕ → Stored → Fed → ℕ
+refreshed_code began acts n v f = if nat_le f.present.last v.last then (if lags v.floor began acts n f then 21 else 0) else 36
+
+-- the same, of what the handles hold
+abbrev pub refresh_code : List Act → List Act → ℕ → Option Stored → Option Content → ℕ
+refresh_code began acts n (Some v) (Some (Feed f)) = refreshed_code began acts n v f
+refresh_code began acts n of held = 32
+
+-- this is the floor of what is read through a handle
+abbrev pub IsFloor : Option Stored → ℕ → Type 0
+IsFloor None floor = ⊥
+IsFloor (Some v) floor = v.floor ≡ floor
 
 -- a feed hands out its next item
 abbrev pub Hands : Option Content → Item → List ℕ → List ℕ → Option Content → Type 0

@@ -1,11 +1,11 @@
 -- The number that a call answers: 0, or that of its refusal.
-use Rattle.std.specs.Prelude.{ℕ, Bool, true, ◌&&◌, List, Option, Some, None, Result, Ok, Err, [], ◌∷◌, ◌++◌, length, nat_le, nat_lt, slice_get, if◌then◌else◌}
+use Rattle.std.specs.Prelude.{◌≡◌, ℕ, Bool, true, ◌&&◌, ◌==◌, List, Option, Some, None, Result, Ok, Err, [], ◌∷◌, ◌++◌, codes, length, nat_le, nat_lt, slice_get, take, if◌then◌else◌}
 use Rattle.std.specs.List.{flat_map}
 use Rattle.std.specs.Option.{ok_or}
 use Rattle.kv_keys.specs.Grammar.{is_key, is_filter, are_filters, parts}
 use Rattle.kv_keys.specs.Refusals.{code_of}
 use Rattle.kv_keys.specs.declared.error.KvError.{KvError}
-use Rattle.kv_keys.specs.declared.error.KvError.TheVariants.{BadKey, BadFilter, KeyNotFound}
+use Rattle.kv_keys.specs.declared.error.KvError.TheVariants.{BadKey, BadFilter, KeyNotFound, Lagged, WatchBehind, WrongLastRevision}
 use Rattle.kv_model.specs.Acceptance.{accept}
 use Rattle.kv_model.specs.Acts.{Write}
 use Rattle.kv_model.specs.Answers.{Answer, AnsweredEntry, Refused}
@@ -18,6 +18,24 @@ abbrev pub code_by : {X : Type 0} → (X → ℕ) → Result X KvError → ℕ
 code_by {X} code (Ok x) = code x
 code_by {X} code (Err e) = code_of e
 
+-- the number that a refusal tells: the key's last revision, the watch that is behind, or the floor that a feed lags behind
+abbrev pub number_in : KvError → Option ℕ
+number_in (WrongLastRevision last) = Some last
+number_in (WatchBehind watch) = Some watch
+number_in (Lagged floor) = Some floor
+number_in other = None
+
+-- the names of C's own codes
+abbrev pub own_name : ℕ → Option (List ℕ)
+own_name code =
+    if code == 32 then Some (codes "Closed")
+    else if code == 33 then Some (codes "TooLittleRoom")
+    else if code == 34 then Some (codes "OpenAlready")
+    else if code == 35 then Some (codes "NoSuchStart")
+    else if code == 36 then Some (codes "OlderView")
+    else if code == 37 then Some (codes "NoSuchCode")
+    else None
+
 -- 0 for whatever was found
 abbrev pub accepted : {X : Type 0} → X → ℕ
 accepted {X} x = 0
@@ -28,6 +46,10 @@ room_code fits = if fits then 0 else 33
 
 abbrev pub fits : List ℕ → List ℕ → Bool
 fits bytes room = nat_le (length bytes) (length room)
+
+-- a name is copied to the room, where there is enough of it; how many bytes it has is told
+abbrev pub IsNamed : List ℕ → List ℕ → ℕ → ℕ → List ℕ → Type 0
+IsNamed name room code size copied = (code ≡ room_code (fits name room)) × (size ≡ length name) × (code ≡ 0 → take size copied ≡ name)
 
 -- that of a write whose value is copied
 abbrev pub value_code : List ℕ → Write → ℕ

@@ -1,5 +1,5 @@
 -- What C reads from an item and the memory that it gave.
-use Rattle.std.specs.Prelude.{◌≡◌, ℕ, Option, List, Some, None, length, take, ◌==◌, if◌then◌else◌}
+use Rattle.std.specs.Prelude.{◌≡◌, ℕ, Option, List, Some, None, length, slice_get, take, ◌==◌, if◌then◌else◌}
 use Rattle.kv_model.specs.Answers.{Answer, AnsweredEntry, Marker, Empty, Numbers as Told}
 use Rattle.kv_c.specs.declared.handing.Item.{Item}
 use Rattle.kv_c.specs.declared.numbers.Numbers.{Numbers}
@@ -7,6 +7,7 @@ use Rattle.kv_model.specs.Acts.{Write, is_put}
 use Rattle.kv_model.specs.declared.write.Op.{Op}
 use Rattle.kv_model.specs.declared.write.Op.TheVariants.{Put, Delete, Purge}
 use Rattle.kv_model.specs.Given.{Entry}
+use Rattle.std.specs.Option.{option_map_or}
 
 abbrev pub op_named : ℕ → Op
 op_named n = if n == 0 then Put else (if n == 1 then Delete else Purge)
@@ -32,3 +33,27 @@ abbrev pub IsEntry : Option Write → Item → List ℕ → Type 0
 IsEntry None item room = item.kind ≡ 0
 IsEntry (Some w) item room = (item.kind ≡ 2) × (op_named item.op ≡ w.op) × (item.revision ≡ w.revision)
     × (item.size ≡ length w.value) × (item.has_value ≡ is_put w.op) × (take item.value_size room ≡ w.value)
+
+-- these bytes begin with the value, if one is shown
+abbrev pub IsValueCopied : List ℕ → Option (List ℕ) → Type 0
+IsValueCopied values None = Unit {0}
+IsValueCopied values (Some value) = take (length value) values ≡ value
+
+-- what was given for key and value begins with those of the entry
+abbrev pub AreCopied : List ℕ → List ℕ → Entry → Type 0
+AreCopied keys values entry = (take (length entry.key) keys ≡ entry.key) × IsValueCopied values entry.value
+
+-- the item tells how much room the entry needs
+abbrev pub Wants : Item → Answer → Type 0
+Wants item (AnsweredEntry entry) = (item.key_size ≡ length entry.key) × (item.value_size ≡ option_map_or length entry.value 0)
+Wants item answer = ⊥
+
+-- the same of the value of a write
+abbrev pub WantsValue : Option Write → Item → Type 0
+WantsValue None item = ⊥
+WantsValue (Some w) item = item.value_size ≡ length w.value
+
+-- and of the write of an index among those that were found
+abbrev pub WantsAt : Option (List Write) → ℕ → Item → Type 0
+WantsAt None index item = ⊥
+WantsAt (Some ws) index item = WantsValue (slice_get ws index) item

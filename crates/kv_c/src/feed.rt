@@ -1,9 +1,10 @@
 //! Feeds: watches that go on from view to view, and so apart from their bucket.
 
-ghost use Rattle.std.specs.Prelude.{◌≡◌, ℕ, List, IfErr, IfOk, OnErr, OnOk, nat_le};
+ghost use Rattle.std.specs.Prelude.{◌≡◌, ◌⊎◌, ℕ, List, IfErr, IfOk, OnErr, OnOk, nat_le, true};
 ghost use Rattle.kv_c.specs.Codes.{taken_code};
-ghost use Rattle.kv_c.specs.Feeding.{HandsNext, HasHanded, IsRefreshed, Opens, next_of};
-ghost use Rattle.kv_keys.specs.declared.error.KvError.TheVariants.{OutOfMemory};
+ghost use Rattle.kv_c.specs.Handing.{Wants};
+ghost use Rattle.kv_c.specs.Feeding.{HandsNext, HasHanded, IsRefreshed, Opens, lags, next_of};
+ghost use Rattle.kv_keys.specs.declared.error.KvError.TheVariants.{Lagged, OutOfMemory};
 ghost use Rattle.kv_model.specs.Acts.{Act};
 ghost use Rattle.kv_model.specs.Answers.{answer_item};
 
@@ -12,11 +13,14 @@ use kv_bucket::{Filters, KvError, Options, Version};
 use kv_watch::Cursor;
 use std::alloc::Global;
 use std::marker::Model;
+use std::snapshot::Snapshot;
 
-/// A watch: the version that it was opened on, the one that it has gone on to, and how far it has come.
+/// A watch: the version that it was opened on, as contracts see it and as long as initial entries are owed, the one that
+/// it has gone on to, and how far it has come.
 #[derive(Drop)]
 pub struct Feed {
-    base: Version,
+    base: Snapshot<Version>,
+    kept: Option<Version>,
     present: Version,
     cursor: Cursor,
 }
@@ -26,7 +30,7 @@ impl Model for Feed {
 
     ghost Value = { Fed };
 
-    ghost view = { λ f. record { base = f.base; present = f.present; cursor = f.cursor } };
+    ghost view = { λ f. record { base = f.base.value; kept = f.kept; present = f.present; cursor = f.cursor } };
 }
 
 impl Feed {
@@ -44,7 +48,8 @@ impl Feed {
         let present = version.snapshot()?;
         let cursor = Cursor::open(alloc, version, filters, options)?;
         Ok(Feed {
-            base,
+            base: Snapshot::of(version),
+            kept: cursor.keep(base),
             present,
             cursor,
         })
@@ -57,28 +62,50 @@ impl Feed {
         self.present.revision() <= version.revision()
     }
 
-    /// Goes on to a version.
+    // Whether it lags behind a floor: that is above its version's last revision, or it has still to hand out an entry
+    // at or below it that came after its opening. Such an entry may be gone from the versions that have that floor.
+    fn lags_behind(&self, floor: u64) -> bool
+        ensures { (began acts : List Act) (n : ℕ) → HasHanded began acts n self.now →
+            result ≡ lags floor began acts n self.now }
+    {
+        if self.present.revision() < floor {
+            return true;
+        }
+        self.cursor.behind(&self.present, floor)
+    }
+
+    /// Goes on to a version, unless it lags behind that one's floor.
     pub(crate) fn refresh(&mut self, version: &Version) -> Result<(), KvError>
         ensures ok { OnOk result (IsRefreshed version.now self.old self.new) }
-        ensures err { IfErr result (λ e. e ≡ OutOfMemory) }
+        ensures err { IfErr result (λ e. (e ≡ OutOfMemory) ⊎ (e ≡ Lagged version.now.floor)) }
+        ensures lags { IfErr result (λ e. ¬ (e ≡ OutOfMemory) → (began acts : List Act) (n : ℕ) →
+            HasHanded began acts n self.old → lags version.now.floor began acts n self.old ≡ true) }
         ensures unchanged { OnErr result (self.new ≡ self.old) }
     {
+        let floor = version.floor();
+        if self.lags_behind(floor) {
+            return Err(KvError::Lagged { floor });
+        }
         self.present = version.snapshot()?;
         Ok(())
     }
 
-    /// Hands out its next item; where there is too little room, it stays where it is.
+    /// Hands out its next item. Where there is too little room, it stays where it is, and the item tells how much is
+    /// needed.
     pub(crate) fn take(&mut self, keys: &mut [u8], values: &mut [u8], item: &mut Item) -> u64
         ensures taken { result ≡ 0 → HandsNext self.old item.new keys.new values.new self.new }
         ensures code { (began acts : List Act) (n : ℕ) → HasHanded began acts n self.old →
             result ≡ taken_code keys.old values.old (answer_item (next_of began acts n self.old)) }
+        ensures wants { result ≡ 33 → (began acts : List Act) (n : ℕ) → HasHanded began acts n self.old →
+            Wants item.new (answer_item (next_of began acts n self.old)) }
         ensures unchanged { ¬ (result ≡ 0) → self.new ≡ self.old }
     {
-        let taken = self.cursor.peek(&self.base, &self.present);
+        let taken = self.cursor.peek(self.kept.as_ref(), &self.present);
         let event = taken.event();
         let done = handing::hand(&taken, keys, values, item);
         if done == 0 {
             self.cursor.pass(event, &self.present);
+            self.cursor.let_go(&mut self.kept);
         }
         done
     }

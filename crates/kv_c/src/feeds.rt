@@ -1,18 +1,18 @@
 //! The functions that C calls for views and for feeds over them, which may be on other threads than their bucket.
 
 ghost use Rattle.std.specs.Prelude.{◌≡◌, ℕ, List, None, Some, IfErr, IfOk, IsFalse, IsTrue, false, is_some, true};
-ghost use Rattle.std.specs.Prelude.{if◌then◌else◌, nat_le};
-ghost use Rattle.kv_c.specs.Calling.{Feeds, FeedsBy, Hands, Refreshes, comes_next, holds_feed};
-ghost use Rattle.kv_c.specs.Calling.{options_asked, refresh_code, version_in};
+ghost use Rattle.kv_c.specs.Calling.{Feeds, FeedsBy, Hands, IsFloor, Refreshes, comes_next, holds_feed};
+ghost use Rattle.kv_c.specs.Calling.{options_asked, refresh_code, refreshed_code, version_in};
 ghost use Rattle.kv_c.specs.Codes.{feed_code, taken_code};
+ghost use Rattle.kv_c.specs.Handing.{Wants};
 ghost use Rattle.kv_keys.specs.Grammar.{are_filters, parts};
 ghost use Rattle.kv_keys.specs.declared.error.KvError.TheVariants.{BadFilter, OutOfMemory};
 ghost use Rattle.kv_model.specs.Acts.{Act};
 ghost use Rattle.kv_model.specs.Answers.{answer_item};
-ghost use Rattle.kv_c.specs.Feeding.{IsRefreshed};
+ghost use Rattle.kv_c.specs.Feeding.{HasHanded, IsRefreshed};
 
 use crate::asking::{Wanted, options_of};
-use crate::codes::{CLOSED, NO_SUCH_START, OLDER_VIEW, OPEN_ALREADY};
+use crate::codes::{CLOSED, NO_SUCH_START, OLDER_VIEW, OPEN_ALREADY, refuse};
 use crate::content::Content;
 use crate::feed::Feed;
 use crate::handing::Item;
@@ -145,9 +145,12 @@ pub extern "C" fn kv_feed_open(
     done
 }
 
-fn refresh_to(feed: &mut Feed, version: &Version) -> u64
+#[tactic(auto, using(crate::proofs::Refusing::code_memory))]
+fn refresh_to(feed: &mut Feed, version: &Version, floor: &mut u64) -> u64
     ensures refreshed { result ≡ 0 → IsRefreshed version.now feed.old feed.new }
-    ensures code { ¬ (result ≡ 1) → result ≡ (if nat_le feed.old.present.last version.now.last then 0 else 36) }
+    ensures code { (began acts : List Act) (n : ℕ) → HasHanded began acts n feed.old → ¬ (result ≡ 1) →
+        result ≡ refreshed_code began acts n version.now feed.old }
+    ensures floor { result ≡ 21 → version.now.floor ≡ floor.new }
     ensures refused { ¬ (result ≡ 0) → feed.new ≡ feed.old }
 {
     if !feed.may_go_on_to(version) {
@@ -155,41 +158,54 @@ fn refresh_to(feed: &mut Feed, version: &Version) -> u64
     }
     match feed.refresh(version) {
         Ok(()) => 0,
-        Err(refusal) => refusal.code(),
+        Err(refusal) => refuse(refusal, floor),
     }
 }
 
-fn refresh_in(content: &mut Content, version: &Version) -> u64
+fn refresh_in(content: &mut Content, version: &Version, floor: &mut u64) -> u64
     ensures refreshed { result ≡ 0 → Refreshes (Some version.now) (Some content.old) (Some content.new) }
-    ensures code { ¬ (result ≡ 1) → result ≡ refresh_code (Some version.now) (Some content.old) }
+    ensures code { (began acts : List Act) (n : ℕ) → FeedsBy began acts n (Some content.old) → ¬ (result ≡ 1) →
+        result ≡ refresh_code began acts n (Some version.now) (Some content.old) }
+    ensures floor { result ≡ 21 → version.now.floor ≡ floor.new }
     ensures refused { ¬ (result ≡ 0) → content.new ≡ content.old }
     ensures closed { IsFalse (holds_feed (Some content.old)) → result ≡ 32 }
 {
     match content {
-        Content::Feed(feed) => refresh_to(feed, version),
+        Content::Feed(feed) => refresh_to(feed, version, floor),
         Content::Bucket(_) | Content::View(_) => CLOSED,
     }
 }
 
-fn refresh(alloc: Global, feed: &mut Handle, version: &Version) -> u64
+fn refresh(alloc: Global, feed: &mut Handle, version: &Version, floor: &mut u64) -> u64
     ensures refreshed { result ≡ 0 → Refreshes (Some version.now) feed.old.slot.held feed.new.slot.held }
-    ensures code { ¬ (result ≡ 1) → result ≡ refresh_code (Some version.now) feed.old.slot.held }
+    ensures code { (began acts : List Act) (n : ℕ) → FeedsBy began acts n feed.old.slot.held → ¬ (result ≡ 1) →
+        result ≡ refresh_code began acts n (Some version.now) feed.old.slot.held }
+    ensures floor { result ≡ 21 → version.now.floor ≡ floor.new }
     ensures refused { ¬ (result ≡ 0) → feed.new.slot.held ≡ feed.old.slot.held }
     ensures closed { IsFalse (holds_feed feed.old.slot.held) → result ≡ 32 }
 {
     let Some(mut content) = feed.take(alloc) else {
         return CLOSED;
     };
-    let done = refresh_in(&mut content, version);
+    let done = refresh_in(&mut content, version, floor);
     feed.put(content);
     done
 }
 
-/// Goes on to a view: a later one of the same bucket. One with fewer writes than the feed has gone on to is refused.
+/// Goes on to a view: a later one of the same bucket. Refused are one with fewer writes than the feed has gone on to,
+/// and one with a floor that the feed lags behind, which is handed out: it is above the last revision that the feed has
+/// gone on to, or the feed has still to hand out an entry at or below it that came after its opening.
 #[unsafe(no_mangle)]
-pub extern "C" fn kv_feed_refresh(alloc: Global, feed: &mut Handle, view: &mut Handle) -> u64
+pub extern "C" fn kv_feed_refresh(
+    alloc: Global,
+    feed: &mut Handle,
+    view: &mut Handle,
+    floor: &mut u64,
+) -> u64
     ensures refreshed { result ≡ 0 → Refreshes (version_in view.old.slot.held) feed.old.slot.held feed.new.slot.held }
-    ensures code { ¬ (result ≡ 1) → result ≡ refresh_code (version_in view.old.slot.held) feed.old.slot.held }
+    ensures code { (began acts : List Act) (n : ℕ) → FeedsBy began acts n feed.old.slot.held → ¬ (result ≡ 1) →
+        result ≡ refresh_code began acts n (version_in view.old.slot.held) feed.old.slot.held }
+    ensures floor { result ≡ 21 → IsFloor (version_in view.old.slot.held) floor.new }
     ensures refused { ¬ (result ≡ 0) → feed.new.slot.held ≡ feed.old.slot.held }
     ensures unchanged { view.new.slot.held ≡ view.old.slot.held }
     ensures closed { IsFalse (holds_feed feed.old.slot.held) → result ≡ 32 }
@@ -199,7 +215,7 @@ pub extern "C" fn kv_feed_refresh(alloc: Global, feed: &mut Handle, view: &mut H
         return CLOSED;
     };
     let done = match content.version() {
-        Some(version) => refresh(alloc, feed, version),
+        Some(version) => refresh(alloc, feed, version, floor),
         None => CLOSED,
     };
     view.put(content);
@@ -210,6 +226,8 @@ fn take_in(content: &mut Content, keys: &mut [u8], values: &mut [u8], item: &mut
     ensures taken { result ≡ 0 → Hands (Some content.old) item.new keys.new values.new (Some content.new) }
     ensures code { (began acts : List Act) (n : ℕ) → FeedsBy began acts n (Some content.old) →
         result ≡ taken_code keys.old values.old (answer_item (comes_next began acts n (Some content.old))) }
+    ensures wants { result ≡ 33 → (began acts : List Act) (n : ℕ) → FeedsBy began acts n (Some content.old) →
+        Wants item.new (answer_item (comes_next began acts n (Some content.old))) }
     ensures refused { ¬ (result ≡ 0) → content.new ≡ content.old }
     ensures closed { IsFalse (holds_feed (Some content.old)) → result ≡ 32 }
 {
@@ -231,6 +249,8 @@ pub extern "C" fn kv_feed_take(
     ensures taken { result ≡ 0 → Hands feed.old.slot.held item.new keys.new values.new feed.new.slot.held }
     ensures code { (began acts : List Act) (n : ℕ) → FeedsBy began acts n feed.old.slot.held →
         result ≡ taken_code keys.old values.old (answer_item (comes_next began acts n feed.old.slot.held)) }
+    ensures wants { result ≡ 33 → (began acts : List Act) (n : ℕ) → FeedsBy began acts n feed.old.slot.held →
+        Wants item.new (answer_item (comes_next began acts n feed.old.slot.held)) }
     ensures refused { ¬ (result ≡ 0) → feed.new.slot.held ≡ feed.old.slot.held }
     ensures closed { IsFalse (holds_feed feed.old.slot.held) → result ≡ 32 }
 {

@@ -1,10 +1,10 @@
 //! Entries and items as C is handed them: copies into the memory that C has for them.
 
-ghost use Rattle.std.specs.Prelude.{◌≡◌, length, take, drop, IsTrue, IsFalse, IfSome, IsNone, Some, is_some};
+ghost use Rattle.std.specs.Prelude.{◌≡◌, ℕ, List, length, take, drop, IsTrue, IsFalse, Some};
 ghost use Rattle.std.specs.Option.{option_copied};
-ghost use Rattle.kv_c.specs.Codes.{answer_fits, entry_fits, fits, room_code, taken_code, value_fits};
+ghost use Rattle.kv_c.specs.Codes.{entry_fits, fits, room_code, taken_code, value_code, value_fits};
 ghost use Rattle.kv_model.specs.Answers.{AnsweredEntry, answer_item};
-ghost use Rattle.kv_c.specs.Handing.{IsEntry, told, op_named};
+ghost use Rattle.kv_c.specs.Handing.{AreCopied, IsEntry, IsValueCopied, Wants, told, op_named};
 ghost use Rattle.kv_model.specs.Acts.{is_put};
 ghost use Rattle.kv_watch.specs.Taking.{item_taken, entry_shown};
 
@@ -20,11 +20,12 @@ pub struct Item {
     /// 0: put, 1: delete, 2: purge.
     pub op: u32,
     pub revision: u64,
-    /// How many bytes the key has.
+    /// How many bytes the key has, also where there is too little room for it.
     pub key_size: usize,
     /// How many bytes the value has, also where it isn't shown.
     pub size: u64,
-    /// How many bytes of the value were copied: all, or 0 where it isn't shown.
+    /// How many bytes of the value are copied: all, or 0 where it isn't shown. Where there is too little room, how many
+    /// would be.
     pub value_size: usize,
     pub has_value: bool,
 }
@@ -92,17 +93,13 @@ pub(crate) fn empty_item(kind: u32) -> Item
     }
 }
 
-/// The item of a stored write, with its value copied; none where there is not enough room.
-pub(crate) fn write_item(write: &Write, room: &mut [u8]) -> Option<Item>
-    ensures some { IfSome result (λ item. IsEntry (Some write.now) item room.new) }
-    ensures fits { is_some result ≡ fits write.now.value room.old }
+fn write_item(write: &Write) -> Item
+    ensures told { (room : List ℕ) → take (length write.now.value) room ≡ write.now.value →
+        IsEntry (Some write.now) result room }
+    ensures wants { result.value_size ≡ length write.now.value }
 {
-    let value = write.value();
-    if !copy_into(room, value) {
-        return None;
-    }
-    let size = value.len();
-    Some(Item {
+    let size = write.value().len();
+    Item {
         kind: 2,
         op: number_of(write.op()),
         revision: write.revision(),
@@ -110,7 +107,22 @@ pub(crate) fn write_item(write: &Write, room: &mut [u8]) -> Option<Item>
         size: size as u64,
         value_size: size,
         has_value: is_put(write.op()),
-    })
+    }
+}
+
+/// Hands out a stored write without its key, with its value copied. Where there is too little room, the item tells how
+/// much is needed.
+pub(crate) fn hand_write(write: &Write, room: &mut [u8], item: &mut Item) -> u64
+    ensures entry { result ≡ 0 → IsEntry (Some write.now) item.new room.new }
+    ensures code { result ≡ value_code room.old write.now }
+    ensures wants { item.new.value_size ≡ length write.now.value }
+{
+    *item = write_item(write);
+    if copy_into(room, write.value()) {
+        0
+    } else {
+        TOO_LITTLE_ROOM
+    }
 }
 
 fn value_fits(value: Option<&[u8]>, values: &[u8]) -> bool
@@ -128,63 +140,86 @@ fn entry_fits(shown: &Shown<'_>, keys: &[u8], values: &[u8]) -> bool
     shown.key().as_str().len() <= keys.len() && value_fits(shown.value(), values)
 }
 
-// The item of an entry, with its key and its value copied, where there is enough room for both.
-fn entry_item(shown: &Shown<'_>, keys: &mut [u8], values: &mut [u8]) -> Option<Item>
-    ensures some { IfSome result (λ item. told item keys.new values.new ≡ AnsweredEntry (entry_shown shown.now)) }
-    ensures fits { is_some result ≡ entry_fits (entry_shown shown.now) keys.old values.old }
-    ensures none { IsNone result → (keys.new ≡ keys.old) × (values.new ≡ values.old) }
+// The item of an entry, which tells also how much room its key and its value need. Nothing is copied.
+fn entry_item(shown: &Shown<'_>) -> Item
+    ensures wants { Wants result (AnsweredEntry (entry_shown shown.now)) }
+    ensures told { (keys values : List ℕ) → AreCopied keys values (entry_shown shown.now) →
+        told result keys values ≡ AnsweredEntry (entry_shown shown.now) }
 {
-    if !entry_fits(shown, keys, values) {
-        return None;
-    }
-    let key = shown.key().as_str().as_bytes();
-    copy_into(keys, key);
     let item = Item {
         kind: 2,
         op: number_of(shown.op()),
         revision: shown.revision(),
-        key_size: key.len(),
+        key_size: shown.key().as_str().len(),
         size: shown.size(),
         value_size: 0,
         has_value: false,
     };
     match shown.value() {
-        Some(value) => {
-            copy_into(values, value);
-            Some(Item {
-                value_size: value.len(),
-                has_value: true,
-                ..item
-            })
-        }
-        None => Some(item),
+        Some(value) => Item {
+            value_size: value.len(),
+            has_value: true,
+            ..item
+        },
+        None => item,
     }
 }
 
-// What a take hands out, as an item, with key and value copied; none where there is not enough room.
-fn item_of(taken: &Taken<'_>, keys: &mut [u8], values: &mut [u8]) -> Option<Item>
-    ensures some { IfSome result (λ item. told item keys.new values.new ≡ answer_item (item_taken taken.now)) }
-    ensures fits { is_some result ≡ answer_fits keys.old values.old (answer_item (item_taken taken.now)) }
-    ensures none { IsNone result → (keys.new ≡ keys.old) × (values.new ≡ values.old) }
+fn copy_value(value: Option<&[u8]>, values: &mut [u8]) -> bool
+    ensures fits { result ≡ value_fits (option_copied value.entry) values.old }
+    ensures copied { IsTrue result → IsValueCopied values.new (option_copied value.entry) }
+    ensures unchanged { IsFalse result → values.new ≡ values.old }
 {
-    match taken {
-        Taken::Entry(shown) => entry_item(shown, keys, values),
-        Taken::Marker => Some(empty_item(1)),
-        Taken::Empty => Some(empty_item(0)),
+    match value {
+        Some(value) => copy_into(values, value),
+        None => true,
     }
 }
 
-/// Hands out what a take shows, with key and value copied; where there is too little room, nothing changes.
+// Copies key and value of an entry, where there is enough room for both; else nothing changes.
+fn copy_entry(shown: &Shown<'_>, keys: &mut [u8], values: &mut [u8]) -> bool
+    ensures fits { result ≡ entry_fits (entry_shown shown.now) keys.old values.old }
+    ensures copied { IsTrue result → AreCopied keys.new values.new (entry_shown shown.now) }
+    ensures unchanged { IsFalse result → (keys.new ≡ keys.old) × (values.new ≡ values.old) }
+{
+    if !entry_fits(shown, keys, values) {
+        return false;
+    }
+    copy_into(keys, shown.key().as_str().as_bytes());
+    copy_value(shown.value(), values)
+}
+
+fn hand_entry(shown: &Shown<'_>, keys: &mut [u8], values: &mut [u8], item: &mut Item) -> u64
+    ensures told { result ≡ 0 → told item.new keys.new values.new ≡ AnsweredEntry (entry_shown shown.now) }
+    ensures code { result ≡ room_code (entry_fits (entry_shown shown.now) keys.old values.old) }
+    ensures wants { Wants item.new (AnsweredEntry (entry_shown shown.now)) }
+    ensures room { ¬ (result ≡ 0) → (keys.new ≡ keys.old) × (values.new ≡ values.old) }
+{
+    *item = entry_item(shown);
+    if copy_entry(shown, keys, values) {
+        0
+    } else {
+        TOO_LITTLE_ROOM
+    }
+}
+
+/// Hands out what a take shows, with key and value copied. Where there is too little room, the item tells how much is
+/// needed, and nothing is copied.
 pub(crate) fn hand(taken: &Taken<'_>, keys: &mut [u8], values: &mut [u8], item: &mut Item) -> u64
     ensures told { result ≡ 0 → told item.new keys.new values.new ≡ answer_item (item_taken taken.now) }
     ensures code { result ≡ taken_code keys.old values.old (answer_item (item_taken taken.now)) }
+    ensures wants { result ≡ 33 → Wants item.new (answer_item (item_taken taken.now)) }
     ensures room { ¬ (result ≡ 0) → (keys.new ≡ keys.old) × (values.new ≡ values.old) }
 {
-    match item_of(taken, keys, values) {
-        Some(next) => {
-            *item = next;
+    match taken {
+        Taken::Entry(shown) => hand_entry(shown, keys, values, item),
+        Taken::Marker => {
+            *item = empty_item(1);
             0
         }
-        None => TOO_LITTLE_ROOM,
+        Taken::Empty => {
+            *item = empty_item(0);
+            0
+        }
     }
 }

@@ -5,12 +5,14 @@
 
 mod asking;
 mod codes;
+mod compacting;
 mod content;
 mod feed;
 mod feeds;
 mod handing;
 mod handle;
 mod names;
+mod naming;
 mod numbers;
 mod opening;
 mod parts;

@@ -4,7 +4,7 @@ ghost use Rattle.std.specs.Prelude.{◌≡◌, List, Some, IsFalse, is_some};
 ghost use Rattle.std.specs.Option.{option_copied};
 ghost use Rattle.kv_c.specs.Calling.{AreKeys, IsHistory, IsValue, Shows, StandsAt, holds_bucket, version_in};
 ghost use Rattle.kv_c.specs.Codes.{history_code, keys_code, read_code};
-ghost use Rattle.kv_c.specs.Handing.{numbers_told};
+ghost use Rattle.kv_c.specs.Handing.{WantsAt, numbers_told};
 ghost use Rattle.kv_model.specs.Acts.{Act};
 ghost use Rattle.kv_model.specs.Answers.{Numbers as Told};
 ghost use Rattle.kv_model.specs.Configuration.{Configuration};
@@ -134,6 +134,8 @@ pub extern "C" fn kv_history(
         IsHistory (history_of config.history key.now acts) index count.new item.new room.new }
     ensures code { (config : Configuration) (acts : List Act) → Shows config acts handle.old.slot.held →
         ¬ (result ≡ 1) → result ≡ history_code key.now index room.old (history_of config.history key.now acts) }
+    ensures wants { result ≡ 33 → (config : Configuration) (acts : List Act) → Shows config acts handle.old.slot.held →
+        WantsAt (history_of config.history key.now acts) index item.new }
     ensures unchanged { handle.new.slot.held ≡ handle.old.slot.held }
     ensures closed { IsFalse (is_some (version_in handle.old.slot.held)) → result ≡ 32 }
 {
@@ -163,6 +165,8 @@ pub extern "C" fn kv_view_history(
         IsHistory (history_of config.history key.now acts) index count.new item.new room.new }
     ensures code { (config : Configuration) (acts : List Act) → Shows config acts view.old.slot.held →
         ¬ (result ≡ 1) → result ≡ history_code key.now index room.old (history_of config.history key.now acts) }
+    ensures wants { result ≡ 33 → (config : Configuration) (acts : List Act) → Shows config acts view.old.slot.held →
+        WantsAt (history_of config.history key.now acts) index item.new }
     ensures unchanged { view.new.slot.held ≡ view.old.slot.held }
     ensures closed { IsFalse (is_some (version_in view.old.slot.held)) → result ≡ 32 }
 {

@@ -4,7 +4,7 @@ ghost use Rattle.std.specs.Prelude.{◌≡◌, List, MatchResult, Some, false, l
 ghost use Rattle.std.specs.List.{flat_map, slice_get};
 ghost use Rattle.kv_c.specs.Calling.{AreKeys, IsHistory, IsValue};
 ghost use Rattle.kv_c.specs.Codes.{found_code, history_code, keys_code, listed, read_code, value_code};
-ghost use Rattle.kv_c.specs.Handing.{IsEntry};
+ghost use Rattle.kv_c.specs.Handing.{IsEntry, WantsAt, WantsValue};
 ghost use Rattle.kv_keys.specs.Grammar.{is_filter};
 ghost use Rattle.kv_keys.specs.Refusals.{code_of};
 ghost use Rattle.kv_keys.specs.declared.error.KvError.TheVariants.{BadFilter, OutOfMemory};
@@ -12,8 +12,7 @@ ghost use Rattle.kv_model.specs.Acts.{Act, Write};
 ghost use Rattle.kv_model.specs.Reads.{get_at_of, get_of, history_of, keys_of};
 ghost use Rattle.kv_store.specs.Standing.{StandsFor};
 
-use crate::codes::TOO_LITTLE_ROOM;
-use crate::handing::{Item, copy_sized, empty_item, write_item};
+use crate::handing::{Item, copy_sized, empty_item, hand_write};
 use crate::names::{filter_of, key_of};
 use kv_bucket::{Key, KvError, Version, Write};
 use std::alloc::Global;
@@ -83,15 +82,10 @@ pub(crate) fn get_at(
 fn show_at(found: &[&Write], index: usize, room: &mut [u8], item: &mut Item) -> u64
     ensures entry { result ≡ 0 → IsEntry (slice_get (map (λ w. w.now) found.now) index) item.new room.new }
     ensures code { result ≡ found_code room.old (slice_get (map (λ w. w.now) found.now) index) }
+    ensures wants { result ≡ 33 → WantsValue (slice_get (map (λ w. w.now) found.now) index) item.new }
 {
     match found.get(index) {
-        Some(write) => match write_item(write, room) {
-            Some(entry) => {
-                *item = entry;
-                0
-            }
-            None => TOO_LITTLE_ROOM,
-        },
+        Some(write) => hand_write(write, room, item),
         None => {
             *item = empty_item(0);
             0
@@ -115,6 +109,8 @@ pub(crate) fn history(
         IsHistory (history_of version.now.config.history key.now acts) index count.new item.new room.new }
     ensures code { (acts : List Act) → StandsFor acts version.now → ¬ (result ≡ 1) →
         result ≡ history_code key.now index room.old (history_of version.now.config.history key.now acts) }
+    ensures wants { result ≡ 33 → (acts : List Act) → StandsFor acts version.now →
+        WantsAt (history_of version.now.config.history key.now acts) index item.new }
 {
     let key = match key_of(alloc, key) {
         Ok(key) => key,

@@ -5,7 +5,7 @@ ghost use Rattle.kv_bucket.specs.Held.{Represents};
 ghost use Rattle.kv_bucket.specs.Stepping.{IsStep};
 ghost use Rattle.kv_c.specs.Calling.{StandsAt, Steps, holds_bucket, options_asked};
 ghost use Rattle.kv_c.specs.Codes.{answer_code, taken_code, watch_code};
-ghost use Rattle.kv_c.specs.Handing.{told};
+ghost use Rattle.kv_c.specs.Handing.{Wants, told};
 ghost use Rattle.kv_keys.specs.Grammar.{parts};
 ghost use Rattle.kv_model.specs.Answers.{Ended, Refused, Watching};
 ghost use Rattle.kv_model.specs.State.{State, after, answer_to};
@@ -102,6 +102,8 @@ fn take_from(
         × Represents (after state (Take number)) bucket.new }
     ensures code { (state : State) → Represents state bucket.old →
         result ≡ taken_code keys.old values.old (answer_to state (Take number)) }
+    ensures wants { result ≡ 33 → (state : State) → Represents state bucket.old →
+        Wants item.new (answer_to state (Take number)) }
     ensures refused { ¬ (result ≡ 0) → bucket.new ≡ bucket.old }
     ensures room { ¬ (result ≡ 0) → (keys.new ≡ keys.old) × (values.new ≡ values.old) }
 {
@@ -127,6 +129,8 @@ fn take(
         × StandsAt (after state (Take number)) (Some content.new) }
     ensures code { (state : State) → StandsAt state (Some content.old) →
         result ≡ taken_code keys.old values.old (answer_to state (Take number)) }
+    ensures wants { result ≡ 33 → (state : State) → StandsAt state (Some content.old) →
+        Wants item.new (answer_to state (Take number)) }
     ensures refused { ¬ (result ≡ 0) → content.new ≡ content.old }
     ensures room { ¬ (result ≡ 0) → (keys.new ≡ keys.old) × (values.new ≡ values.old) }
     ensures closed { IsFalse (holds_bucket (Some content.old)) → result ≡ 32 }
@@ -137,7 +141,8 @@ fn take(
     }
 }
 
-/// Hands out the next item of a watch, with key and value copied. Where there is too little room, nothing moves.
+/// Hands out the next item of a watch, with key and value copied. Where there is too little room, nothing moves, and
+/// the item tells how much is needed.
 #[unsafe(no_mangle)]
 pub extern "C" fn kv_take(
     alloc: Global,
@@ -152,6 +157,8 @@ pub extern "C" fn kv_take(
         × StandsAt (after state (Take number)) handle.new.slot.held }
     ensures code { (state : State) → StandsAt state handle.old.slot.held →
         result ≡ taken_code keys.old values.old (answer_to state (Take number)) }
+    ensures wants { result ≡ 33 → (state : State) → StandsAt state handle.old.slot.held →
+        Wants item.new (answer_to state (Take number)) }
     ensures refused { ¬ (result ≡ 0) → handle.new.slot.held ≡ handle.old.slot.held }
     ensures room { ¬ (result ≡ 0) → (keys.new ≡ keys.old) × (values.new ≡ values.old) }
     ensures closed { IsFalse (holds_bucket handle.old.slot.held) → result ≡ 32 }

@@ -1,33 +1,60 @@
 -- What a feed keeps when it goes on.
-use Rattle.std.proofs.Common.{◌≡◌, ℕ, ◌+◌, ◌≤◌, ◌<◌, ◌⊎◌, ⊎_elim, List, Option, Some, None, length, get_or, refl, ap, sym, subst, ◌∙◌, arith}
+use Rattle.std.proofs.Common.{◌≡◌, ℕ, ◌+◌, ◌≤◌, ◌<◌, ◌⊎◌, ⊎_elim, Bool, true, false, ◌||◌, nat_lt, List, Option, Some, None, length, get_or, refl, ap, sym, subst, ◌∙◌, arith}
 use Rattle.std.specs.List.{slice_get}
 use Rattle.std.specs.Option.{option_len, option_map}
 use Rattle.std.proofs.lemmas.Option.{slice_get_past, slice_get_cases}
 use Rattle.kv_model.specs.Acceptance.{IsLawful}
-use Rattle.kv_model.specs.Acts.{Act, IsPrefix}
+use Rattle.kv_model.specs.Acts.{Act, IsPrefix, writes_of}
 use Rattle.kv_model.specs.Configuration.{Configuration}
 use Rattle.kv_store.specs.Standing.{StandsFor}
+use Rattle.std.proofs.lemmas.Bool.{lt-ltb, ltb-false}
+use Rattle.kv_bucket.proofs.Least.{not_less}
 use Rattle.kv_model.specs.declared.options.Options.{Options}
-use Rattle.kv_model.specs.Given.{Item, event_of, given}
-use Rattle.kv_watch.specs.Following.{Following, InPlace}
-use Rattle.kv_watch.proofs.Opening.{in_place_later}
+use Rattle.kv_model.specs.Given.{Item, event_of, given, is_behind}
+use Rattle.kv_watch.specs.Following.{Following, InReach}
+use Rattle.kv_watch.proofs.Reaching.{in_reach_later}
 use Rattle.kv_live.specs.inside.Fed.{IsFed, acts_on, feeding_of}
-use Rattle.kv_live.specs.Feeding.{Feeding, HasSeenMore, IsRefreshed, given_by, next_of, after_item}
+use Rattle.kv_live.specs.Feeding.{Feeding, HasSeenMore, IsRefreshed, given_by, lags, next_of, after_item}
 use Rattle.kv_live.specs.Known.{Known}
 use Rattle.kv_live.specs.inside.Shelves.{Shelved}
 use Rattle.kv_live.proofs.Prefixes.{prefix_self, prefix_trans}
 
 -- a feed that goes on to what its reader has seen by now
 pub fed_later : (config : Configuration) (before after : Known) (base now next : Shelved) (cursor : Following) → IsFed config before base now cursor → IsPrefix before.seen after.seen
-    → acts_on next ≡ after.seen → next.version.config ≡ config → StandsFor after.seen next.version → IsFed config after base next cursor
-fed_later config before after base now next cursor fed grows seen same stands =
-    let config_now : now.version.config ≡ config = fed.place.same_config ∙ fed.same_config in
-    let later = in_place_later cursor.handed (acts_on base) (acts_on now) after.seen base.version now.version next.version cursor fed.place stands (same ∙ sym config_now)
-    (prefix_trans (acts_on now) before.seen after.seen fed.seen grows) in record {
+    → acts_on next ≡ after.seen → next.version.config ≡ config → StandsFor after.seen next.version
+    → lags config.history next.version.floor (feeding_of before base now cursor) ≡ false → IsFed config after base next cursor
+fed_later config before after base now next cursor fed grows seen same stands ahead =
+    let config_now : now.version.config ≡ config = fed.reach.place.same_config ∙ fed.same_config in
+    let parts = neither (nat_lt (length (writes_of (acts_on now))) next.version.floor) (is_behind next.version.floor cursor.handed config.history (acts_on base) (acts_on now) cursor.filters cursor.options) ahead in
+    let later = in_reach_later cursor.handed (acts_on base) (acts_on now) after.seen base.version now.version next.version cursor fed.reach.place stands (same ∙ sym config_now)
+    (prefix_trans (acts_on now) before.seen after.seen fed.seen grows)
+    (ltb-false (length (writes_of (acts_on now))) next.version.floor parts.0)
+    (ap (λ (c : Configuration). is_behind next.version.floor cursor.handed c.history (acts_on base) (acts_on now) cursor.filters cursor.options) fed.same_config ∙ parts.1) in record {
       same_config = fed.same_config;
       seen = subst (λ (acts : List Act). IsPrefix acts after.seen) (sym seen) (prefix_self after.seen);
-      place = subst (λ (acts : List Act). InPlace (acts_on base) acts cursor.handed base.version next.version cursor) (sym seen) later;
+      reach = subst (λ (acts : List Act). InReach (acts_on base) acts cursor.handed base.version next.version cursor) (sym seen) later;
     }
+  where
+    neither : (a b : Bool) → (a || b) ≡ false → (a ≡ false) × (b ≡ false)
+    neither true b e = cc
+    neither false b e = (refl, e)
+
+-- a feed whose reader has seen more
+pub fed_seen : (config : Configuration) (before after : Known) (base now : Shelved) (cursor : Following) → IsFed config before base now cursor → IsPrefix before.seen after.seen → IsFed config after base now cursor
+fed_seen config before after base now cursor fed grows = record {
+  same_config = fed.same_config;
+  seen = prefix_trans (acts_on now) before.seen after.seen fed.seen grows;
+  reach = fed.reach;
+}
+
+-- whether a feed lags, by the last revision of its version and by what its cursor tells
+pub lags_far : (h floor : ℕ) (feed : Feeding) → length (writes_of feed.acts) < floor → true ≡ lags h floor feed
+lags_far h floor feed l = sym (ap (λ b. b || is_behind floor feed.handed h feed.began feed.acts feed.filters feed.options) (lt-ltb (length (writes_of feed.acts)) floor l))
+
+pub lags_near : (h floor : ℕ) (feed : Feeding) (behind : Bool) → floor ≤ length (writes_of feed.acts) → behind ≡ is_behind floor feed.handed h feed.began feed.acts feed.filters feed.options → behind ≡ lags h floor feed
+lags_near h floor feed behind l e =
+    let within : nat_lt (length (writes_of feed.acts)) floor ≡ false = not_less (length (writes_of feed.acts)) floor l in
+    e ∙ sym (ap (λ b. b || is_behind floor feed.handed h feed.began feed.acts feed.filters feed.options) within)
 
 pub refreshed : (before after : Known) (base now next : Shelved) (cursor : Following) → HasSeenMore before after → IsPrefix (acts_on now) before.seen → acts_on next ≡ after.seen
     → IsPrefix before.told after.seen → IsRefreshed (feeding_of before base now cursor) (feeding_of after base next cursor)
@@ -41,8 +68,8 @@ refreshed before after base now next cursor more low seen told = record {
 -- what a feed went on to is lawful
 pub lawful_fed : (config : Configuration) (reader : Known) (base now : Shelved) (cursor : Following) → IsFed config reader base now cursor → IsLawful config (acts_on now)
 lawful_fed config reader base now cursor fed =
-    let same : now.version.config ≡ config = fed.place.same_config ∙ fed.same_config in
-    subst (λ (c : Configuration). IsLawful c (acts_on now)) same fed.place.now_stands.lawful
+    let same : now.version.config ≡ config = fed.reach.place.same_config ∙ fed.same_config in
+    subst (λ (c : Configuration). IsLawful c (acts_on now)) same fed.reach.place.now_stands.lawful
 
 -- there is no next item exactly where as many were handed out as there are
 differ : (x : Item) → Some x ≡ None → ⊥
@@ -74,7 +101,7 @@ took config reader base now old new item fed filters options is_next counts =
     let all = given base.version.config.history (acts_on base) (acts_on now) old.filters old.options in
     let same_all : all ≡ given_by config.history feed = ap (λ (c : Configuration). given c.history (acts_on base) (acts_on now) old.filters old.options) fed.same_config in
     let value : item ≡ next_of config.history feed = is_next ∙ ap (λ (xs : List Item). slice_get xs old.handed) same_all in
-    let within : old.handed ≤ length (given_by config.history feed) = subst (λ (xs : List Item). old.handed ≤ length xs) same_all fed.place.taken in
+    let within : old.handed ≤ length (given_by config.history feed) = subst (λ (xs : List Item). old.handed ≤ length xs) same_all fed.reach.place.taken in
     let stop = ends (given_by config.history feed) old.handed within in
     let moved : feeding_of reader base now new ≡ record feed { handed = new.handed } =
     ap (λ (fs : List (List ℕ)). let f : Feeding = record { reader = reader; began = acts_on base; acts = acts_on now; filters = fs; options = new.options; handed = new.handed } in f) filters
@@ -94,5 +121,5 @@ pub all_handed : (config : Configuration) (reader : Known) (base now : Shelved) 
 all_handed config reader base now cursor fed e =
     let feed = feeding_of reader base now cursor in
     let within : cursor.handed ≤ length (given_by config.history feed) =
-    subst (λ (xs : List Item). cursor.handed ≤ length xs) (ap (λ (c : Configuration). given c.history (acts_on base) (acts_on now) cursor.filters cursor.options) fed.same_config) fed.place.taken in
+    subst (λ (xs : List Item). cursor.handed ≤ length xs) (ap (λ (c : Configuration). given c.history (acts_on base) (acts_on now) cursor.filters cursor.options) fed.same_config) fed.reach.place.taken in
     (ends (given_by config.history feed) cursor.handed within).0 (no_event (next_of config.history feed) e)

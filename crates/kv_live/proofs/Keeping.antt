@@ -1,27 +1,30 @@
 -- What an act and a quiet call make of what lies under the lock.
-use Rattle.std.proofs.Common.{◌≡◌, ℕ, ◌+◌, ◌-◌, Bool, true, false, inl, inr, cond, List, [], ◌∷◌, ◌++◌, Option, Some, None, Result, Ok, Err, length, refl, sym, ap, ◌∙◌, subst, arith, length-append}
+use Rattle.std.proofs.Common.{◌≡◌, ℕ, ◌+◌, ◌-◌, ◌<◌, ◌≤◌, Bool, true, false, inl, inr, cond, List, [], ◌∷◌, ◌++◌, Option, Some, None, Result, Ok, Err, length, refl, sym, ap, ◌∙◌, subst, arith, length-append}
 use Rattle.std.specs.Prelude.{IfOk, OnOk, OnErr, MatchResult}
 use Rattle.std.specs.List.{slice_get}
 use Rattle.kv_keys.specs.declared.error.KvError.{KvError}
-use Rattle.kv_model.specs.Acceptance.{accept}
-use Rattle.kv_model.specs.Acts.{Act, Wrote, Write, writes_of}
+use Rattle.kv_model.specs.Acceptance.{accept, LawfulFrom}
+use Rattle.kv_model.specs.Acts.{Act, Wrote, Compact, Write, writes_of, floor_of, is_compaction}
 use Rattle.kv_model.specs.Configuration.{Configuration}
 use Rattle.kv_model.specs.Requests.{Asked}
 use Rattle.kv_store.specs.Standing.{StandsFor}
 use Rattle.kv_store.specs.Stored.{Stored, write_at}
-use Rattle.kv_model.proofs.Numbered.{accepted_is_next, writes_of-wrote, write_at_counted, counts_from_lawful}
+use Rattle.kv_model.proofs.Numbered.{accepted_is_next, writes_of-wrote, counts_from_lawful}
+use Rattle.kv_model.proofs.Found.{write_at_counted}
+use Rattle.kv_model.proofs.Storing.{floor_of-wrote, floor_of-compact, floor_within}
 use Rattle.kv_live.specs.Posted.{Posted, Posts, PostsNothing, showing, without}
 use Rattle.kv_model.specs.declared.options.Options.{Options}
 use Rattle.kv_model.specs.Given.{Item}
 use Rattle.kv_model.specs.declared.call.Call.{Call}
 use Rattle.kv_model.specs.declared.call.Call.TheVariants as calls
-use Rattle.kv_model.specs.Answers.{Answer, Revision}
-use Rattle.kv_bucket.specs.Held.{Bucketed}
+use Rattle.kv_model.specs.Answers.{Answer, Revision, Compacted}
+use Rattle.kv_bucket.specs.Held.{Bucketed, Represents}
 use Rattle.kv_live.specs.Keeping.{Kept, kept_of, IsAt, state_of, IsSomewhere, IsKeptStep, PublishesWrite}
-use Rattle.kv_model.specs.State.{State, Watch, add_act, add_watch, opened, open_at, has_room, next_of, after, after_write, after_stop, after_item, after_take, answer_write}
+use Rattle.kv_model.specs.State.{State, Watch, add_act, add_watch, opened, open_at, has_room, next_of, after, after_write, after_stop, after_item, after_take, after_compact, answer_to, answer_write, may_compact}
 use Rattle.kv_bucket.specs.Stepping.{IsStep}
 use Rattle.kv_bucket.proofs.Answering.{write_done}
 use Rattle.kv_bucket.proofs.Later.{later}
+use Rattle.kv_bucket.proofs.Least.{compact_done}
 use Rattle.kv_bucket.proofs.Representing.{represents_act}
 
 -- the value under the lock after one more act, which the store shows
@@ -42,15 +45,37 @@ kept_same old bucket new act version posted is more put =
 pub somewhere_open : (config : Configuration) (old : Kept) (is_open : Bool) (noted : List Act) → IsSomewhere config old → IsSomewhere config (record old { is_open = is_open; noted = noted })
 somewhere_open config old is_open noted some = (some.0, record { represents = some.1.represents; published = some.1.published })
 
-pub at_act : (state : State) (old : Kept) (act : Act) (version : Stored) → IsAt state old → version.config ≡ old.bucket.version.config → StandsFor (old.published ++ act ∷ []) version → IsAt (add_act act state) (kept_after old act version)
-at_act state old act version at same stands = record {
-  represents = represents_act later state old.bucket act version at.represents same (subst (λ (acts : List Act). StandsFor (acts ++ act ∷ []) version) at.published stands);
+-- the bucket with this version is at the state after the act
+abbrev pub GoesOn : Kept → Act → Stored → Type 0
+GoesOn old act version = (state : State) → IsAt state old → Represents (add_act act state) (record old.bucket { version = version })
+
+-- so it is where the version stands for the acts with a write or a seal more
+pub goes_on : (old : Kept) (act : Act) (version : Stored) → is_compaction act ≡ false → version.config ≡ old.bucket.version.config → StandsFor (old.published ++ act ∷ []) version → GoesOn old act version
+goes_on old act version plain same stands = λ state at.
+    represents_act later state old.bucket act version plain at.represents same (subst (λ (acts : List Act). StandsFor (acts ++ act ∷ []) version) at.published stands)
+
+-- and where it stands for them with a compaction more, which the state allows
+pub goes_on_compacted : (old : Kept) (floor : ℕ) (version : Stored) → ((state : State) → IsAt state old → may_compact floor state ≡ Ok floor) → version.config ≡ old.bucket.version.config
+    → StandsFor (old.published ++ Compact floor ∷ []) version → GoesOn old (Compact floor) version
+goes_on_compacted old floor version may same stands = λ state at.
+    let own : StandsFor (state.acts ++ Compact floor ∷ []) version = subst (λ (acts : List Act). StandsFor (acts ++ Compact floor ∷ []) version) at.published stands in
+    let done = compact_done state old.bucket floor version at.represents (may state at) same own (own.floor ∙ floor_of-compact state.acts floor) in
+    subst (λ r. Represents (after_compact state r) (record old.bucket { version = version })) (may state at) done.1
+
+pub at_act : (state : State) (old : Kept) (act : Act) (version : Stored) → GoesOn old act version → IsAt state old → IsAt (add_act act state) (kept_after old act version)
+at_act state old act version on at = record {
+  represents = on state at;
   published = ap (λ (acts : List Act). acts ++ act ∷ []) at.published;
 }
 
+-- a compaction that is made is one step
+pub at_compact : (state : State) (old : Kept) (floor : ℕ) (version : Stored) → GoesOn old (Compact floor) version → may_compact floor state ≡ Ok floor → IsAt state old
+    → (Compacted floor ≡ answer_to state (calls.Compact floor)) × IsAt (after state (calls.Compact floor)) (kept_after old (Compact floor) version)
+at_compact state old floor version on may at = rw may (refl, at_act state old (Compact floor) version on at)
+
 -- it is still at some state
-pub somewhere_act : (config : Configuration) (old : Kept) (act : Act) (version : Stored) → IsSomewhere config old → version.config ≡ old.bucket.version.config → StandsFor (old.published ++ act ∷ []) version → IsSomewhere config (kept_after old act version)
-somewhere_act config old act version some same stands = (some.0, at_act (state_of config old.published some.0) old act version some.1 same stands)
+pub somewhere_act : (config : Configuration) (old : Kept) (act : Act) (version : Stored) → GoesOn old act version → IsSomewhere config old → IsSomewhere config (kept_after old act version)
+somewhere_act config old act version on some = (some.0, at_act (state_of config old.published some.0) old act version on some.1)
 
 -- what is published stands for the bucket's version
 pub published_stands : (config : Configuration) (old : Kept) → IsSomewhere config old → StandsFor old.published old.bucket.version
@@ -69,7 +94,7 @@ at_write state old request w version revision at same ok accepted stands last =
     ap (λ (c : Configuration). accept c request state.acts) (sym at.represents.config) ∙ (ap (accept old.bucket.version.config request) (sym at.published) ∙ accepted) in
     let new : Kept = kept_after old (Wrote w) version in (
       (write_done state old.bucket request version revision at.represents same ok last).0,
-      subst (λ r. IsAt (after_write state r) new) (sym is) (at_act state old (Wrote w) version at same stands),
+      subst (λ r. IsAt (after_write state r) new) (sym is) (at_act state old (Wrote w) version (goes_on old (Wrote w) version refl same stands) at),
     )
 
 -- the last write of a version
@@ -77,13 +102,20 @@ get_last : {X : Type 0} (xs : List X) (x : X) → slice_get (xs ++ x ∷ []) (le
 get_last [] x = refl
 get_last (y ∷ xs) x = get_last xs x
 
+-- a front of lawful acts is lawful
+lawful_front : (config : Configuration) (before acts more : List Act) → LawfulFrom config before (acts ++ more) → LawfulFrom config before acts
+lawful_front config before [] more h = tt
+lawful_front config before (act ∷ acts) more h = (h.0, lawful_front config (before ++ act ∷ []) acts more h.1)
+
 pub last_written : (acts : List Act) (w : Write) (version : Stored) → StandsFor (acts ++ Wrote w ∷ []) version → write_at version.last version ≡ Some w
 last_written acts w version stands =
     let all : writes_of (acts ++ Wrote w ∷ []) ≡ writes_of acts ++ w ∷ [] = writes_of-wrote acts w in
     let total : version.last ≡ length (writes_of acts) + 1 = stands.last ∙ (ap length all ∙ length-append (writes_of acts) (w ∷ [])) in
     let place : version.last - 1 ≡ length (writes_of acts) = omega arith in
+    let floor_before : floor_of acts ≤ length (writes_of acts) = floor_within version.config acts (lawful_front version.config [] acts (Wrote w ∷ []) stands.lawful) in
+    let low : floor_of (acts ++ Wrote w ∷ []) < version.last = omega (arith, total, floor_of-wrote acts w, floor_before) in
     stands.written version.last
-    ∙ (write_at_counted version.last (acts ++ Wrote w ∷ []) (counts_from_lawful version.config (acts ++ Wrote w ∷ []) stands.lawful) (omega arith)
+    ∙ (write_at_counted version.config.history version.last (acts ++ Wrote w ∷ []) (counts_from_lawful version.config (acts ++ Wrote w ∷ []) stands.lawful) low
     ∙ (ap (λ ws. slice_get ws (version.last - 1)) all ∙ (ap (slice_get (writes_of acts ++ w ∷ [])) place ∙ get_last (writes_of acts) w)))
 
 somewhere_left : (config : Configuration) (was bucket : Bucketed) (before posted : Posted) (act : Act) → IsSomewhere config (kept_of was before) → PostsNothing before act posted → bucket ≡ was → IsSomewhere config (kept_of bucket posted)
@@ -93,14 +125,14 @@ somewhere_left config was bucket before posted act some (inr ended) put =
     subst (IsSomewhere config) (ap (λ (b : Bucketed). kept_of b (without before act)) (sym put) ∙ ap (λ (p : Posted). kept_of bucket p) (sym ended)) (somewhere_open config (kept_of was before) false (before.acts ++ act ∷ []) some)
 
 -- whether the act was kept or refused, the value under the lock is at some state
-pub somewhere_kept : (config : Configuration) (old : Kept) (was bucket : Bucketed) (act : Act) (version : Stored) (before posted : Posted) (kept : Result (Unit {0}) KvError) → IsSomewhere config old → old ≡ kept_of was before
-    → version.config ≡ old.bucket.version.config → StandsFor (old.published ++ act ∷ []) version → OnOk kept (Posts before act posted × (bucket ≡ record was { version = version }))
+pub somewhere_kept : (config : Configuration) (old : Kept) (was bucket : Bucketed) (act : Act) (version : Stored) (before posted : Posted) (kept : Result (Unit {0}) KvError) → GoesOn old act version → IsSomewhere config old → old ≡ kept_of was before
+    → OnOk kept (Posts before act posted × (bucket ≡ record was { version = version }))
     → OnErr kept (PostsNothing before act posted × (bucket ≡ was)) → IsSomewhere config (kept_of bucket posted)
-somewhere_kept config old was bucket act version before posted (Ok done) some is same stands ok err =
+somewhere_kept config old was bucket act version before posted (Ok done) on some is ok err =
     subst (IsSomewhere config)
     (kept_same old was bucket act version posted (ap (λ (k : Kept). k.bucket) is) (ok.0.1 ∙ ap (λ (k : Kept). posted_after k act) (sym is)) ok.1)
-    (somewhere_act config old act version some same stands)
-somewhere_kept config old was bucket act version before posted (Err error) some is same stands ok err =
+    (somewhere_act config old act version on some)
+somewhere_kept config old was bucket act version before posted (Err error) on some is ok err =
     somewhere_left config was bucket before posted act (subst (IsSomewhere config) is some) err.0 err.1
 
 -- ---- calls that accept nothing

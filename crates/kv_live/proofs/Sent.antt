@@ -9,6 +9,7 @@ use Rattle.kv_live.specs.declared.history.LiveName as live_name
 use Rattle.kv_live.specs.contracts.bell.Bell as Bell
 use Rattle.kv_live.specs.contracts.copies.Copies as Copies
 use Rattle.kv_live.specs.contracts.feed.Feed as Feed
+use Rattle.kv_live.specs.contracts.feed.Held as Held
 use Rattle.kv_live.specs.contracts.publisher.Publisher as Publisher
 use Rattle.kv_live.specs.contracts.reader.Reader as Reader
 use Rattle.kv_live.specs.contracts.receipt.Receipt as Receipt
@@ -37,12 +38,15 @@ bell_sync = search (sendable, crosses) depth 20
 bucket_send : IsSend Bucket.the_row
 bucket_send = let v = version_send in let c = cursor.the_send in search (sendable, crosses) depth 20
 
+held_send : IsSend (Held.the_field).row
+held_send = let h = shelf_send in let v = version_send in search (sendable, crosses) depth 20
+
 module _ (N : RattleType) (g : live_name.Ghosts N.Denot) (s : IsSend N) (y : IsSync N) where
   pub reader_send : IsSend (Reader.the_row N g)
   reader_send = let h = shelf_send in let i = shelf_sync in search (sendable, crosses, bell_send, seat.the_send, seat.the_field_send, front.the_send) depth 20
 
   pub feed_send : IsSend (Feed.the_row N g)
-  feed_send = let h = shelf_send in let r = reader_send in let c = cursor.the_send in search sendable depth 20
+  feed_send = let h = held_send in let r = reader_send in let c = cursor.the_send in search sendable depth 20
 
   pub receipt_send : IsSend (Receipt.the_row N g)
   receipt_send = search (sendable, front.the_send) depth 20

@@ -1,10 +1,12 @@
 -- What a contract sees of a feed, and what its calls do to it.
-use Rattle.std.specs.Prelude.{◌≡◌, ℕ, ◌+◌, ◌<◌, ◌≤◌, ◌⊎◌, List, [], ◌∷◌, Option, Some, None, take, length, slice_get}
+use Rattle.std.specs.Prelude.{◌≡◌, ℕ, ◌+◌, ◌<◌, ◌≤◌, ◌⊎◌, Bool, true, ◌||◌, nat_lt, List, [], ◌∷◌, Option, Some, None, take, length, slice_get}
 use Rattle.std.specs.List.{filter_map}
-use Rattle.kv_model.specs.Acts.{Act, IsPrefix}
+use Rattle.kv_keys.specs.declared.error.KvError.{KvError}
+use Rattle.kv_keys.specs.declared.error.KvError.TheVariants.{Lagged}
+use Rattle.kv_model.specs.Acts.{Act, IsPrefix, floor_of, writes_of}
 use Rattle.kv_model.specs.declared.options.Options.{Options}
-use Rattle.kv_model.specs.Given.{Item, given}
-use Rattle.kv_live.specs.Known.{Known}
+use Rattle.kv_model.specs.Given.{Item, given, is_behind}
+use Rattle.kv_live.specs.Known.{Known, IsUnread}
 
 -- a feed: its reader, the acts when it was opened, those that its version stands for, what it matches and how it shows it, and how many items it handed out
 pub record Feeding : Type 0 where
@@ -23,6 +25,10 @@ given_by h feed = given h feed.began feed.acts feed.filters feed.options
 abbrev pub next_of : ℕ → Feeding → Option Item
 next_of h feed = slice_get (given_by h feed) feed.handed
 
+-- a feed lags behind a floor where the floor is above the last revision of the feed's acts, or a live item at or below it is still to be handed out
+abbrev pub lags : ℕ → ℕ → Feeding → Bool
+lags h floor feed = nat_lt (length (writes_of feed.acts)) floor || is_behind floor feed.handed h feed.began feed.acts feed.filters feed.options
+
 -- a reader has seen more, or as much as before
 abbrev pub HasSeenMore : Known → Known → Type 0
 HasSeenMore before after = IsPrefix before.seen after.seen × (after.told ≡ before.told)
@@ -38,6 +44,11 @@ pub record IsRefreshed (before after : Feeding) : Type 0 where
 pub record IsNotRefreshed (before after : Feeding) : Type 0 where
   pub reader : HasSeenMore before.reader after.reader
   pub same : after ≡ record before { reader = after.reader }
+
+-- why a feed stays where it is: nothing was read, or it lags behind the floor of what its reader has seen by now
+abbrev pub IsStopped : ℕ → Feeding → Feeding → KvError → Type 0
+IsStopped h before after error =
+    IsUnread error ⊎ ((error ≡ Lagged (floor_of after.reader.seen)) × (lags h (floor_of after.reader.seen) before ≡ true))
 
 -- what was told was added to what its reader knows; nothing else of it changed
 pub record HasLearned (told : List Act) (before after : Feeding) : Type 0 where

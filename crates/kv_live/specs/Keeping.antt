@@ -12,7 +12,7 @@ use Rattle.kv_live.specs.Posted.{Posted}
 use Rattle.kv_model.specs.declared.call.Call.{Call}
 use Rattle.kv_model.specs.Answers.{Answer}
 use Rattle.kv_bucket.specs.Held.{Bucketed, Represents}
-use Rattle.kv_model.specs.State.{State, Watch, after, answer_to}
+use Rattle.kv_model.specs.State.{State, Watch, after, answer_to, may_compact}
 
 -- a bucket, the acts that are published of its opening, whether the store is open: then it shows these acts to the readers of the opening; and what the history has
 pub record Kept : Type 0 where
@@ -60,6 +60,18 @@ WritesSomewhere config request revision later = (before : List Act) × (IsLawful
 -- the refusal is the one that the rules give after some lawful acts
 abbrev pub RefusedSomewhere : Configuration → Asked → KvError → Type 0
 RefusedSomewhere config request error = (before : List Act) × (IsLawful config before × Refuses error (accept config request before))
+
+-- a state of this configuration, of lawful acts
+abbrev pub IsLawfulState : Configuration → State → Type 0
+IsLawfulState config state = (state.config ≡ config) × IsLawful config state.acts
+
+-- at some such state a compaction to the floor is made
+abbrev pub CompactsSomewhere : Configuration → ℕ → Type 0
+CompactsSomewhere config floor = (state : State) × (IsLawfulState config state × (may_compact floor state ≡ Ok floor))
+
+-- the refusal of a compaction is the one that the rules give at some such state
+abbrev pub UncompactedSomewhere : Configuration → ℕ → KvError → Type 0
+UncompactedSomewhere config floor error = (state : State) × (IsLawfulState config state × Refuses error (may_compact floor state))
 
 -- an opening that has no name yet, and how many readers it is for
 pub record Unnamed : Type 0 where

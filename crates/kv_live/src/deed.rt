@@ -1,7 +1,7 @@
 //! Acts as proofs see them.
 
 ghost use Rattle.std.specs.Prelude.{◌≡◌};
-ghost use Rattle.kv_model.specs.Acts.{Wrote, Seal};
+ghost use Rattle.kv_model.specs.Acts.{Wrote, Seal, Compact};
 
 use kv_model::Write;
 use std::marker::Model;
@@ -11,6 +11,7 @@ use std::snapshot::Snapshot;
 enum Kind {
     Wrote(Snapshot<Write>),
     Seal,
+    Compact(u64),
 }
 
 /// An act that was accepted. It has no bytes of the write: contracts alone see which act it is.
@@ -43,5 +44,13 @@ impl Deed {
         ensures { result ≡ Seal }
     {
         Deed { kind: Kind::Seal }
+    }
+    /// A compaction to the floor.
+    pub fn compact(floor: u64) -> Deed
+        ensures { result ≡ Compact floor }
+    {
+        Deed {
+            kind: Kind::Compact(floor),
+        }
     }
 }

@@ -1,19 +1,20 @@
 //! Feeds: watches outside the lock.
 
-ghost use Rattle.std.specs.Prelude.{◌≡◌, ◌≤◌, ◌↔◌, List, [], ⊤, None, IfOk, IfErr, OnOk, MatchResult, length, take};
+ghost use Rattle.std.specs.Prelude.{◌≡◌, ◌≤◌, ◌↔◌, false, List, [], ⊤, None, IfOk, IfErr, OnOk, MatchResult, length, take};
 ghost use Rattle.std.specs.Borrow.{sem, follows_so};
 ghost use Rattle.std.specs.Option.{option_map};
 ghost use mathlib.Core.Option.{none};
 ghost use Rattle.kv_keys.specs.declared.error.KvError.TheVariants.{OutOfMemory};
 ghost use Rattle.kv_model.specs.Acceptance.{IsLawful};
-ghost use Rattle.kv_model.specs.Acts.{Act, Write, IsPrefix};
+ghost use Rattle.kv_model.specs.Acts.{Act, Write, IsPrefix, floor_of};
 ghost use Rattle.kv_store.specs.Standing.{StandsFor};
-ghost use Rattle.kv_watch.specs.Following.{InPlace};
+ghost use Rattle.kv_watch.specs.Following.{InReach, IsOpening};
 ghost use Rattle.kv_model.specs.Given.{event_of};
+ghost use Rattle.kv_store.specs.Stored.{Stored};
 ghost use Rattle.kv_watch.specs.Taking.{item_taken};
 ghost use Rattle.kv_live.specs.inside.Fed.{acts_on, opened};
-ghost use Rattle.kv_live.specs.Feeding.{HasSeenMore, HasLearned, IsRefreshed, IsNotRefreshed, WentOn, HandsNext, given_by, next_of, after_item};
-ghost use Rattle.kv_live.specs.Known.{IsUnread};
+ghost use Rattle.kv_live.specs.Feeding.{Feeding, HasSeenMore, HasLearned, IsRefreshed, IsNotRefreshed, IsStopped, lags, WentOn, HandsNext, given_by, next_of, after_item};
+ghost use Rattle.kv_live.specs.Known.{IsUnread, IsHeldBack};
 ghost use Rattle.kv_live.specs.Owed.{Owes, HasOnce};
 ghost use Rattle.kv_live.specs.inside.Shelves.{IsOf};
 
@@ -30,6 +31,7 @@ use std::alloc::Global;
 use std::marker::Model;
 use std::mem;
 use std::rt::Clock;
+use std::snapshot::Snapshot;
 use std::sync::Wait;
 use std::time::Duration;
 
@@ -42,41 +44,59 @@ pub struct Feed<N: LiveName> {
     cursor: Cursor,
 }
 
-// What a feed was opened on, and what it went on to: one field, which `take` lends from.
+// What a feed was opened on, as contracts see it and as long as initial entries are owed, and what it went on to: one
+// field, which `take` lends from.
 #[derive(Drop)]
 struct Held {
-    base: Shelf,
+    base: Snapshot<Shelf>,
+    kept: Option<Version>,
     current: Shelf,
+}
+
+// Whether a feed with this cursor that is on this shelf lags behind a version with the floor.
+fn lags_behind(current: &Shelf, cursor: &Cursor, floor: u64) -> bool
+    ensures { (feed : Feeding) (opening : Stored) → feed.acts ≡ acts_on current.now →
+        feed.filters ≡ cursor.now.filters → feed.options ≡ cursor.now.options →
+        InReach feed.began feed.acts feed.handed opening current.now.version cursor.now →
+        result ≡ lags opening.config.history floor feed }
+{
+    let version = current.version();
+    if version.revision() < floor {
+        return true;
+    }
+    cursor.behind(version, floor)
 }
 
 impl<N: LiveName> Model for Feed<N> {
     ghost use Rattle.kv_live.specs.inside.Fed.{IsFed, feeding_of};
     ghost use Rattle.kv_live.specs.Feeding.{Feeding};
+    ghost use Rattle.kv_watch.specs.Following.{IsOpening};
 
     ghost Value = { Feeding };
 
-    ghost view = { λ f. feeding_of f.reader f.held.base f.held.current f.cursor };
+    ghost view = { λ f. feeding_of f.reader f.held.base.value f.held.current f.cursor };
 
-    ghost invariant = { λ f. IsFed N.opening.config f.reader f.held.base f.held.current f.cursor };
+    ghost invariant = { λ f. IsFed N.opening.config f.reader f.held.base.value f.held.current f.cursor
+        × IsOpening f.held.kept f.held.base.value.version f.cursor };
 }
 
-// What a feed needs that begins on a shelf: a snapshot of it, and a cursor before the first item.
+// What a feed needs that begins on a shelf: a cursor before the first item, and a snapshot as long as that needs it.
 fn beginning(
     alloc: Global,
     shelf: &Shelf,
     filters: &Filters,
     options: Options,
-) -> Result<(Shelf, Cursor), KvError>
-    ensures base { IfOk result
-        (λ p. (p.0.version ≡ shelf.now.version) × (p.0.glimpse.sight ≡ shelf.now.glimpse.sight)) }
+) -> Result<(Option<Version>, Cursor), KvError>
+    ensures kept { IfOk result (λ p. IsOpening p.0 shelf.now.version p.1) }
     ensures shows { IfOk result (λ p. (p.1.filters ≡ filters.now) × (p.1.options ≡ options)) }
     ensures place { IfOk result
-        (λ p. InPlace (acts_on shelf.now) (acts_on shelf.now) 0 shelf.now.version shelf.now.version p.1) }
+        (λ p. InReach (acts_on shelf.now) (acts_on shelf.now) 0 shelf.now.version shelf.now.version p.1) }
     ensures err { IfErr result (λ e. e ≡ OutOfMemory) }
 {
-    let base = shelf.again()?;
+    let base = shelf.version().snapshot()?;
     let cursor = Cursor::open(alloc, shelf.version(), filters, options)?;
-    Ok((base, cursor))
+    let kept = cursor.keep(base);
+    Ok((kept, cursor))
 }
 
 // A feed that begins on a shelf.
@@ -92,10 +112,11 @@ fn begin<N: LiveName>(
     ensures err { IfErr result (λ e. (e.0 ≡ reader) × (e.1 ≡ OutOfMemory)) }
 {
     match beginning(reader.alloc(), &shelf, filters, options) {
-        Ok((base, cursor)) => Ok(Feed {
+        Ok((kept, cursor)) => Ok(Feed {
             reader,
             held: Held {
-                base,
+                base: Snapshot::of(&shelf),
+                kept,
                 current: shelf,
             },
             cursor,
@@ -139,11 +160,16 @@ impl<N: LiveName> Reader<N> {
 impl<N: LiveName> Feed<N> {
     ghost use Rattle.kv_live.specs.contracts.feed.Feed.{the_row};
 
-    /// Goes on to the version that is published. Where it is refused the feed stays on its version. It frees of the
-    /// version that it leaves what nobody else holds; `refresh_keeping` hands that out.
+    /// Goes on to the version that is published. Where it is refused the feed stays on its version, with its count.
+    /// `Lagged` tells the floor of the published version: it is above the last revision of the feed's version, or the
+    /// feed has still to hand out an entry at or below it that came after its opening. What the feed owes by its own
+    /// version it can still hand out, and then be opened anew. It frees of the version that it leaves what nobody else
+    /// holds; `refresh_keeping` hands that out.
     pub fn refresh(&mut self) -> Result<(), KvError>
         ensures ok { IfOk result (λ _. IsRefreshed self.old self.new) }
-        ensures refused { IfErr result (λ e. IsUnread e × IsNotRefreshed self.old self.new) }
+        ensures ahead { IfOk result (λ _. lags N.opening.config.history (floor_of self.new.acts) self.old ≡ false) }
+        ensures refused { IfErr result
+            (λ e. IsStopped N.opening.config.history self.old self.new e × IsNotRefreshed self.old self.new) }
     {
         self.refresh_keeping()?;
         Ok(())
@@ -153,10 +179,18 @@ impl<N: LiveName> Feed<N> {
     /// where there is time for that.
     pub fn refresh_keeping(&mut self) -> Result<Version, KvError>
         ensures ok { OnOk result (IsRefreshed self.old self.new) }
+        ensures ahead { OnOk result (lags N.opening.config.history (floor_of self.new.acts) self.old ≡ false) }
         ensures left { IfOk result (λ left. StandsFor self.old.acts left × (left.config ≡ N.opening.config)) }
-        ensures refused { IfErr result (λ e. IsUnread e × IsNotRefreshed self.old self.new) }
+        ensures refused { IfErr result
+            (λ e. IsStopped N.opening.config.history self.old self.new e × IsNotRefreshed self.old self.new) }
     {
+        let noted = self.reader.noted();
         let shelf = self.reader.shelf()?;
+        let floor = shelf.version().floor();
+        if lags_behind(&self.held.current, &self.cursor, floor) {
+            self.reader.note(noted);
+            return Err(KvError::Lagged { floor });
+        }
         let left = mem::replace(&mut self.held.current, shelf);
         Ok(left.into_version())
     }
@@ -174,7 +208,7 @@ impl<N: LiveName> Feed<N> {
         ensures { item_taken result ≡ next_of N.opening.config.history self.now }
     {
         self.cursor
-            .peek(self.held.base.version(), self.held.current.version())
+            .peek(self.held.kept.as_ref(), self.held.current.version())
     }
 
     /// Hands out the next item, lent from the feed's version. Where all was handed out it is `Empty`, and nothing
@@ -188,9 +222,10 @@ impl<N: LiveName> Feed<N> {
         ensures end { (item_taken result ≡ None) ↔ (self.old.handed
             ≡ length (given_by N.opening.config.history self.old)) }
     {
+        self.cursor.let_go(&mut self.held.kept);
         let held = &self.held;
         self.cursor
-            .take_settled(held.base.version(), held.current.version())
+            .take_settled(held.kept.as_ref(), held.current.version())
     }
 
     /// Moves on behind the item that `peek` showed, as `take` does, and doesn't look it up again: so that what is shown
@@ -202,6 +237,7 @@ impl<N: LiveName> Feed<N> {
             HasOnce self.old w (take self.old.handed (given_by N.opening.config.history self.old)) }
     {
         self.cursor.pass(peeked, self.held.current.version());
+        self.cursor.let_go(&mut self.held.kept);
     }
 
     /// Sleeps until something was published since its last accepted refresh began, or the bucket was closed, and says
@@ -219,7 +255,7 @@ impl<N: LiveName> Feed<N> {
     // Goes on until there is a next item, or the bucket was closed and there will never be one.
     fn go_on<R: Wait>(&mut self, rt: &R) -> Result<(), KvError>
         ensures goes { WentOn self.old self.new }
-        ensures err { IfErr result IsUnread }
+        ensures err { IfErr result IsHeldBack }
     {
         for _ in rt.forever() {
             let Taken::Empty = self.peek() else {
@@ -239,7 +275,7 @@ impl<N: LiveName> Feed<N> {
         ensures* after { sem 𝓛 (follows_so (the_row N.row N.LiveName) (the_row N.row N.LiveName) self.entry.ghost_name none (λ _ _. ⊤)
             (λ left. MatchResult result
             (λ taken. HandsNext N.opening.config.history self.old (item_taken taken) left)
-            (λ e. WentOn self.old left × IsUnread e))) }
+            (λ e. WentOn self.old left × IsHeldBack e))) }
     {
         self.go_on(rt)?;
         Ok(self.take())

@@ -12,10 +12,10 @@ ghost use Rattle.kv_store.specs.Standing.{StandsFor};
 ghost use Rattle.kv_live.specs.Known.{IsUnread};
 ghost use Rattle.kv_live.specs.Posted.{IsOpenUnlessLost, Posts, PostsNothing};
 ghost use Rattle.kv_watch.specs.Taking.{item_taken};
-ghost use Rattle.kv_model.specs.declared.call.Call.TheVariants.{Write, Seal, Watch, Take, Stop};
-ghost use Rattle.kv_model.specs.Answers.{Revision, Sealed, Watching, Ended, Refused, answer_item};
+ghost use Rattle.kv_model.specs.declared.call.Call.TheVariants.{Write, Seal, Watch, Take, Stop, Compact};
+ghost use Rattle.kv_model.specs.Answers.{Revision, Sealed, Watching, Ended, Compacted, Refused, answer_item};
 ghost use Rattle.kv_live.specs.Keeping.{IsAt, IsSomewhere, IsKeptStep, IsLeft, PublishesWrite, StaysOpen};
-ghost use Rattle.kv_model.specs.State.{State, answer_to, next_number};
+ghost use Rattle.kv_model.specs.State.{State, answer_to, may_compact, next_number};
 
 use crate::deed::Deed;
 use crate::history::LiveName;
@@ -133,6 +133,22 @@ impl<N: LiveName> Keeper<N> {
         Ok(())
     }
 
+    /// Compacts to the floor, as `Bucket::compact` does, and publishes it. A watch of the bucket that is behind the floor
+    /// refuses it; a feed is told by its next refresh where it lags behind it.
+    pub fn compact<R: Wait>(&mut self, rt: &R, floor: u64) -> Result<(), KvError>
+        ensures ok { OnOk result (IsKeptStep self.old (Compact floor) (Compacted floor) self.new) }
+        ensures refused { IfErr result
+            (λ e. (state : State) → IsAt state self.old → Refuses e (may_compact floor state)) }
+        ensures open { OnOk result (StaysOpen self.old self.new) }
+        ensures unchanged { IfErr result (λ e. IsLeft self.old e self.new) }
+    {
+        let Keeper { bucket, publisher } = self;
+        bucket.may_compact(floor)?;
+        let next = bucket.version().compact(bucket.alloc(), floor)?;
+        keep(rt, bucket, publisher, Deed::compact(floor), next)?;
+        Ok(())
+    }
+
     /// Opens a watch on the bucket, as `Bucket::watch` does.
     pub fn watch(&mut self, filters: &Filters, options: Options) -> Result<u64, KvError>
         ensures ok { IfOk result
@@ -180,8 +196,8 @@ impl<N: LiveName> Keeper<N> {
         self.bucket.stop(number)
     }
 
-    /// Whether the store is open. It is from the opening on, and stays so until memory is refused to a write or a seal;
-    /// nothing is published after that.
+    /// Whether the store is open. It is from the opening on, and stays so until memory is refused to a write, a seal or a
+    /// compaction; nothing is published after that.
     pub fn is_open(&self) -> bool
         ensures value { result ≡ self.now.is_open }
         ensures stands { IsOpenUnlessLost self.now.is_open self.now.published self.now.noted }

@@ -1,6 +1,6 @@
 //! A bucket that threads share: writers take one lock, readers none.
 
-ghost use Rattle.std.specs.Prelude.{◌≡◌, List, [], Ok, IfErr, IfOk, All, length};
+ghost use Rattle.std.specs.Prelude.{◌≡◌, List, [], Ok, IfErr, IfOk, OnOk, All, length};
 ghost use Rattle.std.specs.Sync.Mutex.{mutex_guard_value};
 ghost use Rattle.kv_keys.specs.declared.error.KvError.TheVariants.{OutOfMemory, NoReader};
 ghost use Rattle.kv_keys.specs.Outcome.{Refuses};
@@ -9,7 +9,7 @@ ghost use Rattle.kv_model.specs.Acts.{Act};
 ghost use Rattle.kv_model.specs.Requests.{asked};
 ghost use Rattle.kv_live.specs.Known.{IsUnread};
 ghost use Rattle.kv_live.specs.Posted.{IsOpenUnlessLost};
-ghost use Rattle.kv_live.specs.Keeping.{IsSomewhere, PublishesWrite, WritesSomewhere, RefusedSomewhere, may_open};
+ghost use Rattle.kv_live.specs.Keeping.{IsSomewhere, PublishesWrite, WritesSomewhere, RefusedSomewhere, CompactsSomewhere, UncompactedSomewhere, may_open};
 
 use crate::bell::Bell;
 use crate::history::{Blank, LiveName};
@@ -156,6 +156,19 @@ fn write_and_tell<N: LiveName, R: Wait>(
     Ok((revision, keeper.receipt()))
 }
 
+// Compacts. What is answered is what the rules give at a state of the acts that were published before, which are lawful.
+fn compact_on<N: LiveName, R: Wait>(
+    rt: &R,
+    keeper: &mut Keeper<N>,
+    floor: u64,
+) -> Result<(), KvError>
+    ensures ok { OnOk result (CompactsSomewhere N.opening.config floor) }
+    ensures refused { IfErr result (λ e. UncompactedSomewhere N.opening.config floor e) }
+{
+    keeper.is_somewhere();
+    keeper.compact(rt, floor)
+}
+
 impl<N: LiveName> Live<N> {
     /// The keeper, for several calls in a row, at a state of the model. The store is open unless an act could not be
     /// published. It waits until the lock is free.
@@ -199,6 +212,15 @@ impl<N: LiveName> Live<N> {
         ensures err { IfErr result (λ e. e ≡ OutOfMemory) }
     {
         self.keeper.lock(rt).seal(rt)
+    }
+
+    /// Compacts to the floor, as `Keeper::compact` does.
+    pub fn compact<R: Wait>(&self, rt: &R, floor: u64) -> Result<(), KvError>
+        ensures ok { OnOk result (CompactsSomewhere N.opening.config floor) }
+        ensures refused { IfErr result (λ e. UncompactedSomewhere N.opening.config floor e) }
+    {
+        let mut keeper = self.keeper.lock(rt);
+        compact_on(rt, &mut *keeper, floor)
     }
 
     /// Tells those who wait, and those who will, that no write comes any more: their waits end once they have seen all

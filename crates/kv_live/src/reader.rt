@@ -167,6 +167,18 @@ impl<N: LiveName> Reader<N> {
         self.alloc
     }
 
+    /// How often something had been published when its last look began that was accepted.
+    pub(crate) fn noted(&self) -> u64 {
+        self.noted
+    }
+
+    /// Takes its last look as one that was not accepted, where this was noted before it.
+    pub(crate) fn note(&mut self, noted: u64)
+        ensures { self.new ≡ self.old }
+    {
+        self.noted = noted;
+    }
+
     /// The empty version, as a shelf.
     pub(crate) fn empty_shelf(&self) -> Result<Shelf, KvError>
         ensures { MatchResult result (λ s. IsOf N.opening s × (s.glimpse.sight.log ≡ [])) (λ e. e ≡ OutOfMemory) }

@@ -9,6 +9,7 @@ use std::alloc::Global;
 use std::process::Abort;
 use std::test::Fail;
 
+mod compacted;
 mod longest;
 mod rows;
 mod runs;
@@ -32,6 +33,7 @@ enum Answer {
     Marker,
     Empty,
     Stopped(u64),
+    Compacted(u64),
     Refused(KvError),
 }
 
@@ -47,6 +49,7 @@ fn brief(reply: &Reply) -> Answer {
         Reply::Marker => Answer::Marker,
         Reply::Empty => Answer::Empty,
         Reply::Stopped(stopped) => Answer::Stopped(stopped.handed),
+        Reply::Compacted(floor) => Answer::Compacted(*floor),
         Reply::Refused(error) => Answer::Refused(*error),
     }
 }

@@ -6,6 +6,7 @@ use std::process::Abort;
 use std::test::Fail;
 
 mod clients;
+mod compacting;
 mod first_look;
 mod service;
 mod threads;

@@ -13,7 +13,7 @@ use Rattle.kv_model.specs.declared.call.Call.{Call}
 use Rattle.kv_model.specs.declared.call.Call.TheVariants as ask
 use Rattle.kv_model.specs.Answers.{Watching}
 use Rattle.kv_model.specs.Runs.{run}
-use Rattle.kv_model.specs.State.{State, Watch, watch_at, open_count, empty, next_of, open_at, has_room, set_watch, add_watch, opened, handed_one, stopped, after_write, after_item, after_take, after_stop, after, answer_to}
+use Rattle.kv_model.specs.State.{State, Watch, watch_at, open_count, empty, next_of, open_at, has_room, set_watch, add_watch, opened, handed_one, stopped, may_compact, after_write, after_item, after_take, after_stop, after_compact, after, answer_to}
 use Rattle.kv_model.proofs.Finds.{count_set, count_fewer, count_push}
 use Rattle.kv_model.proofs.Numbers.{at_get, at_within, open_is}
 use Rattle.kv_model.proofs.Others.{opened_is, leaves_run}
@@ -74,6 +74,10 @@ few_write : (s : State) (result : Result Write KvError) → IsFew s → IsFew (a
 few_write s (Err why) few = few
 few_write s (Ok w) few = record { open_now = few.open_now; ever = few.ever }
 
+few_compact : (s : State) (result : Result ℕ KvError) → IsFew s → IsFew (after_compact s result)
+few_compact s (Err why) few = few
+few_compact s (Ok floor) few = record { open_now = few.open_now; ever = few.ever }
+
 few_watch : (s : State) (filters : List (List ℕ)) (options : Options) (b : Bool) → has_room s ≡ b → IsFew s → IsFew (cond b (add_watch (opened filters options s) s) s)
 few_watch s filters options true e few = add_one s (opened filters options s) refl e
 few_watch s filters options false e few = few
@@ -89,6 +93,7 @@ few_step s ask.Status few = few
 few_step s (ask.Watch filters options) few = few_watch s filters options (has_room s) refl few
 few_step s (ask.Take j) few = few_take s j (open_at j s) refl few
 few_step s (ask.Stop j) few = few_stop s j (open_at j s) refl few
+few_step s (ask.Compact floor) few = few_compact s (may_compact floor s) few
 
 few_run : (s : State) (calls : List Call) → IsFew s → IsFew (run s calls)
 few_run s [] few = few

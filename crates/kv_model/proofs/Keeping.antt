@@ -4,11 +4,11 @@ use Rattle.std.specs.List.{Contains, list_any, last_or}
 use Rattle.std.specs.Option.{option_map_or}
 use Rattle.std.specs.Str.{bytes_eq}
 use Rattle.std.proofs.lemmas.Slice.Eq.{bytes_eq-Decides}
-use Rattle.std.proofs.lemmas.List.{drop-append-le, drop-drop, drop-map, length-map, map-append, take-append-drop}
+use Rattle.std.proofs.lemmas.List.{drop_all, drop-append-le, drop-drop, drop-map, length-map, map-append, take-append-drop}
 use Rattle.std.proofs.lemmas.List.Elements.{filter-append, filter_agree}
 use Rattle.std.proofs.lemmas.List.Filters.{length-filter_both}
-use Rattle.kv_model.specs.Acts.{Act, Wrote, Seal, Write, is_purge, writes_of}
-use Rattle.kv_model.specs.Retained.{writes_of_key, since_purge, last_n, kept, revisions, is_kept, retained, latest}
+use Rattle.kv_model.specs.Acts.{Act, Wrote, Seal, Compact, Write, is_purge, writes_of}
+use Rattle.kv_model.specs.Retained.{is_cleared, writes_after, writes_from, writes_of_key, since_purge, last_n, kept, revisions, is_kept, is_latest, retained, latest}
 use Rattle.kv_model.proofs.Members.{Contains-map, any_from_Contains, Contains-from_any, filter_all, filter_none, filter-filter}
 use Rattle.kv_model.proofs.Numbered.{CountsFrom, CountsFrom-left, rises_counted, writes_of-wrote, writes_of-seal}
 use Rattle.kv_model.proofs.Rising.{Rises, Rises-apart}
@@ -34,8 +34,19 @@ last_n-push n xs x h =
 pub revisions-last_n : (n : ℕ) (ws : List Write) → revisions (last_n n ws) ≡ last_n n (revisions ws)
 revisions-last_n n ws = sym (ap (λ m. drop (m - n) (revisions ws)) (length-map ws (λ w. w.revision)) ∙ drop-map (λ w. w.revision) (length ws - n) ws)
 
+pub writes_from-push : (key : List ℕ) (ws : List Write) (acts : List Act) (act : Act) → writes_from key ws (acts ++ act ∷ []) ≡ writes_after key (writes_from key ws acts) act
+writes_from-push key ws [] act = refl
+writes_from-push key ws (first ∷ acts) act = writes_from-push key (writes_after key ws first) acts act
+
+pub writes_of_key-push : (key : List ℕ) (acts : List Act) (act : Act) → writes_of_key key (acts ++ act ∷ []) ≡ writes_after key (writes_of_key key acts) act
+writes_of_key-push key acts act = writes_from-push key [] acts act
+
 pub writes_of_key-wrote : (key : List ℕ) (acts : List Act) (w : Write) → writes_of_key key (acts ++ Wrote w ∷ []) ≡ writes_of_key key acts ++ cond (bytes_eq w.key key) (w ∷ []) []
-writes_of_key-wrote key acts w = ap (filter (λ v. bytes_eq v.key key)) (writes_of-wrote acts w) ∙ filter-append (λ v. bytes_eq v.key key) (writes_of acts) (w ∷ [])
+writes_of_key-wrote key acts w = writes_of_key-push key acts (Wrote w) ∙ by_test (bytes_eq w.key key)
+  where
+    by_test : (b : Bool) → cond b (writes_of_key key acts ++ w ∷ []) (writes_of_key key acts) ≡ writes_of_key key acts ++ cond b (w ∷ []) []
+    by_test true = refl
+    by_test false = sym (append-nil (writes_of_key key acts))
 
 -- of other keys the same writes are kept
 pub kept_other : (h : ℕ) (key : List ℕ) (acts : List Act) (w : Write) → bytes_eq w.key key ≡ false → kept h key (acts ++ Wrote w ∷ []) ≡ kept h key acts
@@ -67,21 +78,35 @@ kept_revisions_same h key acts w some e =
 -- ---- a seal
 
 pub kept_seal : (h : ℕ) (key : List ℕ) (acts : List Act) → kept h key (acts ++ Seal ∷ []) ≡ kept h key acts
-kept_seal h key acts = ap (λ ws. last_n h (since_purge (filter (λ w. bytes_eq w.key key) ws))) (writes_of-seal acts)
-
-kept_by_writes : (h : ℕ) → List Write → List Write
-kept_by_writes h ws = filter (λ w. list_any (λ r. r == w.revision) (revisions (last_n h (since_purge (filter (λ v. bytes_eq v.key w.key) ws))))) ws
+kept_seal h key acts = ap (λ ws. last_n h (since_purge ws)) (writes_of_key-push key acts Seal)
 
 pub retained_seal : (h : ℕ) (acts : List Act) → retained h (acts ++ Seal ∷ []) ≡ retained h acts
-unfolding kept_by_writes
-retained_seal h acts = ap (kept_by_writes h) (writes_of-seal acts)
-
-latest_by_writes : List Write → List Write
-latest_by_writes ws = filter (λ w. option_map_or (λ v. v.revision == w.revision) (last_or None (filter (λ v. bytes_eq v.key w.key) ws)) false) ws
+retained_seal h acts =
+    ap (filter (is_kept h (acts ++ Seal ∷ []))) (writes_of-seal acts)
+    ∙ filter_agree (is_kept h (acts ++ Seal ∷ [])) (is_kept h acts) (λ w. ap (λ ws. list_any (λ r. r == w.revision) (revisions ws)) (kept_seal h w.key acts)) (writes_of acts)
 
 pub latest_seal : (acts : List Act) → latest (acts ++ Seal ∷ []) ≡ latest acts
-unfolding latest_by_writes
-latest_seal acts = ap latest_by_writes (writes_of-seal acts)
+latest_seal acts =
+    ap (filter (is_latest (acts ++ Seal ∷ []))) (writes_of-seal acts)
+    ∙ filter_agree (is_latest (acts ++ Seal ∷ [])) (is_latest acts) (λ w. ap (λ ws. option_map_or (λ v. v.revision == w.revision) (last_or None ws) false) (writes_of_key-push w.key acts Seal)) (writes_of acts)
+
+-- ---- a compaction
+
+-- it leaves the writes of a key that it doesn't clear, and none of one that it clears
+pub writes_of_key-spared : (key : List ℕ) (acts : List Act) (floor : ℕ) → is_cleared floor (writes_of_key key acts) ≡ false → writes_of_key key (acts ++ Compact floor ∷ []) ≡ writes_of_key key acts
+writes_of_key-spared key acts floor spared = writes_of_key-push key acts (Compact floor) ∙ ap (λ b. cond b [] (writes_of_key key acts)) spared
+
+pub writes_of_key-cleared : (key : List ℕ) (acts : List Act) (floor : ℕ) → is_cleared floor (writes_of_key key acts) ≡ true → writes_of_key key (acts ++ Compact floor ∷ []) ≡ []
+writes_of_key-cleared key acts floor clears = writes_of_key-push key acts (Compact floor) ∙ ap (λ b. cond b [] (writes_of_key key acts)) clears
+
+pub kept_spared : (h : ℕ) (key : List ℕ) (acts : List Act) (floor : ℕ) → is_cleared floor (writes_of_key key acts) ≡ false → kept h key (acts ++ Compact floor ∷ []) ≡ kept h key acts
+kept_spared h key acts floor spared = ap (λ ws. last_n h (since_purge ws)) (writes_of_key-spared key acts floor spared)
+
+none_kept : (h : ℕ) → last_n {X = Write} h [] ≡ []
+none_kept h = drop_all (0 - h) [] (omega arith)
+
+pub kept_cleared : (h : ℕ) (key : List ℕ) (acts : List Act) (floor : ℕ) → is_cleared floor (writes_of_key key acts) ≡ true → kept h key (acts ++ Compact floor ∷ []) ≡ []
+kept_cleared h key acts floor clears = ap (λ ws. last_n h (since_purge ws)) (writes_of_key-cleared key acts floor clears) ∙ none_kept h
 
 -- ---- an end of the writes of the key
 
@@ -99,6 +124,34 @@ kept_is_end h key acts =
     let first = since_purge_is_end (writes_of_key key acts) in
     let k = length since - h in
     (first.0 ++ take k since, append_assoc first.0 (take k since) (drop k since) ∙ ap (λ vs. first.0 ++ vs) (take-append-drop k since) ∙ first.1)
+
+-- the writes of a key since it was cleared are an end of all its writes
+writes_from_is_end : (key : List ℕ) (ws : List Write) (acts : List Act) → (front : List Write) × (front ++ writes_from key ws acts ≡ ws ++ filter (λ w. bytes_eq w.key key) (writes_of acts))
+writes_from_is_end key ws [] = ([], sym (append-nil ws))
+writes_from_is_end key ws (Wrote w ∷ acts) = by_test (λ vs. writes_from_is_end key vs acts) (bytes_eq w.key key)
+  where
+    by_test : ((vs : List Write) → (front : List Write) × (front ++ writes_from key vs acts ≡ vs ++ filter (λ v. bytes_eq v.key key) (writes_of acts))) → (b : Bool) →
+        (front : List Write) × (front ++ writes_from key (cond b (ws ++ w ∷ []) ws) acts ≡ ws ++ cond b (w ∷ filter (λ v. bytes_eq v.key key) (writes_of acts)) (filter (λ v. bytes_eq v.key key) (writes_of acts)))
+    by_test rest true =
+        let behind = rest (ws ++ w ∷ []) in
+        (behind.0, behind.1 ∙ append_assoc ws (w ∷ []) (filter (λ v. bytes_eq v.key key) (writes_of acts)))
+    by_test rest false = rest ws
+writes_from_is_end key ws (Seal ∷ acts) = writes_from_is_end key ws acts
+writes_from_is_end key ws (Compact floor ∷ acts) = by_test (λ vs. writes_from_is_end key vs acts) (is_cleared floor ws)
+  where
+    by_test : ((vs : List Write) → (front : List Write) × (front ++ writes_from key vs acts ≡ vs ++ filter (λ v. bytes_eq v.key key) (writes_of acts))) → (b : Bool) →
+        (front : List Write) × (front ++ writes_from key (cond b [] ws) acts ≡ ws ++ filter (λ v. bytes_eq v.key key) (writes_of acts))
+    by_test rest true =
+        let behind = rest [] in
+        (ws ++ behind.0, append_assoc ws behind.0 (writes_from key [] acts) ∙ ap (λ vs. ws ++ vs) behind.1)
+    by_test rest false = rest ws
+
+-- the kept writes of a key are an end of all its writes, also of those before it was cleared
+pub kept_ends : (h : ℕ) (key : List ℕ) (acts : List Act) → (front : List Write) × (front ++ kept h key acts ≡ filter (λ w. bytes_eq w.key key) (writes_of acts))
+kept_ends h key acts =
+    let all = writes_from_is_end key [] acts in
+    let since = kept_is_end h key acts in
+    (all.0 ++ since.0, append_assoc all.0 since.0 (kept h key acts) ∙ ap (λ vs. all.0 ++ vs) since.1 ∙ all.1)
 
 -- of writes whose revisions rise those pass whose revisions stand at the end
 end_passes : (low high : ℕ) (xs ys : List Write) → Rises low high (revisions (xs ++ ys)) → filter (λ w. list_any (λ r. r == w.revision) (revisions ys)) (xs ++ ys) ≡ ys
@@ -121,7 +174,7 @@ retained_of_key h key acts counts =
     let ws = writes_of acts in
     let of : Write → Bool = λ w. bytes_eq w.key key in
     let among : Write → Bool = λ w. list_any (λ r. r == w.revision) (revisions (kept h key acts)) in
-    let end = kept_is_end h key acts in
+    let end = kept_ends h key acts in
     let rises : Rises 1 (1 + length ws) (revisions (end.0 ++ kept h key acts)) = rw end.1 (rises_counted of 1 ws counts) in
     filter-filter of (is_kept h acts) ws
     ∙ filter_agree (λ w. is_kept h acts w && of w) (λ w. of w && among w) (λ w. agree w (of w) refl) ws

@@ -3,6 +3,7 @@ pub mod Rising
 pub mod Lasts
 pub mod Numbered
 pub mod Keeping
+pub mod Storing
 pub mod Found
 pub mod Counted
 pub mod GivenLaws
@@ -18,3 +19,5 @@ pub mod Further
 pub mod Meeting
 pub mod Few
 mod RunCases
+mod CompactionCases
+pub mod Behind

@@ -1,6 +1,7 @@
 -- What a watch is handed is what its own calls meet.
 use Rattle.std.proofs.Common.{◌≡◌, ℕ, ⊎_elim, Bool, true, false, cond, eqb, List, [], ◌∷◌, ◌++◌, Option, Some, None, Result, Ok, Err, filter, refl, sym, ap, ◌∙◌, subst}
 use Rattle.std.specs.Prelude.{◌||◌, is_some, option_map}
+use Rattle.std.specs.List.{list_any}
 use Rattle.std.specs.Option.{option_to_list, option_and_then}
 use Rattle.std.proofs.lemmas.Bool.Decides.{eqb_tells}
 use Rattle.kv_keys.specs.declared.error.KvError.{KvError}
@@ -12,7 +13,7 @@ use Rattle.kv_model.specs.Given.{Item}
 use Rattle.kv_model.specs.declared.call.Call.{Call}
 use Rattle.kv_model.specs.declared.call.Call.TheVariants as ask
 use Rattle.kv_model.specs.State.{after_handed, State, Watch, watch_at, next_of, open_at, if_open, has_room, add_watch, opened, handed_one, stopped, after_write, after_item, after_take, after_stop, answer_take, after, answer_to}
-use Rattle.kv_model.specs.Meeting.{Own, Taking, Stopping, Meeting, may_add_act, own_call, bears_on, meets, meetings_of}
+use Rattle.kv_model.specs.Meeting.{Own, Taking, Stopping, Meeting, may_add_act, compacts, own_call, bears_on, meets, meetings_of}
 use Rattle.kv_model.specs.Runs.{item_in, item_for, items_in}
 use Rattle.kv_model.proofs.Numbers.{at_set_same}
 use Rattle.kv_model.proofs.Others.{config_step, others_step}
@@ -107,6 +108,7 @@ hands s i w ask.Status h = (h, refl)
 hands s i w (ask.Watch filters options) h = (others_step s i w (ask.Watch filters options) tt h, refl)
 hands s i w (ask.Take j) h = hands_take s i j w h
 hands s i w (ask.Stop j) h = hands_stop s i j w h
+hands s i w (ask.Compact floor) h = (others_step s i w (ask.Compact floor) tt h, refl)
 
 handed_once : (h : ℕ) (acts : List Act) (w : Watch) (own : Option Own) (ms : List Meeting) →
     option_to_list (item_of h acts w own) ++ handed_by h (went h acts w own) ms ≡ handed_by h w (option_to_list (option_map (meets acts) own) ++ ms)
@@ -159,6 +161,7 @@ acts_left s ask.Status none = refl
 acts_left s (ask.Watch filters options) none = elim (has_room s) as (λ b. (cond b (add_watch (opened filters options s) s) s).acts ≡ s.acts) [ true ↦ refl | false ↦ refl ]
 acts_left s (ask.Take j) none = acts_take s j (open_at j s)
 acts_left s (ask.Stop j) none = acts_stop s j (open_at j s)
+acts_left s (ask.Compact floor) none = cc
 
 -- ---- a run without the calls of other watches
 
@@ -166,27 +169,28 @@ acts_write : (s t : State) (result : Result Write KvError) → s.acts ≡ t.acts
 acts_write s t (Err why) same = same
 acts_write s t (Ok w) same = ap (λ (acts : List Act). acts ++ Wrote w ∷ []) same
 
--- the acts after a call come from the limits and the acts before it
-acts_step : (s t : State) (call : Call) → s.config ≡ t.config → s.acts ≡ t.acts → (after s call).acts ≡ (after t call).acts
-acts_step s t call limits same = by_kind call
+-- the acts after a call come from the limits and the acts before it, but for a compaction, which meets the watches too
+acts_step : (s t : State) (call : Call) → compacts call ≡ false → s.config ≡ t.config → s.acts ≡ t.acts → (after s call).acts ≡ (after t call).acts
+acts_step s t call plain limits same = by_kind call plain
   where
     quiet : (call : Call) → may_add_act call ≡ false → (after s call).acts ≡ (after t call).acts
     quiet call none = acts_left s call none ∙ same ∙ sym (acts_left t call none)
 
-    by_kind : (call : Call) → (after s call).acts ≡ (after t call).acts
-    by_kind (ask.Write request) =
+    by_kind : (call : Call) → compacts call ≡ false → (after s call).acts ≡ (after t call).acts
+    by_kind (ask.Write request) plain =
         acts_write s t (accept s.config (asked request) s.acts) same
         ∙ ap (λ (c : Configuration). (after_write t (accept c (asked request) s.acts)).acts) limits
         ∙ ap (λ (acts : List Act). (after_write t (accept t.config (asked request) acts)).acts) same
-    by_kind ask.Seal = ap (λ (acts : List Act). acts ++ Seal ∷ []) same
-    by_kind (ask.Get key) = same
-    by_kind (ask.GetAt key revision) = same
-    by_kind (ask.History key) = same
-    by_kind (ask.Keys filtering) = same
-    by_kind ask.Status = same
-    by_kind (ask.Watch filters options) = quiet (ask.Watch filters options) refl
-    by_kind (ask.Take j) = quiet (ask.Take j) refl
-    by_kind (ask.Stop j) = quiet (ask.Stop j) refl
+    by_kind ask.Seal plain = ap (λ (acts : List Act). acts ++ Seal ∷ []) same
+    by_kind (ask.Get key) plain = same
+    by_kind (ask.GetAt key revision) plain = same
+    by_kind (ask.History key) plain = same
+    by_kind (ask.Keys filtering) plain = same
+    by_kind ask.Status plain = same
+    by_kind (ask.Watch filters options) plain = quiet (ask.Watch filters options) refl
+    by_kind (ask.Take j) plain = quiet (ask.Take j) refl
+    by_kind (ask.Stop j) plain = quiet (ask.Stop j) refl
+    by_kind (ask.Compact floor) plain = cc
 
 -- a call that doesn't bear on a watch adds no act, and is not its own
 neither : (b : Bool) (own : Option Own) → b || is_some own ≡ false → (b ≡ false) × (own ≡ None)
@@ -205,13 +209,21 @@ alone_step i s t call calls same with_it without false e =
     let none = neither (may_add_act call) (own_call i call) e in
     rw (e, none.1) (without (same ∙ sym (acts_left t call none.0)))
 
-alone_meets : (i : ℕ) (s t : State) (calls : List Call) → s.config ≡ t.config → s.acts ≡ t.acts → meetings_of i s (filter (bears_on i) calls) ≡ meetings_of i t calls
-alone_meets i s t [] limits same = refl
-alone_meets i s t (call ∷ calls) limits same =
+none_compacts : (call : Call) (calls : List Call) → list_any compacts (call ∷ calls) ≡ false → (compacts call ≡ false) × (list_any compacts calls ≡ false)
+none_compacts call calls plain = by_test (compacts call) (list_any compacts calls) plain
+  where
+    by_test : (a b : Bool) → a || b ≡ false → (a ≡ false) × (b ≡ false)
+    by_test true b e = cc
+    by_test false b e = (refl, e)
+
+alone_meets : (i : ℕ) (s t : State) (calls : List Call) → list_any compacts calls ≡ false → s.config ≡ t.config → s.acts ≡ t.acts → meetings_of i s (filter (bears_on i) calls) ≡ meetings_of i t calls
+alone_meets i s t [] plain limits same = refl
+alone_meets i s t (call ∷ calls) plain limits same =
+    let none = none_compacts call calls plain in
     alone_step i s t call calls same
-    (alone_meets i (after s call) (after t call) calls (config_step s call ∙ limits ∙ sym (config_step t call)) (acts_step s t call limits same))
-    (λ later. alone_meets i s (after t call) calls (limits ∙ sym (config_step t call)) later)
+    (alone_meets i (after s call) (after t call) calls none.1 (config_step s call ∙ limits ∙ sym (config_step t call)) (acts_step s t call none.0 limits same))
+    (λ later. alone_meets i s (after t call) calls none.1 (limits ∙ sym (config_step t call)) later)
     (bears_on i call) refl
 
-pub alone : (s : State) (w : Watch) (i : ℕ) (calls : List Call) → watch_at i s.watches ≡ Some w → items_in i s (filter (bears_on i) calls) ≡ items_in i s calls
-alone s w i calls here = same_items s s w i i (filter (bears_on i) calls) calls refl here here (alone_meets i s s calls refl refl)
+pub alone : (s : State) (w : Watch) (i : ℕ) (calls : List Call) → list_any compacts calls ≡ false → watch_at i s.watches ≡ Some w → items_in i s (filter (bears_on i) calls) ≡ items_in i s calls
+alone s w i calls plain here = same_items s s w i i (filter (bears_on i) calls) calls refl here here (alone_meets i s s calls plain refl refl)

@@ -2,9 +2,10 @@
 use Rattle.std.proofs.Common.{◌≡◌, ℕ, ◌+◌, Bool, true, false, cond, ◌==◌, List, Option, Some, None, Result, Ok, Err, length}
 use Rattle.std.specs.Prelude.{nat_lt}
 use Rattle.kv_keys.specs.declared.error.KvError.{KvError}
-use Rattle.kv_keys.specs.declared.error.KvError.TheVariants.{OutOfMemory, ValueTooLarge, Sealed, JournalFull, KeyExists, WrongLastRevision, KeyNotFound, NoSuchWatch, TooManyWatches}
+use Rattle.kv_keys.specs.declared.error.KvError.TheVariants.{OutOfMemory, ValueTooLarge, Sealed, JournalFull, KeyExists, WrongLastRevision, KeyNotFound, NoSuchWatch, TooManyWatches, BadFloor}
 use Rattle.kv_model.specs.Acceptance.{accept, has_value, is_full, unless_last, unless_last_or_none, objection, next_write, unless}
 use Rattle.kv_model.specs.Acts.{Act, Write, is_sealed}
+use Rattle.kv_model.specs.Compaction.{is_bad_floor}
 use Rattle.kv_model.specs.Configuration.{Configuration}
 use Rattle.kv_model.specs.Reads.{get_of, get_at_of, history_of}
 use Rattle.kv_model.specs.Requests.{Asked, put, create, update, delete, purge, asked, value_of}
@@ -13,7 +14,7 @@ use Rattle.kv_model.specs.Given.{Item, AnEntry, EndMarker}
 use Rattle.kv_model.specs.declared.call.Call.{Call}
 use Rattle.kv_model.specs.declared.call.Call.TheVariants as ask
 use Rattle.kv_model.specs.Answers.{Answer, Watching, Refused, answer_item}
-use Rattle.kv_model.specs.State.{State, next_of, open_at, has_room, or_refused, answer_write, answer_to}
+use Rattle.kv_model.specs.State.{State, next_of, open_at, has_room, or_refused, first_behind, unless_behind, may_compact, answer_write, answer_compact, answer_to}
 
 past : (b : Bool) (e : KvError) (rest : Result Write KvError) → (e ≡ OutOfMemory → ⊥) → cond b (Err e) rest ≡ Err OutOfMemory → rest ≡ Err OutOfMemory
 past true e rest ne h = let same : e ≡ OutOfMemory = cc in absurd (ne same)
@@ -66,6 +67,22 @@ item_no None h = cc
 item_no (Some (AnEntry entry)) h = cc
 item_no (Some EndMarker) h = cc
 
+-- a compaction is refused for its floor or for a watch
+behind_no : (floor : ℕ) (o : Option ℕ) → unless_behind floor o ≡ Err OutOfMemory → ⊥
+behind_no floor None h = cc
+behind_no floor (Some number) h = cc
+
+compact_no : (floor : ℕ) (s : State) → may_compact floor s ≡ Err OutOfMemory → ⊥
+compact_no floor s h = by_test (is_bad_floor floor s.acts) h
+  where
+    by_test : (b : Bool) → cond b (Err BadFloor) (unless_behind floor (first_behind 1 floor s.config.history s.acts s.watches)) ≡ Err OutOfMemory → ⊥
+    by_test true h = cc
+    by_test false h = behind_no floor (first_behind 1 floor s.config.history s.acts s.watches) h
+
+compacted_no : (result : Result ℕ KvError) → (result ≡ Err OutOfMemory → ⊥) → answer_compact result ≡ Refused OutOfMemory → ⊥
+compacted_no (Ok floor) never h = cc
+compacted_no (Err e) never h = let same : Err e ≡ Err OutOfMemory = cc in never same
+
 pub no_memory : (s : State) (call : Call) → answer_to s call ≡ Refused OutOfMemory → ⊥
 no_memory s (ask.Write request) h = write_no (accept s.config (asked request) s.acts) (accept_no s.config (asked request) s.acts) h
 no_memory s ask.Seal h = cc
@@ -81,3 +98,4 @@ no_memory s (ask.Watch filters options) h = by_room (has_room s) h
     by_room false h = cc
 no_memory s (ask.Take number) h = or_no NoSuchWatch (λ w. answer_item (next_of s.config.history s.acts w)) (open_at number s) (λ e. cc) (λ w e. item_no (next_of s.config.history s.acts w) e) h
 no_memory s (ask.Stop number) h = or_no NoSuchWatch _ (open_at number s) (λ e. cc) (λ w e. cc) h
+no_memory s (ask.Compact floor) h = compacted_no (may_compact floor s) (compact_no floor s) h

@@ -9,9 +9,8 @@ use Rattle.kv_keys.specs.Grammar.{is_key}
 use Rattle.kv_keys.specs.declared.error.KvError.{KvError}
 use Rattle.kv_keys.specs.declared.error.KvError.TheVariants.{ValueTooLarge, Sealed, JournalFull}
 use Rattle.kv_model.specs.Acceptance.{accept, objection, next_write, unless, is_full, IsLawful, LawfulFrom}
-use Rattle.kv_model.specs.Acts.{Act, Wrote, Seal, Write, writes_of, write_of, is_sealed}
+use Rattle.kv_model.specs.Acts.{Act, Wrote, Seal, Compact, Write, writes_of, write_of, is_sealed}
 use Rattle.kv_model.specs.Configuration.{Configuration}
-use Rattle.kv_model.specs.Reads.{write_at_of}
 use Rattle.kv_model.specs.Requests.{Asked, key_of, value_of}
 use Rattle.kv_model.specs.Retained.{revisions}
 use Rattle.kv_model.proofs.Rising.{Rises, Rises-more, Rises-none, Rises-lower, increasing_from_Rises}
@@ -36,6 +35,9 @@ writes_of-wrote acts w = writes_of-append acts (Wrote w ∷ [])
 
 pub writes_of-seal : (acts : List Act) → writes_of (acts ++ Seal ∷ []) ≡ writes_of acts
 writes_of-seal acts = writes_of-append acts (Seal ∷ []) ∙ append-nil (writes_of acts)
+
+pub writes_of-compact : (acts : List Act) (floor : ℕ) → writes_of (acts ++ Compact floor ∷ []) ≡ writes_of acts
+writes_of-compact acts floor = writes_of-append acts (Compact floor ∷ []) ∙ append-nil (writes_of acts)
 
 -- ---- what is accepted
 
@@ -65,6 +67,8 @@ counts_from config before (Wrote w ∷ acts) h =
     (omega arith, rw e at (counts_from config (before ++ Wrote w ∷ []) acts h.1))
 counts_from config before (Seal ∷ acts) h =
     rw (writes_of-seal before) at (counts_from config (before ++ Seal ∷ []) acts h.1)
+counts_from config before (Compact floor ∷ acts) h =
+    rw (writes_of-compact before floor) at (counts_from config (before ++ Compact floor ∷ []) acts h.1)
 
 of_keys : (config : Configuration) (before acts : List Act) → LawfulFrom config before acts → OfKeys (writes_of acts)
 of_keys config before [] h = tt
@@ -73,6 +77,7 @@ of_keys config before (Wrote w ∷ acts) h =
     let key : w.key ≡ key_of h.0.0 = ap (λ (v : Write). v.key) (sym same) in
     (rw key h.0.1.0, of_keys config (before ++ Wrote w ∷ []) acts h.1)
 of_keys config before (Seal ∷ acts) h = of_keys config (before ++ Seal ∷ []) acts h.1
+of_keys config before (Compact floor ∷ acts) h = of_keys config (before ++ Compact floor ∷ []) acts h.1
 
 -- the i-th write has revision i
 pub counts_from_lawful : (config : Configuration) (acts : List Act) → IsLawful config acts → CountsFrom 1 (writes_of acts)
@@ -110,9 +115,6 @@ find_counted n r (w ∷ ws) h l = by_test (w.revision == r) refl (find_counted (
         let apart : suc n ≤ r = omega (arith, h.0, other) in
         let e : r - n ≡ suc (r - suc n) = omega arith in
         rw e (later apart)
-
-pub write_at_counted : (r : ℕ) (acts : List Act) → CountsFrom 1 (writes_of acts) → 0 < r → write_at_of r acts ≡ slice_get (writes_of acts) (r - 1)
-write_at_counted r acts h l = find_counted 1 r (writes_of acts) h (omega arith)
 
 -- no write has revision 0
 pub find_below : (n r : ℕ) (ws : List Write) → CountsFrom n ws → r < n → find (λ w. w.revision == r) ws ≡ None

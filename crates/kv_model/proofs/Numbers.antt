@@ -51,7 +51,7 @@ take_push (y ∷ ys) (suc n) x h = let e : suc n + 1 ≡ suc (n + 1) = omega ari
 less_one : (n : ℕ) → suc n - 1 ≡ n
 less_one n = omega arith
 
-at_suc : (n : ℕ) (ws : List Watch) → watch_at (suc n) ws ≡ slice_get ws n
+pub at_suc : (n : ℕ) (ws : List Watch) → watch_at (suc n) ws ≡ slice_get ws n
 at_suc n ws = ap (λ b. cond b None (slice_get ws (suc n - 1))) (ne_eqb (suc n) 0 (λ e. absurd (omega arith))) ∙ ap (slice_get ws) (less_one n)
 
 set_suc : (n : ℕ) (ws : List Watch) (v : Watch) → slice_set ws (suc n - 1) v ≡ slice_set ws n v

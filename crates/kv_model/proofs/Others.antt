@@ -13,7 +13,7 @@ use Rattle.kv_model.specs.declared.call.Call.{Call}
 use Rattle.kv_model.specs.declared.call.Call.TheVariants as ask
 use Rattle.kv_model.specs.Answers.{Watching, Ended, Refused}
 use Rattle.kv_model.specs.Runs.{run, answers_to, item_for, items_in}
-use Rattle.kv_model.specs.State.{State, Watch, watch_at, next_of, open_at, has_room, set_watch, add_watch, opened, handed_one, stopped, after_write, after_item, after_take, after_stop, answer_stop, after, answer_to}
+use Rattle.kv_model.specs.State.{State, Watch, watch_at, next_of, open_at, has_room, set_watch, add_watch, opened, handed_one, stopped, may_compact, after_write, after_item, after_take, after_stop, after_compact, answer_stop, after, answer_to}
 use Rattle.kv_model.specs.Told.{GoesOn, IsOther}
 use Rattle.kv_model.proofs.Numbers.{at_set_same, at_set_other, at_push_some, at_push_here, open_is}
 
@@ -53,6 +53,10 @@ leaves_write : (s : State) (i : ℕ) (w : Watch) (result : Result Write KvError)
 leaves_write s i w (Err why) h = leaves_same s i w h
 leaves_write s i w (Ok write) h = (w, h, goes_on_same w)
 
+leaves_compact : (s : State) (i : ℕ) (w : Watch) (result : Result ℕ KvError) → watch_at i s.watches ≡ Some w → Leaves (after_compact s result) i w
+leaves_compact s i w (Err why) h = leaves_same s i w h
+leaves_compact s i w (Ok floor) h = (w, h, goes_on_same w)
+
 -- an open watch that counts one more goes on
 counts_on : (u : Watch) → u.is_open ≡ true → GoesOn u (handed_one u)
 counts_on u is = record {
@@ -91,6 +95,7 @@ leaves_step s i w (ask.Watch filters options) h = elim (has_room s) as (λ b. Le
 ]
 leaves_step s i w (ask.Take j) h = leaves_take s i j w (open_at j s) h refl
 leaves_step s i w (ask.Stop j) h = leaves_stop s i j w (open_at j s) h refl
+leaves_step s i w (ask.Compact floor) h = leaves_compact s i w (may_compact floor s) h
 
 pub leaves_run : (s : State) (i : ℕ) (w : Watch) (calls : List Call) → watch_at i s.watches ≡ Some w → Leaves (run s calls) i w
 leaves_run s i w [] h = leaves_same s i w h
@@ -116,6 +121,10 @@ config_stop : (s : State) (j : ℕ) (o : Option Watch) → (after_stop j s o).co
 config_stop s j None = refl
 config_stop s j (Some w) = refl
 
+config_compact : (s : State) (result : Result ℕ KvError) → (after_compact s result).config ≡ s.config
+config_compact s (Err why) = refl
+config_compact s (Ok floor) = refl
+
 pub config_step : (s : State) (call : Call) → (after s call).config ≡ s.config
 config_step s (ask.Write request) = config_write s (accept s.config (asked request) s.acts)
 config_step s ask.Seal = refl
@@ -127,6 +136,7 @@ config_step s ask.Status = refl
 config_step s (ask.Watch filters options) = elim (has_room s) as (λ b. (cond b (add_watch (opened filters options s) s) s).config ≡ s.config) [ true ↦ refl | false ↦ refl ]
 config_step s (ask.Take j) = config_take s j (open_at j s)
 config_step s (ask.Stop j) = config_stop s j (open_at j s)
+config_step s (ask.Compact floor) = config_compact s (may_compact floor s)
 
 pub config_run : (s : State) (calls : List Call) → (run s calls).config ≡ s.config
 config_run s [] = refl
@@ -171,6 +181,11 @@ others_step s i w (ask.Stop j) other h = by_open (open_at j s) refl
     by_open : (o : Option Watch) → open_at j s ≡ o → watch_at i (after_stop j s o).watches ≡ Some w
     by_open None is = h
     by_open (Some u) is = at_set_other s.watches i j u (stopped u) (open_is (watch_at j s.watches) u is).0 (λ e. other (sym e)) ∙ h
+others_step s i w (ask.Compact floor) other h = by_result (may_compact floor s)
+  where
+    by_result : (result : Result ℕ KvError) → watch_at i (after_compact s result).watches ≡ Some w
+    by_result (Err why) = h
+    by_result (Ok floor) = h
 
 -- a watch that was opened, and its number
 pub opened_is : (s : State) (filters : List (List ℕ)) (options : Options) (i : ℕ) → answer_to s (ask.Watch filters options) ≡ Watching i →
@@ -203,6 +218,7 @@ none_told s i (ask.Keys filtering) at = refl
 none_told s i ask.Status at = refl
 none_told s i (ask.Watch filters options) at = refl
 none_told s i (ask.Stop j) at = refl
+none_told s i (ask.Compact floor) at = refl
 none_told s i (ask.Take j) at = ⊎_elim
     (λ (e : (eqb j i ≡ true) × (j ≡ i)). rw (e.1, none_open s i at) (elim (eqb i i) as (λ b. option_to_list {X = Item} (cond b None None) ≡ []) [ true ↦ refl | false ↦ refl ]))
     (λ (e : (eqb j i ≡ false) × (j ≡ i → ⊥)). rw e.0 refl)

@@ -7,7 +7,7 @@ use Rattle.std.proofs.lemmas.List.{take-append-le}
 use Rattle.std.proofs.lemmas.Option.{slice_get_within}
 use Rattle.kv_keys.specs.declared.error.KvError.{KvError}
 use Rattle.kv_model.specs.Acceptance.{accept}
-use Rattle.kv_model.specs.Acts.{Act, Wrote, Seal, Write, writes_of}
+use Rattle.kv_model.specs.Acts.{Act, Wrote, Seal, Compact, Write, writes_of}
 use Rattle.kv_model.specs.Configuration.{Configuration}
 use Rattle.kv_model.specs.Requests.{asked}
 use Rattle.kv_model.specs.Given.{Item, AnEntry, EndMarker, all_shown, matching}
@@ -15,7 +15,7 @@ use Rattle.kv_model.specs.declared.call.Call.{Call}
 use Rattle.kv_model.specs.declared.call.Call.TheVariants as ask
 use Rattle.kv_model.specs.Answers.{answer_item}
 use Rattle.kv_model.specs.Runs.{run, item_in, item_for, items_in}
-use Rattle.kv_model.specs.State.{State, Watch, watch_at, empty, given_to, next_of, open_at, has_room, set_watch, add_watch, opened, handed_one, stopped, after_write, after_item, after_take, after_stop, answer_take, after, answer_to}
+use Rattle.kv_model.specs.State.{State, Watch, watch_at, empty, given_to, next_of, open_at, has_room, set_watch, add_watch, opened, handed_one, stopped, may_compact, after_write, after_item, after_take, after_stop, after_compact, answer_take, after, answer_to}
 use Rattle.kv_model.specs.Told.{Told, IsTold, TellsWatch}
 use Rattle.kv_model.proofs.GivenLaws.{given-append, no_fewer_writes}
 use Rattle.kv_model.proofs.Numbers.{at_set_same, at_set_other, at_push, at_push_some, open_is, take_push}
@@ -41,6 +41,10 @@ no_item s i items told = rw (append-nil items) told
 told_write : (s : State) (i : ℕ) (items : List Item) (result : Result Write KvError) → TellsWatch s i items → TellsWatch (after_write s result) i (items ++ [])
 told_write s i items (Err why) told = no_item s i items told
 told_write s i items (Ok w) told = rw (append-nil items) (is_told_act s.config.history s.acts (Wrote w) (watch_at i s.watches) items told)
+
+told_compact : (s : State) (i : ℕ) (items : List Item) (result : Result ℕ KvError) → TellsWatch s i items → TellsWatch (after_compact s result) i (items ++ [])
+told_compact s i items (Err why) told = no_item s i items told
+told_compact s i items (Ok floor) told = rw (append-nil items) (is_told_act s.config.history s.acts (Compact floor) (watch_at i s.watches) items told)
 
 -- a new watch
 told_none : (h : ℕ) (acts : List Act) (w : Watch) (items : List Item) → w.began ≡ acts → w.handed ≡ 0 → items ≡ [] → Told h acts w items
@@ -124,6 +128,7 @@ told_step s i items (ask.Watch filters options) told =
     ])
 told_step s i items (ask.Take j) told = told_take s i j items (open_at j s) refl told
 told_step s i items (ask.Stop j) told = told_stop s i j items (open_at j s) refl told
+told_step s i items (ask.Compact floor) told = told_compact s i items (may_compact floor s) told
 
 -- a whole run
 pub told_run : (s : State) (i : ℕ) (items : List Item) (calls : List Call) → TellsWatch s i items → TellsWatch (run s calls) i (items ++ items_in i s calls)

@@ -4,7 +4,8 @@ use Rattle.std.specs.Option.{option_map_or}
 use Rattle.kv_keys.specs.Grammar.{is_key}
 use Rattle.kv_keys.specs.declared.error.KvError.{KvError}
 use Rattle.kv_keys.specs.declared.error.KvError.TheVariants.{ValueTooLarge, Sealed, JournalFull, KeyExists, WrongLastRevision}
-use Rattle.kv_model.specs.Acts.{Act, Wrote, Seal, Write, writes_of, stored_writes, is_sealed, is_put}
+use Rattle.kv_model.specs.Acts.{Act, Wrote, Seal, Compact, Write, writes_of, is_sealed, is_put}
+use Rattle.kv_model.specs.Compaction.{stored_writes, is_bad_floor}
 use Rattle.kv_model.specs.Configuration.{Configuration}
 use Rattle.kv_model.specs.Requests.{Asked, put, create, update, delete, purge, key_of, value_of, op_of}
 use Rattle.kv_model.specs.Retained.{last_write, last_revision}
@@ -13,9 +14,10 @@ use Rattle.kv_model.specs.Retained.{last_write, last_revision}
 abbrev pub has_value : List ℕ → List Act → Bool
 has_value key acts = option_map_or (λ w. is_put w.op) (last_write key acts) false
 
--- a journal is full where its writes fill the store, or its revisions are used up
+-- a journal is full where its stored writes fill the store, or the accepted ones used up its revisions
 abbrev pub is_full : Configuration → List Act → Bool
-is_full config acts = nat_le config.write_limit (length (stored_writes acts)) || nat_le config.revision_limit (length (writes_of acts))
+is_full config acts =
+    nat_le config.write_limit (length (stored_writes config.history acts)) || nat_le config.revision_limit (length (writes_of acts))
 
 -- a revision that is asked for has to be the key's last
 abbrev pub unless_last : ℕ → List ℕ → List Act → Option KvError
@@ -49,10 +51,11 @@ accept config asked acts =
     else (if is_full config acts then Err JournalFull
     else unless (objection asked acts) (next_write asked acts)))
 
--- a write is accepted where some request for a key is; a seal always is
+-- a write is accepted where some request for a key is; a seal always is; a compaction is where its floor is not bad
 abbrev pub IsAccepted : Configuration → List Act → Act → Type 0
 IsAccepted config before (Wrote w) = (asked : Asked) × ((is_key (key_of asked) ≡ true) × (accept config asked before ≡ Ok w))
 IsAccepted config before Seal = ⊤
+IsAccepted config before (Compact floor) = is_bad_floor floor before ≡ false
 
 -- each act is one that is accepted after those before it
 abbrev pub LawfulFrom : Configuration → List Act → List Act → Type 0

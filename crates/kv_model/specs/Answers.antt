@@ -17,6 +17,7 @@ pub data Answer : Type 0 where
   Marker : Answer
   Empty : Answer
   Ended : (handed : ℕ) → Answer
+  Compacted : (floor : ℕ) → Answer
   Refused : (error : KvError) → Answer
 
 -- the answer to a take: the next item, or Empty where there is none

@@ -1,6 +1,6 @@
 -- What a watch is given, as a function of the acts.
-use Rattle.std.specs.Prelude.{ℕ, Bool, ◌&&◌, not, nat_le, List, [], ◌∷◌, ◌++◌, Option, Some, None, length, drop, filter, if◌then◌else◌}
-use Rattle.std.specs.List.{filter_map}
+use Rattle.std.specs.Prelude.{ℕ, Bool, ◌&&◌, not, nat_lt, nat_le, List, [], ◌∷◌, ◌++◌, Option, Some, None, length, drop, filter, if◌then◌else◌}
+use Rattle.std.specs.List.{filter_map, list_any}
 use Rattle.kv_keys.specs.Matching.{any_matches}
 use Rattle.kv_model.specs.declared.write.Op.{Op}
 use Rattle.kv_model.specs.Acts.{Write, Act, writes_of, is_put}
@@ -72,6 +72,15 @@ revision_of EndMarker = None
 -- the revisions of the entries among the items
 abbrev pub item_revisions : List Item → List ℕ
 item_revisions items = filter_map revision_of items
+
+-- among items a live one at or below a floor: an entry behind the writes of the watch's beginning, as many as these
+abbrev pub has_live_below : ℕ → ℕ → List Item → Bool
+has_live_below beginning floor items = list_any (λ revision. nat_lt beginning revision && nat_le revision floor) (item_revisions items)
+
+-- a watch that was handed so many items is behind a floor where a live item at or below the floor is still to be handed out
+abbrev pub is_behind : ℕ → ℕ → ℕ → List Act → List Act → List (List ℕ) → Options → Bool
+is_behind floor handed h began acts filters options =
+    has_live_below (length (writes_of began)) floor (drop handed (given h began acts filters options))
 
 -- an item by its revision alone
 abbrev pub event_of : Item → Event

@@ -3,6 +3,7 @@ pub mod Requests
 pub mod Configuration
 pub mod Acceptance
 pub mod Retained
+pub mod Compaction
 pub mod Reads
 pub mod Flags
 pub mod Given

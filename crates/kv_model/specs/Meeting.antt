@@ -6,11 +6,17 @@ use Rattle.kv_model.specs.declared.call.Call.{Call}
 use Rattle.kv_model.specs.declared.call.Call.TheVariants as calls
 use Rattle.kv_model.specs.State.{State, after}
 
--- only a write and a seal may add an act
+-- only a write, a seal and a compaction may add an act
 abbrev pub may_add_act : Call → Bool
 may_add_act (calls.Write request) = true
 may_add_act calls.Seal = true
+may_add_act (calls.Compact floor) = true
 may_add_act call = false
+
+-- a compaction alone of all calls meets watches that it doesn't name: it is refused where one is behind
+abbrev pub compacts : Call → Bool
+compacts (calls.Compact floor) = true
+compacts call = false
 
 -- a watch's own calls: a take from it, and a stop of it
 pub data Own : Type 0 where

@@ -3,7 +3,8 @@ use Rattle.std.specs.Prelude.{ℕ, ◌&&◌, List, [], ◌∷◌, Option, Some, 
 use Rattle.std.specs.Option.{option_and_then}
 use Rattle.kv_keys.specs.Matching.{matches}
 use Rattle.kv_model.specs.declared.status.Status.{Status}
-use Rattle.kv_model.specs.Acts.{Write, Act, writes_of, stored_writes, is_put, is_sealed}
+use Rattle.kv_model.specs.Acts.{Write, Act, writes_of, is_put, is_sealed}
+use Rattle.kv_model.specs.Compaction.{stored_writes}
 use Rattle.kv_model.specs.Retained.{last_write, kept, latest, retained}
 
 -- a write where it is a put
@@ -36,10 +37,10 @@ status_of h acts = record {
   history = h;
   last = length (writes_of acts);
   sealed = is_sealed acts;
-  stored = length (stored_writes acts);
+  stored = length (stored_writes h acts);
   values = length (retained h acts);
 }
 
 -- write at a revision: the stored write with this revision, if any
-abbrev pub write_at_of : ℕ → List Act → Option Write
-write_at_of revision acts = find (λ w. w.revision == revision) (stored_writes acts)
+abbrev pub write_at_of : ℕ → ℕ → List Act → Option Write
+write_at_of h revision acts = find (λ w. w.revision == revision) (stored_writes h acts)

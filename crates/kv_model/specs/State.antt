@@ -2,17 +2,18 @@
 use Rattle.std.specs.Prelude.{ℕ, ◌+◌, ◌-◌, Bool, true, false, ◌&&◌, List, [], ◌∷◌, ◌++◌, Option, Some, None, Result, Ok, Err, length, map, nat_lt, ◌==◌, if◌then◌else◌, slice_get, slice_set, filter}
 use Rattle.std.specs.Option.{option_and_then}
 use Rattle.kv_keys.specs.declared.error.KvError.{KvError}
-use Rattle.kv_keys.specs.declared.error.KvError.TheVariants.{KeyNotFound, NoSuchWatch, TooManyWatches}
+use Rattle.kv_keys.specs.declared.error.KvError.TheVariants.{KeyNotFound, NoSuchWatch, TooManyWatches, BadFloor, WatchBehind}
 use Rattle.kv_model.specs.Acceptance.{accept}
-use Rattle.kv_model.specs.Acts.{Act, Wrote, Seal, Write}
+use Rattle.kv_model.specs.Acts.{Act, Wrote, Seal, Compact, Write}
+use Rattle.kv_model.specs.Compaction.{is_bad_floor}
 use Rattle.kv_model.specs.Configuration.{Configuration}
 use Rattle.kv_model.specs.Reads.{get_of, get_at_of, history_of, keys_of, status_of}
 use Rattle.kv_model.specs.Requests.{asked}
 use Rattle.kv_model.specs.declared.options.Options.{Options}
-use Rattle.kv_model.specs.Given.{Entry, Item, entry_of, given}
+use Rattle.kv_model.specs.Given.{Entry, Item, entry_of, given, is_behind}
 use Rattle.kv_model.specs.declared.call.Call.{Call}
 use Rattle.kv_model.specs.declared.call.Call.TheVariants as calls
-use Rattle.kv_model.specs.Answers.{Answer, Revision, Sealed, AnsweredEntry, Entries, Keys, Numbers, Watching, Ended, Refused, answer_item}
+use Rattle.kv_model.specs.Answers.{Answer, Revision, Sealed, AnsweredEntry, Entries, Keys, Numbers, Watching, Ended, Compacted, Refused, answer_item}
 
 -- a watch: the acts when it was opened, what it matches and how it shows it, how many items were handed out, and whether it is open
 pub record Watch : Type 0 where
@@ -120,6 +121,35 @@ after_stop number s (Some w) = set_watch number (stopped w) s
 abbrev pub answer_stop : Option Watch → Answer
 answer_stop watch = or_refused NoSuchWatch (λ w. Ended w.handed) watch
 
+-- an open watch that was not handed all its live items at or below a floor
+abbrev pub watch_behind : ℕ → ℕ → List Act → Watch → Bool
+watch_behind floor h acts w = w.is_open && is_behind floor w.handed h w.began acts w.filters w.options
+
+-- the least number of an open watch that is behind a floor, where the first of the watches has this number
+abbrev pub first_behind : ℕ → ℕ → ℕ → List Act → List Watch → Option ℕ
+first_behind number floor h acts [] = None
+first_behind number floor h acts (w ∷ ws) =
+    if watch_behind floor h acts w then Some number else first_behind (number + 1) floor h acts ws
+
+abbrev pub unless_behind : ℕ → Option ℕ → Result ℕ KvError
+unless_behind floor None = Ok floor
+unless_behind floor (Some number) = Err (WatchBehind number)
+
+-- the floor of a compaction, or why there is none: its floor is bad, or else the first open watch that is behind it
+abbrev pub may_compact : ℕ → State → Result ℕ KvError
+may_compact floor s =
+    if is_bad_floor floor s.acts then Err BadFloor
+    else unless_behind floor (first_behind 1 floor s.config.history s.acts s.watches)
+
+-- a compaction
+abbrev pub after_compact : State → Result ℕ KvError → State
+after_compact s (Err error) = s
+after_compact s (Ok floor) = add_act (Compact floor) s
+
+abbrev pub answer_compact : Result ℕ KvError → Answer
+answer_compact (Err error) = Refused error
+answer_compact (Ok floor) = Compacted floor
+
 -- the state after a call; reads change nothing, and neither does a call that is refused
 abbrev pub after : State → Call → State
 after s (calls.Write request) = after_write s (accept s.config (asked request) s.acts)
@@ -132,6 +162,7 @@ after s calls.Status = s
 after s (calls.Watch filters options) = if has_room s then add_watch (opened filters options s) s else s
 after s (calls.Take number) = after_take number s (open_at number s)
 after s (calls.Stop number) = after_stop number s (open_at number s)
+after s (calls.Compact floor) = after_compact s (may_compact floor s)
 
 -- the answer to a call
 abbrev pub answer_to : State → Call → Answer
@@ -145,6 +176,7 @@ answer_to s calls.Status = Numbers (status_of s.config.history s.acts) (open_cou
 answer_to s (calls.Watch filters options) = if has_room s then Watching (length s.watches + 1) else Refused TooManyWatches
 answer_to s (calls.Take number) = answer_take s (open_at number s)
 answer_to s (calls.Stop number) = answer_stop (open_at number s)
+answer_to s (calls.Compact floor) = answer_compact (may_compact floor s)
 
 -- the number of a new watch, or why there is none
 abbrev pub next_number : State → Result ℕ KvError

@@ -27,4 +27,7 @@ pub enum Call {
     Take(u64),
     /// The end of an open watch, else NoSuchWatch.
     Stop(u64),
+    /// A compaction to a floor: BadFloor where the floor is 0, above the last revision, or below the floor so far, else
+    /// WatchBehind where an open watch still owes an entry that came after it was opened and is at or below the floor.
+    Compact(u64),
 }

@@ -7,7 +7,6 @@ use Rattle.kv_keys.specs.Matching.{any_matches}
 use Rattle.kv_model.specs.Acceptance.{next_write, IsLawful}
 use Rattle.kv_model.specs.Acts.{Act, Wrote, Write, IsPrefix, writes_of, is_put}
 use Rattle.kv_model.specs.Configuration.{Configuration}
-use Rattle.kv_model.specs.Reads.{write_at_of}
 use Rattle.kv_model.specs.Requests.{Asked}
 use Rattle.kv_model.proofs.Numbered.{CountsFrom, CountsFrom-left, CountsFrom-right, writes_of-append, counts_from_lawful, accepted_is_next}
 use Rattle.kv_model.specs.declared.options.Options.{Options}
@@ -16,7 +15,7 @@ use Rattle.kv_model.specs.declared.options.Start.TheVariants.{Latest, History, U
 use Rattle.kv_model.specs.Given.{Item, AnEntry, matching, all_shown, ending, given, entry_of}
 use Rattle.kv_model.proofs.GivenLaws.{all_shown-matching-append}
 use Rattle.kv_live.specs.Keeping.{PublishesWrite}
-use Rattle.kv_race.specs.Racing.{is_at, shown_alone, written_by}
+use Rattle.kv_race.specs.Racing.{accepted_at, is_at, shown_alone, written_by}
 
 -- ---- one write
 
@@ -132,6 +131,6 @@ find_behind : (revision : ℕ) (xs ys : List Write) (w : Write) → w.revision �
 find_behind revision [] ys w e misses = rw (eq-eqb w.revision revision e) refl
 find_behind revision (x ∷ xs) ys w e misses = rw misses.0 (find_behind revision xs ys w e misses.1)
 
-pub told_stands : (request : Asked) (revision : ℕ) (acts : List Act) → Told request revision acts → write_at_of revision acts ≡ Some (written_by request revision)
+pub told_stands : (request : Asked) (revision : ℕ) (acts : List Act) → Told request revision acts → accepted_at revision acts ≡ Some (written_by request revision)
 told_stands request revision acts t =
     ap (find (λ v. v.revision == revision)) t.writes ∙ find_behind revision t.before t.behind (written_by request revision) refl t.misses_before

@@ -1,9 +1,8 @@
 -- What a race promises.
-use Rattle.std.specs.Prelude.{◌≡◌, ◌==◌, ℕ, Bool, false, List, [], ◌∷◌, Some, Result, Ok, Err, ⊤, filter, length, map}
+use Rattle.std.specs.Prelude.{◌≡◌, ◌==◌, ℕ, Bool, false, List, [], ◌∷◌, Option, Some, Result, Ok, Err, ⊤, filter, length, map}
 use Rattle.kv_keys.specs.declared.error.KvError.{KvError}
 use Rattle.kv_model.specs.Acts.{Act, Write, writes_of}
 use Rattle.kv_model.specs.Configuration.{Configuration}
-use Rattle.kv_model.specs.Reads.{write_at_of}
 use Rattle.kv_model.specs.Requests.{Asked, key_of, op_of, value_of}
 use Rattle.kv_store.specs.Standing.{StandsFor}
 use Rattle.kv_store.specs.Stored.{Stored}
@@ -11,7 +10,7 @@ use Rattle.kv_model.specs.Given.{Item, AnEntry, EndMarker, matching, all_shown, 
 use Rattle.kv_model.specs.declared.options.Options.{Options}
 use Rattle.kv_model.specs.Answers.{Answer}
 use Rattle.kv_live.specs.Keeping.{RefusedSomewhere}
-use Rattle.std.specs.List.{AllZip, filter_map, flat_map, range_with_len}
+use Rattle.std.specs.List.{AllZip, filter_map, find, flat_map, range_with_len}
 use Rattle.std.specs.List.Sorted.{IsPermutation}
 use Rattle.std.specs.Result.{result_ok}
 use Rattle.kv_race.specs.Watching.{reply_to}
@@ -19,6 +18,10 @@ use Rattle.kv_race.specs.Watching.{reply_to}
 -- what a request writes at a revision
 abbrev pub written_by : Asked → ℕ → Write
 written_by request revision = record { key = key_of request; op = op_of request; value = value_of request; revision = revision }
+
+-- the accepted write of a revision, whatever was compacted since
+abbrev pub accepted_at : ℕ → List Act → Option Write
+accepted_at revision acts = find (λ w. w.revision == revision) (writes_of acts)
 
 abbrev pub is_at : ℕ → Item → Bool
 is_at revision (AnEntry entry) = entry.revision == revision
@@ -35,7 +38,7 @@ IsSeen filters options items request (Err error) = ⊤
 
 -- where a request was answered by a revision, the write of that revision is the request's own; a refusal is one that the rules give after some lawful acts, or memory ran out
 abbrev pub IsWritten : Configuration → List Act → Asked → Result ℕ KvError → Type 0
-IsWritten config acts request (Ok revision) = write_at_of revision acts ≡ Some (written_by request revision)
+IsWritten config acts request (Ok revision) = accepted_at revision acts ≡ Some (written_by request revision)
 IsWritten config acts request (Err error) = RefusedSomewhere config request error
 
 -- each worker has one reply to each request of its script, in order, which fits

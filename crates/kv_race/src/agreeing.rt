@@ -5,6 +5,7 @@ ghost use Rattle.kv_live.specs.Known.{IsUnread};
 ghost use Rattle.kv_race.specs.Telling.{HasLast, IsShown};
 
 use crate::ending::{Answers, Ended, hear_all};
+use crate::feeding::refresh;
 use crate::opening::open_feed;
 use kv_keys::{Filters, KvError};
 use kv_live::{LiveName, Reader};
@@ -54,7 +55,7 @@ fn version_of<N: LiveName>(
     let filters = Filters::parse(alloc, ">")?;
     let mut feed = open_feed(reader, &filters, LATEST)?;
     hear_all(&mut feed, answers);
-    feed.refresh()?;
+    refresh(&mut feed)?;
     feed.version()
 }
 

@@ -5,6 +5,7 @@ ghost use Rattle.kv_model.specs.Acts.{IsPrefix};
 ghost use Rattle.kv_live.specs.Known.{IsUnread};
 ghost use Rattle.kv_race.specs.Telling.{Begin, BeginAll, HasHeard, IsEnded};
 
+use crate::feeding::refresh;
 use crate::threads::Watched;
 use crate::watcher::collect;
 use kv_keys::KvError;
@@ -70,7 +71,7 @@ pub(crate) fn end_watch<N: LiveName>(
     let Watched { mut feed, mut seen } = watched;
     hear_all(&mut feed, answers);
     let _ = feed.handed();
-    feed.refresh()?;
+    refresh(&mut feed)?;
     collect(alloc, &mut feed, &mut seen)?;
     let last = feed.version()?;
     let (reader, _) = feed.stop();

@@ -5,7 +5,8 @@ ghost use Rattle.std.specs.Option.{option_map};
 ghost use Rattle.kv_keys.specs.declared.error.KvError.TheVariants.{OutOfMemory};
 ghost use Rattle.kv_watch.specs.Taking.{item_taken};
 ghost use Rattle.kv_bucket.specs.Replies.{answer_of};
-ghost use Rattle.kv_live.specs.Feeding.{given_by};
+ghost use Rattle.kv_live.specs.Feeding.{IsRefreshed, IsNotRefreshed, given_by};
+ghost use Rattle.kv_live.specs.Known.{IsUnread};
 ghost use Rattle.kv_race.specs.Watching.{reply_to};
 
 use crate::watcher::Follows;
@@ -28,6 +29,19 @@ fn copy_of(alloc: Global, taken: &Taken<'_>) -> Result<Option<Reply>, KvError>
     }
 }
 
+/// Goes on to what is published. No race compacts, so that no feed of one lags behind: where one did, it would be as
+/// where nothing can be read.
+pub(crate) fn refresh<N: LiveName>(feed: &mut Feed<N>) -> Result<(), KvError>
+    ensures ok { IfOk result (λ _. IsRefreshed feed.old feed.new) }
+    ensures refused { IfErr result (λ e. IsUnread e × IsNotRefreshed feed.old feed.new) }
+{
+    match feed.refresh() {
+        Ok(()) => Ok(()),
+        Err(KvError::Lagged { .. }) => Err(KvError::NoReader),
+        Err(error) => Err(error),
+    }
+}
+
 impl<N: LiveName> Follows for Feed<N> {
     ghost watch = { λ feed. record { began = feed.began; filters = feed.filters; options = feed.options } };
 
@@ -40,7 +54,7 @@ impl<N: LiveName> Follows for Feed<N> {
     #[tactic(auto, using(crate::proofs::Fed::went_on, crate::proofs::Fed::stayed))]
     fn go_on(&mut self) -> Result<(), KvError> {
         let _ = self.handed();
-        self.refresh()
+        refresh(self)
     }
 
     #[tactic(auto, using(crate::proofs::Fed::handed_on))]

@@ -2,11 +2,10 @@
 
 ghost use Rattle.std.specs.Prelude.{◌≡◌, ℕ, [], List, Some, filter};
 ghost use Rattle.kv_live.specs.Keeping.{PublishesWrite};
-ghost use Rattle.kv_race.specs.Racing.{is_at, shown_alone, written_by};
+ghost use Rattle.kv_race.specs.Racing.{accepted_at, is_at, shown_alone, written_by};
 ghost use Rattle.kv_model.specs.Acceptance.{IsLawful};
 ghost use Rattle.kv_model.specs.Acts.{Act, IsPrefix};
 ghost use Rattle.kv_model.specs.Configuration.{Configuration};
-ghost use Rattle.kv_model.specs.Reads.{write_at_of};
 ghost use Rattle.kv_model.specs.Requests.{Asked};
 ghost use Rattle.kv_model.specs.Given.{given};
 ghost use Rattle.kv_model.specs.declared.options.Options.{Options};
@@ -24,5 +23,5 @@ pub fn told_write_is_seen_once()
 pub fn told_write_stands()
     ensures { (config : Configuration) (request : Asked) (revision : ℕ) (before told acts : List Act) →
         PublishesWrite config request revision before told → IsPrefix told acts → IsLawful config acts →
-        write_at_of revision acts ≡ Some (written_by request revision) }
+        accepted_at revision acts ≡ Some (written_by request revision) }
 {}

@@ -8,14 +8,14 @@ use Rattle.kv_keys.specs.Places.{fnv32_of}
 use Rattle.kv_keys.specs.declared.error.KvError.{KvError}
 use Rattle.kv_keys.specs.declared.error.KvError.TheVariants.{BadCommand}
 use Rattle.kv_model.specs.Acceptance.{accept}
-use Rattle.kv_model.specs.Answers.{Answer, Revision, Sealed, AnsweredEntry, Entries, Keys, Numbers, Watching, Marker, Empty, Ended, Refused}
+use Rattle.kv_model.specs.Answers.{Answer, Revision, Sealed, AnsweredEntry, Entries, Keys, Numbers, Watching, Marker, Empty, Ended, Compacted, Refused}
 use Rattle.kv_model.specs.State.{State, after, answer_to, answer_write}
 use Rattle.kv_model.specs.declared.call.Call.TheVariants as calls
 use Rattle.kv_script.specs.Answered.{answer_text, taken_text, ended_text}
-use Rattle.kv_script.specs.Commands.{Meaning, Write, Get, GetAt, History, Watch, Take, Stop, Status, Seal, Place, is_skipped, is_within_limits, line_command, present_words_command}
+use Rattle.kv_script.specs.Commands.{Meaning, Write, Get, GetAt, History, Watch, Take, Stop, Status, Seal, Compact, Place, is_skipped, is_within_limits, line_command, present_words_command}
 use Rattle.kv_script.specs.Commands as commands
 use Rattle.kv_script.specs.Line.{object_text, array_text}
-use Rattle.kv_script.specs.Text.{one, entry_members, listed_text, watch_members, status_members, refusal_members, place_digits, revision_text, sealed_text, entry_text, history_text, keys_text, watch_text, taken_entry_text, marker_text, empty_text, stopped_text, status_text, refusal_text, place_text}
+use Rattle.kv_script.specs.Text.{one, entry_members, listed_text, watch_members, status_members, refusal_members, place_digits, revision_text, sealed_text, entry_text, history_text, keys_text, watch_text, taken_entry_text, marker_text, empty_text, stopped_text, compacted_text, status_text, refusal_text, place_text}
 use Rattle.kv_run.specs.Outcome.{IsWholeLines}
 use Rattle.kv_run.specs.Text.{Step, hands_out, takes, steps, steps_of, line_text, line_next, line_steps, steps_text, steps_next}
 use Rattle.kv_run.specs.declared.scripts.lines.TheConstants.{KEPT_BYTES}
@@ -36,7 +36,7 @@ unfolding place_text
 place_whole place = ends (object_text (one (codes "place") (quoted (place_digits place))))
 
 answer_whole : (bucket : List ℕ) (answer : Answer) → IsWholeLines (answer_text bucket answer)
-unfolding revision_text sealed_text entry_text history_text keys_text watch_text status_text
+unfolding revision_text sealed_text entry_text history_text keys_text watch_text compacted_text status_text
 answer_whole bucket (Revision revision) = ends (object_text (one (codes "revision") (decimal revision)))
 answer_whole bucket Sealed = ends (object_text (one (codes "sealed") (codes "true")))
 answer_whole bucket (AnsweredEntry entry) = ends (object_text (entry_members entry []))
@@ -47,6 +47,7 @@ answer_whole bucket (Watching number) = ends (object_text (watch_members number)
 answer_whole bucket Marker = IsWholeLines-nil
 answer_whole bucket Empty = IsWholeLines-nil
 answer_whole bucket (Ended handed) = IsWholeLines-nil
+answer_whole bucket (Compacted floor) = ends (object_text (one (codes "compacted") (decimal floor)))
 answer_whole bucket (Refused error) = refusal_whole error
 
 pub taken_whole : (watch : ℕ) (answer : Answer) → IsWholeLines (taken_text watch answer)
@@ -62,6 +63,7 @@ taken_whole watch (Keys keys) = IsWholeLines-nil
 taken_whole watch (Numbers status watches) = IsWholeLines-nil
 taken_whole watch (Watching number) = IsWholeLines-nil
 taken_whole watch (Ended handed) = IsWholeLines-nil
+taken_whole watch (Compacted floor) = IsWholeLines-nil
 
 ended_whole : (watch : ℕ) (answer : Answer) → IsWholeLines (ended_text watch answer)
 unfolding stopped_text
@@ -76,6 +78,7 @@ ended_whole watch (Entries entries) = IsWholeLines-nil
 ended_whole watch (Keys keys) = IsWholeLines-nil
 ended_whole watch (Numbers status watches) = IsWholeLines-nil
 ended_whole watch (Watching number) = IsWholeLines-nil
+ended_whole watch (Compacted floor) = IsWholeLines-nil
 
 -- ---- and so are those of the calls of a line
 
@@ -104,6 +107,7 @@ steps_whole s (Take watch count) = takes_whole watch count s
 steps_whole s (Stop watch) = (ended_whole watch (answer_to s (calls.Stop watch)), tt)
 steps_whole s Status = (answer_whole s.config.bucket (answer_to s calls.Status), tt)
 steps_whole s Seal = (answer_whole s.config.bucket (answer_to s calls.Seal), tt)
+steps_whole s (Compact floor) = (answer_whole s.config.bucket (answer_to s (calls.Compact floor)), tt)
 steps_whole s (Place key) = (place_whole (fnv32_of key), tt)
 
 outcome_whole : (s : State) (outcome : Result Meaning KvError) → AreWhole (steps_of s outcome)

@@ -10,7 +10,7 @@ use Rattle.kv_model.specs.declared.call.Call.TheVariants as calls
 use Rattle.kv_model.specs.Answers.{Answer, AnsweredEntry, Marker}
 use Rattle.kv_model.specs.State.{State, empty, after, after_write, answer_to, answer_write}
 use Rattle.kv_script.specs.Answered.{answer_text, taken_text, ended_text}
-use Rattle.kv_script.specs.Commands.{Meaning, Write, Get, GetAt, History, Watch, Take, Stop, Status, Seal, Place, is_skipped, line_command}
+use Rattle.kv_script.specs.Commands.{Meaning, Write, Get, GetAt, History, Watch, Take, Stop, Status, Seal, Compact, Place, is_skipped, line_command}
 use Rattle.kv_script.specs.Commands as commands
 use Rattle.kv_script.specs.Text.{place_text, refusal_text}
 use Rattle.kv_run.specs.Lines.{lines_of, but_last, texts}
@@ -52,6 +52,7 @@ steps s (Take watch count) = takes watch count s
 steps s (Stop watch) = once (ended_text watch (answer_to s (calls.Stop watch))) (after s (calls.Stop watch))
 steps s Status = once (answer_text s.config.bucket (answer_to s calls.Status)) s
 steps s Seal = once (answer_text s.config.bucket (answer_to s calls.Seal)) (after s calls.Seal)
+steps s (Compact floor) = once (answer_text s.config.bucket (answer_to s (calls.Compact floor))) (after s (calls.Compact floor))
 steps s (Place key) = once (place_text (fnv32_of key)) s
 
 -- a refused line is answered by its refusal

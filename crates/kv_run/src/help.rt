@@ -33,6 +33,7 @@ Commands: K is a key, B a value in base64, or - for the empty one, R a revision,
   stop ID                   stop 1                       end a watch
   status                    status                       the numbers of the bucket
   seal                      seal                         end all writes
+  compact R                 compact 4                    free the writes up to R that are kept no longer
   place K                   place app.port               where a key stands in the hash trie
 
 Empty lines and lines that begin with # are skipped. A refused line is answered, and the script goes on.

@@ -10,6 +10,7 @@ use std::test::Fail;
 
 mod adapters;
 mod arguments;
+mod compacting;
 mod devices;
 mod failing;
 mod hostile;

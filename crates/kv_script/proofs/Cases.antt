@@ -5,11 +5,11 @@ use Rattle.hex.proofs.OnLiterals.{hex_on_literals}
 use Rattle.json.specs.Print.{escape_byte}
 use Rattle.std.specs.Fmt.{digits}
 use Rattle.kv_keys.specs.Grammar.{is_key}
-use Rattle.kv_keys.specs.declared.error.KvError.TheVariants.{BadCommand, Lagged, WrongLastRevision}
+use Rattle.kv_keys.specs.declared.error.KvError.TheVariants.{BadCommand, BadFloor, Lagged, WatchBehind, WrongLastRevision}
 use Rattle.kv_model.specs.declared.write.Op.TheVariants.{Delete, Put}
-use Rattle.kv_script.specs.Commands.{Get, Take, named_command, present_words_command}
+use Rattle.kv_script.specs.Commands.{Compact, Get, Take, named_command, present_words_command}
 use Rattle.kv_script.specs.Line.{line}
-use Rattle.kv_script.specs.Text.{empty_text, entry_text, history_text, keys_text, marker_text, place_text, refusal_text, revision_text, sealed_text, status_text, stopped_text, taken_entry_text, told_text, watch_text, worker_refusal_text}
+use Rattle.kv_script.specs.Text.{compacted_text, empty_text, entry_text, history_text, keys_text, marker_text, place_text, refusal_text, revision_text, sealed_text, status_text, stopped_text, taken_entry_text, told_text, watch_text, worker_refusal_text}
 use Rattle.kv_script.specs.Words.{number_of, value_of, words_of}
 
 revision : revision_text 12 ≡ line (codes "{\"revision\":12}")
@@ -19,6 +19,10 @@ revision = refl
 sealed : sealed_text ≡ line (codes "{\"sealed\":true}")
 unfolding sealed_text
 sealed = refl
+
+compacted : compacted_text 4 ≡ line (codes "{\"compacted\":4}")
+unfolding compacted_text digits escape_byte
+compacted = refl
 
 entry : entry_text (record { key = codes "a"; op = Put; revision = 1; size = 1; value = Some (codes "1") }) ≡ line (codes "{\"key\":\"a\",\"op\":\"PUT\",\"revision\":1,\"size\":1,\"value\":\"MQ==\"}")
 unfolding entry_text base64_on_literals digits escape_byte
@@ -72,6 +76,14 @@ stale : refusal_text (WrongLastRevision 2) ≡ line (codes "{\"code\":11,\"error
 unfolding refusal_text digits escape_byte
 stale = refl
 
+bad_floor : refusal_text BadFloor ≡ line (codes "{\"code\":19,\"error\":\"BadFloor\"}")
+unfolding refusal_text digits escape_byte
+bad_floor = refl
+
+behind : refusal_text (WatchBehind 3) ≡ line (codes "{\"code\":20,\"error\":\"WatchBehind\",\"watch\":3}")
+unfolding refusal_text digits escape_byte
+behind = refl
+
 lagged : refusal_text (Lagged 7) ≡ line (codes "{\"code\":21,\"error\":\"Lagged\",\"floor\":7}")
 unfolding refusal_text digits escape_byte
 lagged = refl
@@ -111,6 +123,18 @@ get_line = refl
 take_line : present_words_command (words_of (codes "take 1 9")) ≡ Ok (Take 1 9)
 unfolding named_command
 take_line = refl
+
+compact_line : present_words_command (words_of (codes "compact 0012")) ≡ Ok (Compact 12)
+unfolding named_command
+compact_line = refl
+
+compact_without_floor : present_words_command (words_of (codes "compact")) ≡ Err BadCommand
+unfolding named_command
+compact_without_floor = refl
+
+compact_with_a_word : present_words_command (words_of (codes "compact x")) ≡ Err BadCommand
+unfolding named_command
+compact_with_a_word = refl
 
 two_spaces : present_words_command (words_of (codes "get  a")) ≡ Err BadCommand
 two_spaces = refl

@@ -9,9 +9,9 @@ use Rattle.kv_keys.specs.declared.error.KvError.{KvError}
 use Rattle.kv_keys.specs.declared.error.KvError.TheVariants.{OutOfMemory, BadBucket, BadConfig, BadKey, BadFilter, OptionsClash, ValueTooLarge, Sealed, JournalFull, KeyExists, WrongLastRevision, KeyNotFound, NoSuchWatch, TooManyWatches, NoReader, BadCommand, ReadFault, WriteFault, BadFloor, WatchBehind, Lagged}
 use Rattle.kv_model.specs.declared.status.Status.{Status}
 use Rattle.kv_model.specs.Given.{Entry}
-use Rattle.kv_script.specs.inside.Fields.{number_field, value_fields, entry_fields, entry_object, entry_items, key_items, watch_field, worker_field, sealed_fields, marker_fields, empty_fields, stopped_fields, status_fields, place_fields, detail_fields, refusal_fields, list_fields}
+use Rattle.kv_script.specs.inside.Fields.{number_field, value_fields, entry_fields, entry_object, entry_items, key_items, watch_field, worker_field, sealed_fields, compacted_fields, marker_fields, empty_fields, stopped_fields, status_fields, place_fields, detail_fields, refusal_fields, list_fields}
 use Rattle.kv_script.specs.Line.{Member, object_text, array_text, line}
-use Rattle.kv_script.specs.Text.{truth_text, one, value_members, entry_members, detail_members, refusal_members, watch_members, worker_members, status_members, listed_text, place_digits, revision_text, sealed_text, entry_text, history_text, keys_text, watch_text, taken_entry_text, marker_text, empty_text, stopped_text, status_text, place_text, refusal_text, told_text, worker_refusal_text}
+use Rattle.kv_script.specs.Text.{truth_text, one, value_members, entry_members, detail_members, refusal_members, watch_members, worker_members, status_members, listed_text, place_digits, revision_text, sealed_text, entry_text, history_text, keys_text, watch_text, taken_entry_text, marker_text, empty_text, stopped_text, compacted_text, status_text, place_text, refusal_text, told_text, worker_refusal_text}
 use Rattle.kv_script.proofs.Compact.{compact-object, compact-array, AreMembers, AreItems}
 
 pub revision_line : (revision : ℕ) → line (compact_text (object (number_field (codes "revision") revision no_members))) ≡ revision_text revision
@@ -21,6 +21,10 @@ revision_line revision = ap line (compact-object (number_field (codes "revision"
 pub sealed_line : line (compact_text (object sealed_fields)) ≡ sealed_text
 unfolding serde_json_on_literals sealed_text
 sealed_line = ap line (compact-object sealed_fields (one (codes "sealed") (codes "true")) (refl, refl, tt))
+
+pub compacted_line : (floor : ℕ) → line (compact_text (object (compacted_fields floor))) ≡ compacted_text floor
+unfolding serde_json_on_literals compacted_text
+compacted_line floor = ap line (compact-object (compacted_fields floor) (one (codes "compacted") (decimal floor)) (refl, refl, tt))
 
 pub watch_line : (watch : ℕ) → line (compact_text (object (watch_field watch))) ≡ watch_text watch
 unfolding serde_json_on_literals watch_text

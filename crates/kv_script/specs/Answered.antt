@@ -1,7 +1,7 @@
 -- The lines that the answers of a bucket are written as.
 use Rattle.std.specs.Prelude.{ℕ, List, []}
-use Rattle.kv_model.specs.Answers.{Answer, Revision, Sealed, AnsweredEntry, Entries, Keys, Numbers, Watching, Marker, Empty, Ended, Refused}
-use Rattle.kv_script.specs.Text.{revision_text, sealed_text, entry_text, history_text, keys_text, watch_text, taken_entry_text, marker_text, empty_text, stopped_text, status_text, refusal_text}
+use Rattle.kv_model.specs.Answers.{Answer, Revision, Sealed, AnsweredEntry, Entries, Keys, Numbers, Watching, Marker, Empty, Ended, Compacted, Refused}
+use Rattle.kv_script.specs.Text.{revision_text, sealed_text, entry_text, history_text, keys_text, watch_text, taken_entry_text, marker_text, empty_text, stopped_text, compacted_text, status_text, refusal_text}
 
 -- the line of an answer, for the bucket of a name; takes and stops have lines of their own
 abbrev pub answer_text : List ℕ → Answer → List ℕ
@@ -15,6 +15,7 @@ answer_text bucket (Watching number) = watch_text number
 answer_text bucket Marker = []
 answer_text bucket Empty = []
 answer_text bucket (Ended handed) = []
+answer_text bucket (Compacted floor) = compacted_text floor
 answer_text bucket (Refused error) = refusal_text error
 
 -- the line of an answer to a take from the watch of a number

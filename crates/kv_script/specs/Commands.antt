@@ -26,6 +26,7 @@ pub data Meaning : Type 0 where
   Stop : (watch : ℕ) → Meaning
   Status : Meaning
   Seal : Meaning
+  Compact : (floor : ℕ) → Meaning
   Place : (key : List ℕ) → Meaning
 
 abbrev pub meaning_of : Command → Meaning
@@ -39,6 +40,7 @@ meaning_of (commands.Take watch count) = Take watch count
 meaning_of (commands.Stop watch) = Stop watch
 meaning_of commands.Status = Status
 meaning_of commands.Seal = Seal
+meaning_of (commands.Compact floor) = Compact floor
 meaning_of (commands.Place key) = Place key
 
 -- a line without its end is skipped where it is empty, or begins with `#`
@@ -127,10 +129,10 @@ take_command arguments =
     then or_bad_command (number_of (word arguments 0)) (λ watch. or_bad_command (take_count (word arguments 1)) (λ count. Ok (Take watch count)))
     else Err BadCommand
 
--- stop ID
-abbrev pub stop_command : List (List ℕ) → Result Meaning KvError
-stop_command arguments =
-    if length arguments == 1 then or_bad_command (number_of (word arguments 0)) (λ watch. Ok (Stop watch)) else Err BadCommand
+-- stop ID, compact R
+abbrev pub number_command : (ℕ → Meaning) → List (List ℕ) → Result Meaning KvError
+number_command makes arguments =
+    if length arguments == 1 then or_bad_command (number_of (word arguments 0)) (λ number. Ok (makes number)) else Err BadCommand
 
 -- status, seal
 abbrev pub lone_command : Meaning → List (List ℕ) → Result Meaning KvError
@@ -149,9 +151,10 @@ named_command name arguments =
     else if bytes_eq name (codes "keys") then keys_command arguments
     else if bytes_eq name (codes "watch") then watch_command arguments
     else if bytes_eq name (codes "take") then take_command arguments
-    else if bytes_eq name (codes "stop") then stop_command arguments
+    else if bytes_eq name (codes "stop") then number_command Stop arguments
     else if bytes_eq name (codes "status") then lone_command Status arguments
     else if bytes_eq name (codes "seal") then lone_command Seal arguments
+    else if bytes_eq name (codes "compact") then number_command Compact arguments
     else if bytes_eq name (codes "place") then key_command Place arguments
     else Err BadCommand
 

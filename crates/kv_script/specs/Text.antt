@@ -115,6 +115,10 @@ empty_text watch = line (object_text ((codes "empty", codes "true") ∷ watch_me
 unfoldable pub stopped_text : ℕ → ℕ → List ℕ
 stopped_text watch handed = line (object_text ((codes "handed", decimal handed) ∷ one (codes "stopped") (decimal watch)))
 
+-- a compaction to a floor
+unfoldable pub compacted_text : ℕ → List ℕ
+compacted_text floor = line (object_text (one (codes "compacted") (decimal floor)))
+
 -- a status
 unfoldable pub status_text : List ℕ → Status → ℕ → List ℕ
 status_text bucket status watches = line (object_text (status_members bucket status watches))

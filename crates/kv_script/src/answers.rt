@@ -3,8 +3,8 @@
 ghost use Rattle.std.specs.Prelude.{◌≡◌, ◌++◌, IfOk, OnOk, OnErr, codes};
 ghost use Rattle.serde_json.specs.Data.{object, no_members};
 ghost use Rattle.serde_json.specs.View.{view};
-ghost use Rattle.kv_script.specs.inside.Fields.{number_field, sealed_fields, watch_field, worker_field, marker_fields, empty_fields, stopped_fields};
-ghost use Rattle.kv_script.specs.Text.{revision_text, sealed_text, watch_text, marker_text, empty_text, stopped_text, told_text};
+ghost use Rattle.kv_script.specs.inside.Fields.{number_field, sealed_fields, compacted_fields, watch_field, worker_field, marker_fields, empty_fields, stopped_fields};
+ghost use Rattle.kv_script.specs.Text.{revision_text, sealed_text, compacted_text, watch_text, marker_text, empty_text, stopped_text, told_text};
 
 use crate::json_line::append_line;
 use serde_json::{Value, json};
@@ -39,6 +39,22 @@ pub fn append_sealed(alloc: Global, out: &mut Vec<u8>) -> Result<(), AllocError>
     ensures err { OnErr result (out.new.items ≡ out.old.items) }
 {
     let value = sealed_value(alloc)?;
+    append_line(alloc, out, &value)
+}
+
+fn compacted_value(alloc: Global, floor: u64) -> Result<Value, AllocError>
+    ensures { IfOk result (λ v. view v ≡ object (compacted_fields floor)) }
+{
+    json!(in alloc; {"compacted": floor})
+}
+
+/// A compaction, by its floor.
+#[tactic(auto, using(crate::proofs::Lines::compacted_line))]
+pub fn append_compacted(alloc: Global, out: &mut Vec<u8>, floor: u64) -> Result<(), AllocError>
+    ensures ok { OnOk result (out.new.items ≡ out.old.items ++ compacted_text floor) }
+    ensures err { OnErr result (out.new.items ≡ out.old.items) }
+{
+    let value = compacted_value(alloc, floor)?;
     append_line(alloc, out, &value)
 }
 

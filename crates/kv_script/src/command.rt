@@ -26,6 +26,8 @@ pub enum Command {
     Status,
     /// `seal`: the end of writes.
     Seal,
+    /// `compact` to a floor, which is a revision.
+    Compact(u64),
     /// The place of a key in a hash trie.
     Place(Key),
 }

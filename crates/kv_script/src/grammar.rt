@@ -53,6 +53,7 @@ fn named_command(alloc: Global, name: &str, arguments: &[&str]) -> Result<Comman
         "stop" => watches::stop_command(arguments),
         "status" => reads::status_command(arguments),
         "seal" => writes::seal_command(arguments),
+        "compact" => writes::compact_command(arguments),
         "place" => reads::place_command(alloc, arguments),
         _ => Err(KvError::BadCommand),
     }

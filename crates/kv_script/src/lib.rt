@@ -18,8 +18,8 @@ mod watches;
 mod writes;
 
 pub use answers::{
-    append_empty, append_marker, append_revision, append_sealed, append_stopped, append_told,
-    append_watch,
+    append_compacted, append_empty, append_marker, append_revision, append_sealed, append_stopped,
+    append_told, append_watch,
 };
 pub use command::Command;
 pub use entries::{append_entry, append_history, append_keys};

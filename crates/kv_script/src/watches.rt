@@ -1,7 +1,7 @@
 //! Commands of watches.
 
 ghost use Rattle.std.specs.Prelude.{◌≡◌};
-ghost use Rattle.kv_script.specs.Commands.{Gives, texts, watch_command, take_count, take_command, stop_command};
+ghost use Rattle.kv_script.specs.Commands.{Gives, Stop, texts, watch_command, take_count, take_command, number_command};
 
 use crate::choices::{are_options, options_of};
 use crate::command::Command;
@@ -53,7 +53,7 @@ pub(crate) fn take_command(arguments: &[&str]) -> Result<Command, KvError>
 
 /// `stop ID`
 pub(crate) fn stop_command(arguments: &[&str]) -> Result<Command, KvError>
-    ensures { Gives result (stop_command (texts arguments.now)) }
+    ensures { Gives result (number_command Stop (texts arguments.now)) }
 {
     let [watch] = *arguments else {
         return Err(KvError::BadCommand);

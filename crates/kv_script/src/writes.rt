@@ -1,8 +1,8 @@
-//! Commands that write.
+//! Commands that write, and those that seal and compact.
 
 ghost use Rattle.std.specs.Prelude.{◌≡◌};
 ghost use Rattle.kv_model.specs.Requests.{put, create, delete, purge};
-ghost use Rattle.kv_script.specs.Commands.{Gives, Seal, texts, put_command, update_command, delete_command, lone_command};
+ghost use Rattle.kv_script.specs.Commands.{Gives, Compact, Seal, texts, put_command, update_command, delete_command, lone_command, number_command};
 
 use crate::command::Command;
 use crate::numbers::{number_of, optional_number};
@@ -92,5 +92,18 @@ pub(crate) fn seal_command(arguments: &[&str]) -> Result<Command, KvError>
         Ok(Command::Seal)
     } else {
         Err(KvError::BadCommand)
+    }
+}
+
+/// `compact R`
+pub(crate) fn compact_command(arguments: &[&str]) -> Result<Command, KvError>
+    ensures { Gives result (number_command Compact (texts arguments.now)) }
+{
+    let [floor] = *arguments else {
+        return Err(KvError::BadCommand);
+    };
+    match number_of(floor) {
+        Some(floor) => Ok(Command::Compact(floor)),
+        None => Err(KvError::BadCommand),
     }
 }

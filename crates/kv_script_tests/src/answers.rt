@@ -4,8 +4,8 @@
 use kv_keys::{Key, KvError};
 use kv_model::{Config, Op, Request, Status, Write};
 use kv_script::{
-    append_empty, append_entry, append_history, append_keys, append_marker, append_place,
-    append_refusal, append_revision, append_sealed, append_status, append_stopped,
+    append_compacted, append_empty, append_entry, append_history, append_keys, append_marker,
+    append_place, append_refusal, append_revision, append_sealed, append_status, append_stopped,
     append_taken_entry, append_told, append_watch, append_worker_refusal,
 };
 use kv_store::Version;
@@ -41,6 +41,7 @@ fn answers_without_entries(rt: HostRuntime) -> Result<(), Fail> {
     };
     twice!(append_revision(alloc, &mut out, 7));
     twice!(append_sealed(alloc, &mut out));
+    twice!(append_compacted(alloc, &mut out, 4));
     twice!(append_watch(alloc, &mut out, 1));
     twice!(append_marker(alloc, &mut out, 1));
     twice!(append_empty(alloc, &mut out, 2));
@@ -50,6 +51,7 @@ fn answers_without_entries(rt: HostRuntime) -> Result<(), Fail> {
     twice!(append_told(alloc, &mut out, 2, 4294967295));
     let text = "{\"revision\":7}\n\
         {\"sealed\":true}\n\
+        {\"compacted\":4}\n\
         {\"watch\":1}\n\
         {\"marker\":true,\"watch\":1}\n\
         {\"empty\":true,\"watch\":2}\n\
@@ -69,6 +71,7 @@ fn refusals(rt: HostRuntime) -> Result<(), Fail> {
     let behind = KvError::WatchBehind { watch: 4 };
     let lagged = KvError::Lagged { floor: 9 };
     twice!(append_refusal(alloc, &mut out, KvError::BadCommand));
+    twice!(append_refusal(alloc, &mut out, KvError::BadFloor));
     twice!(append_refusal(alloc, &mut out, last));
     twice!(append_refusal(alloc, &mut out, behind));
     twice!(append_refusal(alloc, &mut out, lagged));
@@ -77,6 +80,7 @@ fn refusals(rt: HostRuntime) -> Result<(), Fail> {
     twice!(append_worker_refusal(alloc, &mut out, 3, behind));
     twice!(append_worker_refusal(alloc, &mut out, 4, lagged));
     let text = "{\"code\":16,\"error\":\"BadCommand\"}\n\
+        {\"code\":19,\"error\":\"BadFloor\"}\n\
         {\"code\":11,\"error\":\"WrongLastRevision\",\"last\":0}\n\
         {\"code\":20,\"error\":\"WatchBehind\",\"watch\":4}\n\
         {\"code\":21,\"error\":\"Lagged\",\"floor\":9}\n\

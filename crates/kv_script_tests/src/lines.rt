@@ -53,6 +53,7 @@ fn command_parts(command: &Command) -> (&'static str, &str, Option<u64>) {
         Command::Stop(watch) => ("stop", "", Some(*watch)),
         Command::Status => ("status", "", None),
         Command::Seal => ("seal", "", None),
+        Command::Compact(floor) => ("compact", "", Some(*floor)),
         Command::Place(key) => ("place", key.as_str(), None),
     }
 }
@@ -101,6 +102,12 @@ fn other_commands_are_read(rt: HostRuntime) -> Result<(), Fail> {
         ("stop 3", ("stop", "", Some(3))),
         ("status", ("status", "", None)),
         ("seal", ("seal", "", None)),
+        ("compact 7", ("compact", "", Some(7))),
+        ("compact 0", ("compact", "", Some(0))),
+        (
+            "compact 18446744073709551615",
+            ("compact", "", Some(18446744073709551615)),
+        ),
         ("place zinke", ("place", "zinke", None)),
     ];
     for (line, parts) in table {
@@ -154,6 +161,11 @@ fn faults(rt: HostRuntime) -> Result<(), Fail> {
         "place",
         "place a b",
         "seal x",
+        "compact",
+        "compact x",
+        "compact 1 2",
+        "compact -1",
+        "compact 18446744073709551616",
         "status x",
         "get\ta",
         "put a M===",

@@ -1,11 +1,15 @@
 -- Numbers of which none stands twice.
-use Rattle.std.proofs.Common.{◌≡◌, ℕ, false, eqb, List, [], ◌∷◌, ◌++◌, sym, subst, arith}
+use Rattle.std.proofs.Common.{◌≡◌, ℕ, Bool, true, false, eqb, List, [], ◌∷◌, ◌++◌, length, refl, sym, subst, arith}
 use Rattle.std.specs.List.{AllByRecursion, Contains, IsDistinct, flat_map}
 use Rattle.std.specs.List.Sorted.{IsStrictlyIncreasing}
+use Rattle.std.specs.Set.{is_member}
 use Rattle.std.proofs.lemmas.Bool.{ne_eqb}
+use Rattle.std.proofs.lemmas.Bool.Decides.{Decides-eqb}
+use Rattle.std.proofs.lemmas.Cmp.{nat_eq_equiv}
+use Rattle.std.proofs.lemmas.Map.Made.{is_member-Decides, length-from_same_keys}
 use Rattle.std.proofs.lemmas.List.Elements.{All-contains, All-from_recursion}
 use Rattle.kv_model.proofs.Members.{Contains-here, Contains-there, Contains-from_flat_map}
-use Rattle.kv_model.proofs.Rising.{below_members, rising_tail}
+use Rattle.kv_model.proofs.Rising.{HaveSameMembers, below_members, rising_tail}
 
 pub all_members : {X : Type 0} (P : X → Type 0) (xs : List X) → ((x : X) → Contains xs x → P x) → AllByRecursion P xs
 all_members P [] h = tt
@@ -43,3 +47,13 @@ distinct_parts f Apart (p ∷ ps) d h a =
     distinct_append (f p) (flat_map f ps) (d p (Contains-here p ps))
     (distinct_parts f Apart ps (λ q m. d q (Contains-there p ps q m)) (λ q r n m k. h q r n (Contains-there p ps q m) (Contains-there p ps r k)) a.1)
     (λ n m k. let part = Contains-from_flat_map f ps n k in h p part.0 n (Contains-here p ps) (Contains-there p ps part.0 part.1) m part.2 (All-contains (Apart p) ps part.0 (All-from_recursion (Apart p) ps a.0) part.1))
+
+-- where the same numbers stand in both lists, they are as long
+pub same_length : (xs ys : List ℕ) → IsDistinct eqb xs → IsDistinct eqb ys → HaveSameMembers xs ys → length xs ≡ length ys
+same_length xs ys d e same = length-from_same_keys nat_eq_equiv xs ys d e (λ q. agree q (is_member eqb xs q) refl (is_member eqb ys q) refl)
+  where
+    agree : (q : ℕ) (a : Bool) → is_member eqb xs q ≡ a → (b : Bool) → is_member eqb ys q ≡ b → a ≡ b
+    agree q true s true t = refl
+    agree q false s false t = refl
+    agree q true s false t = let m = (is_member-Decides Decides-eqb ys q).1 ((same q).0 ((is_member-Decides Decides-eqb xs q).0 s)) in cc
+    agree q false s true t = let m = (is_member-Decides Decides-eqb xs q).1 ((same q).1 ((is_member-Decides Decides-eqb ys q).0 t)) in cc

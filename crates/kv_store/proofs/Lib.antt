@@ -7,3 +7,9 @@ pub mod Reading
 pub mod Selecting
 pub mod Standings
 pub mod Sent
+pub mod Counting
+pub mod Compaction
+pub mod Leaving
+pub mod OneMatch
+pub mod Asking
+pub mod LookingUp

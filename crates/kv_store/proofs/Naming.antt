@@ -1,5 +1,5 @@
 -- The entries of the key trie name the selected writes, each once.
-use Rattle.std.proofs.Common.{◌≡◌, ℕ, ◌<◌, Bool, true, false, cond, eqb, List, [], ◌∷◌, ◌++◌, Some, filter, refl, sym, subst, ap, ◌∙◌, arith}
+use Rattle.std.proofs.Common.{◌≡◌, ℕ, ◌<◌, Bool, true, false, cond, eqb, List, [], ◌∷◌, ◌++◌, Some, length, filter, refl, sym, subst, ap, ◌∙◌, arith}
 use Rattle.std.specs.List.{Contains, IsDistinct, flat_map, AllByRecursion}
 use Rattle.std.specs.List.Sorted.{IsStrictlyIncreasing, IsPermutation, IsSorted}
 use Rattle.std.specs.Map.{lookup, keys_of}
@@ -11,6 +11,7 @@ use Rattle.std.specs.declared.alloc.Global.{Global}
 use Rattle.std.specs.declared.vec.Vec.{Vec}
 use Rattle.std.proofs.lemmas.Bool.Decides.{nat_tests}
 use Rattle.std.proofs.lemmas.Cmp.{tied_itself}
+use Rattle.std.proofs.lemmas.List.{length-map}
 use Rattle.std.proofs.lemmas.List.Sorted.{IsPermutation-sym, Contains-permutation, IsNonDecreasingBy-from_sort}
 use Rattle.std.proofs.lemmas.Map.Keys.{IsStrictlyIncreasing-from_distinct, IsDistinct-IsPermutation}
 use Rattle.std.proofs.lemmas.Map.Views.{Contains-from_lookup, lookup-from_Contains}
@@ -23,10 +24,11 @@ use Rattle.kv_model.specs.Acts.{Act, Write, writes_of}
 use Rattle.kv_model.specs.Given.{initial}
 use Rattle.kv_store.specs.inside.Fields.{kept_entries}
 use Rattle.kv_model.specs.Reads.{unless_empty}
-use Rattle.kv_model.specs.Retained.{kept, revisions}
+use Rattle.kv_model.specs.Retained.{kept, retained, revisions}
+use Rattle.kv_store.specs.inside.Compacted.{all_kept}
 use Rattle.kv_store.specs.inside.Selected.{initial_revisions, initial_of}
-use Rattle.kv_store.proofs.Distinct.{AllApart, distinct_parts, distinct_rising}
-use Rattle.kv_model.proofs.Members.{Contains-none, Contains-map, Contains-from_map, Contains-filter, Contains-from_filter, Contains-flat_map, Contains-from_flat_map}
+use Rattle.kv_store.proofs.Distinct.{AllApart, distinct_parts, distinct_rising, same_length}
+use Rattle.kv_model.proofs.Members.{Contains-none, Contains-map, Contains-from_map, Contains-filter, Contains-from_filter, Contains-flat_map, Contains-from_flat_map, filter_all}
 use Rattle.kv_model.proofs.Numbered.{CountsFrom}
 use Rattle.kv_model.proofs.Rising.{HaveSameMembers, same_rising}
 use Rattle.kv_store.proofs.Selecting.{initial_of_key, increasing_initial, initial_is_written, one_write}
@@ -69,6 +71,10 @@ kept_keys (e ∷ es) = ap (λ ks. e.0 ∷ ks) (kept_keys es)
 
 named : (List ℕ → Bool) → Start → List ℕ × List ℕ → List ℕ
 named wants start e = cond (wants e.0) (initial_revisions start e.1) []
+
+-- the entries of the key trie have each key once
+pub distinct_kept : (place : List ℕ → ℕ) (es : List (List ℕ × Vec ℕ Global)) → Ascends (order (slice_cmp nat_cmp) place 7) es → IsDistinct bytes_eq (keys_of (kept_entries es))
+distinct_kept place es ascends = subst (IsDistinct bytes_eq) (sym (kept_keys es)) (distinct_keys place 7 es ascends)
 
 named_kept : (wants : List ℕ → Bool) (start : Start) (es : List (List ℕ × Vec ℕ Global)) → flat_map (initial_of wants start) es ≡ flat_map (named wants start) (kept_entries es)
 unfolding named
@@ -154,6 +160,13 @@ module _ (h : ℕ) (acts : List Act) (some : 0 < h) (counts : CountsFrom 1 (writ
           let entry = Contains-from_lookup (λ x y t. (bytes_eq-Decides x y).0 t) w.key rs entries (keeps w.key ∙ present start rs n listed) in
           Contains-flat_map (named wants start) entries (w.key, rs) n entry (subst (λ b. Contains (cond b (initial_revisions start rs) []) n) (sym passes.1) listed)
 
+  -- as many are named
+  count_named : length (flat_map (named wants start) entries) ≡ length (filter (λ w. wants w.key) (initial h start acts))
+  count_named =
+      let ws = filter (λ w. wants w.key) (initial h start acts) in
+      same_length (flat_map (named wants start) entries) (revisions ws) distinct_named (distinct_rising (revisions ws) (increasing_initial h acts some counts start (λ w. wants w.key))) members_named
+      ∙ length-map ws (λ w. w.revision)
+
   -- what is named, in order, are the revisions of the selected writes of wanted keys
   sorted_named : (xs : List ℕ) → IsPermutation (flat_map (named wants start) entries) xs → IsSorted nat_cmp xs → xs ≡ revisions (filter (λ w. wants w.key) (initial h start acts))
   sorted_named xs p s =
@@ -162,9 +175,16 @@ module _ (h : ℕ) (acts : List Act) (some : 0 < h) (counts : CountsFrom 1 (writ
       same_rising xs (revisions (filter (λ w. wants w.key) (initial h start acts))) rising (increasing_initial h acts some counts start (λ w. wants w.key))
       (λ n. ((λ m. (members_named n).0 (Contains-permutation xs all n (IsPermutation-sym all xs p) m)), (λ m. Contains-permutation all xs n p ((members_named n).1 m))))
 
+-- all entries together keep as many revisions as there are retained writes
+pub kept_counted : (h : ℕ) (acts : List Act) → 0 < h → CountsFrom 1 (writes_of acts) → (entries : List (List ℕ × List ℕ)) → ((key : List ℕ) → lookup (λ k. bytes_eq key k) entries ≡ unless_empty (revisions (kept h key acts))) → IsDistinct bytes_eq (keys_of entries) → length (all_kept entries) ≡ length (retained h acts)
+unfolding named
+kept_counted h acts some counts entries keeps apart =
+    count_named h acts some counts (λ key. true) History entries keeps apart
+    ∙ ap length (filter_all (λ w. true) (retained h acts) (λ w m. refl))
+
 -- the same of the key trie
 pub gathered_are_initial : (h : ℕ) (acts : List Act) → 0 < h → CountsFrom 1 (writes_of acts) → (wants : List ℕ → Bool) (start : Start) (place : List ℕ → ℕ) (es : List (List ℕ × Vec ℕ Global)) → ((key : List ℕ) → lookup (λ k. bytes_eq key k) (kept_entries es) ≡ unless_empty (revisions (kept h key acts))) → Ascends (order (slice_cmp nat_cmp) place 7) es → (xs : List ℕ) → IsPermutation (flat_map (initial_of wants start) es) xs → IsSorted nat_cmp xs → xs ≡ revisions (filter (λ w. wants w.key) (initial h start acts))
 gathered_are_initial h acts some counts wants start place es keeps ascends xs p s =
     sorted_named h acts some counts wants start (kept_entries es) keeps
-    (subst (IsDistinct bytes_eq) (sym (kept_keys es)) (distinct_keys place 7 es ascends))
+    (distinct_kept place es ascends)
     xs (subst (λ l. IsPermutation l xs) (named_kept wants start es) p) s

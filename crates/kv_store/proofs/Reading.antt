@@ -7,16 +7,20 @@ use Rattle.std.proofs.lemmas.Bool.{and_parts, leb-true}
 use Rattle.std.proofs.lemmas.List.{take_more, map-append}
 use Rattle.std.proofs.lemmas.List.Elements.{filter_map-append}
 use Rattle.kv_keys.specs.Matching.{matches}
-use Rattle.kv_model.specs.Acts.{Act, Write, is_put, writes_of}
+use Rattle.kv_model.specs.Acts.{Act, Write, is_put}
+use Rattle.kv_model.specs.declared.options.Start.{Start}
+use Rattle.kv_model.specs.declared.options.Start.TheVariants.{Latest}
 use Rattle.kv_model.specs.Configuration.{Configuration, IsLegal}
+use Rattle.kv_model.specs.Given.{initial}
 use Rattle.kv_model.specs.Reads.{unless_empty, history_of, keys_of, if_put}
-use Rattle.kv_model.specs.Retained.{kept, latest, revisions, is_latest}
+use Rattle.kv_model.specs.Retained.{kept, latest, revisions}
 use Rattle.kv_store.specs.inside.Selected.{key_put}
 use Rattle.kv_store.specs.Standing.{StandsFor}
 use Rattle.kv_store.specs.Stored.{Stored, kept_at, write_at}
-use Rattle.kv_model.proofs.Found.{found, kept_member}
+use Rattle.kv_model.proofs.Found.{write_at_kept}
 use Rattle.kv_model.proofs.Members.{Contains-here, Contains-there, Contains-from_filter, filter-filter}
 use Rattle.kv_model.proofs.Numbered.{counts_from_lawful}
+use Rattle.kv_store.proofs.Selecting.{initial_is_kept}
 
 -- some entry of each key is kept
 pub history_some : (config : Configuration) → IsLegal config → 0 < config.history
@@ -47,9 +51,14 @@ read_more {T} {Y} read f rs i o before after l one all is =
     listed None = refl
     listed (Some t) = refl
 
--- each write is stored of its revision
-pub stored_write : (acts : List Act) (version : Stored) (w : Write) → StandsFor acts version → Contains (writes_of acts) w → write_at w.revision version ≡ Some w
-stored_write acts version w s m = s.written w.revision ∙ found 1 (writes_of acts) w (counts_from_lawful version.config acts s.lawful) m
+-- each kept write is stored of its revision
+pub kept_stored : (acts : List Act) (version : Stored) (key : List ℕ) (w : Write) → StandsFor acts version → Contains (kept version.config.history key acts) w → write_at w.revision version ≡ Some w
+kept_stored acts version key w s m = s.written w.revision ∙ write_at_kept version.config version.config.history key acts w s.lawful m
+
+-- and so is each initial write
+pub initial_stored : (acts : List Act) (version : Stored) (start : Start) (w : Write) → StandsFor acts version → Contains (initial version.config.history start acts) w → write_at w.revision version ≡ Some w
+initial_stored acts version start w s m =
+    kept_stored acts version w.key w s (initial_is_kept version.config.history acts (counts_from_lawful version.config acts s.lawful) (history_some version.config s.legal) start w m)
 
 -- what is found of the revisions of writes
 pub found_of_revisions : {Y : Type 0} (f : ℕ → Option Y) (g : Write → Option Y) (ws : List Write) → ((w : Write) → Contains ws w → f w.revision ≡ g w) → filter_map f (revisions ws) ≡ filter_map g ws
@@ -72,7 +81,7 @@ puts_found (w ∷ ws) =
 pub kept_writes : (acts : List Act) (version : Stored) (key : List ℕ) → StandsFor acts version → filter_map (λ r. write_at r version) (revisions (kept version.config.history key acts)) ≡ kept version.config.history key acts
 kept_writes acts version key s =
     let ws = kept version.config.history key acts in
-    found_of_revisions (λ r. write_at r version) Some ws (λ w m. stored_write acts version w s (kept_member version.config.history key acts w m)) ∙ all_found ws
+    found_of_revisions (λ r. write_at r version) Some ws (λ w m. kept_stored acts version key w s m) ∙ all_found ws
 
 unless_empty-revisions : (ws : List Write) (rs : List ℕ) → unless_empty (revisions ws) ≡ Some rs → (revisions ws ≡ rs) × (unless_empty ws ≡ Some ws)
 unless_empty-revisions [] rs h = cc
@@ -88,9 +97,6 @@ history_there acts version key rs s h =
 pub keys_found : (acts : List Act) (version : Stored) (filtering : List ℕ) → StandsFor acts version → filter_map (λ r. key_put r version) (revisions (filter (λ w. matches filtering w.key) (latest acts))) ≡ keys_of filtering acts
 keys_found acts version filtering s =
     let ws = filter (λ w. matches filtering w.key) (latest acts) in
-    found_of_revisions (λ r. key_put r version) (λ w. option_map (λ (v : Write). v.key) (if_put w)) ws (λ w m. ap (λ o. option_map (λ (v : Write). v.key) (option_and_then if_put o)) (stored_write acts version w s (written w m)))
+    found_of_revisions (λ r. key_put r version) (λ w. option_map (λ (v : Write). v.key) (if_put w)) ws (λ w m. ap (λ o. option_map (λ (v : Write). v.key) (option_and_then if_put o)) (initial_stored acts version Latest w s (Contains-from_filter (λ v. matches filtering v.key) (latest acts) w m).0))
     ∙ puts_found ws
     ∙ ap (map (λ (w : Write). w.key)) (filter-filter (λ w. is_put w.op) (λ w. matches filtering w.key) (latest acts))
-  where
-    written : (w : Write) → Contains (filter (λ v. matches filtering v.key) (latest acts)) w → Contains (writes_of acts) w
-    written w m = (Contains-from_filter (is_latest acts) (writes_of acts) w (Contains-from_filter (λ v. matches filtering v.key) (latest acts) w m).0).0

@@ -1,6 +1,7 @@
 -- The initial writes are those that the kept revisions of the keys name.
 use Rattle.std.proofs.Common.{◌≡◌, ℕ, ◌<◌, Bool, true, false, cond, ◌&&◌, ◌||◌, ◌==◌, List, [], ◌∷◌, Option, Some, None, filter, refl, sym, subst, ap, ◌∙◌, suc, inl, inr, ◌⊎◌, ⊎_elim, arith}
 use Rattle.std.specs.Prelude.{nat_le, ◌↔◌}
+use Rattle.std.proofs.lemmas.Bool.{eqb-true}
 use Rattle.std.proofs.lemmas.Slice.Eq.{bytes_eq-Decides}
 use Rattle.std.specs.List.{Contains, last_or, list_any}
 use Rattle.std.specs.List.Sorted.{IsStrictlyIncreasing}
@@ -13,7 +14,7 @@ use Rattle.kv_model.specs.Acts.{Act, Write, writes_of}
 use Rattle.kv_model.specs.Retained.{writes_of_key, last_write, since_purge, kept, revisions, is_kept, is_latest, retained, latest}
 use Rattle.kv_model.specs.Given.{initial}
 use Rattle.kv_store.specs.inside.Selected.{initial_revisions}
-use Rattle.kv_model.proofs.Found.{not_below}
+use Rattle.kv_model.proofs.Found.{kept_member, last_contained, last_write-kept, not_below}
 use Rattle.kv_model.proofs.Keeping.{retained_of_key}
 use Rattle.kv_model.proofs.Lasts.{last_n_one, last_or-since_purge, last_or-last_n, last_or-map}
 use Rattle.kv_model.proofs.Members.{Contains-cases, Contains-none, Contains-filter, Contains-from_filter, filter-filter}
@@ -123,6 +124,21 @@ module _ (h : ℕ) (acts : List Act) (counts : CountsFrom 1 (writes_of acts)) wh
   kept_is_retained key w m =
       let passes = Contains-from_filter (λ v. bytes_eq v.key key) (retained h acts) w (subst (λ ws. Contains ws w) (sym (retained_of_key h key acts counts)) m) in
       (passes.0, (bytes_eq-Decides w.key key).0 passes.1)
+
+  -- an initial write is kept of its key
+  pub initial_is_kept : 0 < h → (start : Start) (w : Write) → Contains (initial h start acts) w → Contains (kept h w.key acts) w
+  initial_is_kept some Latest w m =
+      let both = Contains-from_filter (is_latest acts) (writes_of acts) w m in by_last (last_write w.key acts) refl both.0 both.1
+    where
+      by_last : (o : Option Write) → last_write w.key acts ≡ o → Contains (writes_of acts) w → option_map_or (λ v. v.revision == w.revision) o false ≡ true → Contains (kept h w.key acts) w
+      by_last None e written t = cc
+      by_last (Some v) e written t =
+          let there : Contains (kept h w.key acts) v = last_contained (kept h w.key acts) v (sym (last_write-kept h w.key acts some) ∙ e) in
+          let same = one_write 1 (writes_of acts) v w counts (kept_member h w.key acts v there) written (eqb-true v.revision w.revision t) in
+          subst (λ u. Contains (kept h w.key acts) u) same there
+  initial_is_kept some Updates w m = absurd (Contains-none w m)
+  initial_is_kept some History w m = retained_is_kept w m
+  initial_is_kept some (From first) w m = retained_is_kept w (Contains-from_filter (λ v. nat_le first v.revision) (retained h acts) w m).0
 
   -- the test of a write says whether it is kept of its key
   pub is_kept_stands : (w : Write) → Contains (writes_of acts) w → (is_kept h acts w ≡ true) ↔ Contains (kept h w.key acts) w

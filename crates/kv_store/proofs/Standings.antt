@@ -1,6 +1,6 @@
 -- Which acts a version stands for once one more is accepted, and what it stores of a key.
-use Rattle.std.proofs.Common.{◌≡◌, ℕ, suc, ◌+◌, ◌-◌, ◌<◌, ◌≤◌, Bool, true, false, cond, ◌==◌, List, [], ◌∷◌, ◌++◌, Some, None, Result, Ok, unwrap_or, length, refl, sym, subst, ap, ◌∙◌, arith, append_assoc, append-nil, length-append, length-drop}
-use Rattle.std.specs.List.{find, last_or}
+use Rattle.std.proofs.Common.{◌≡◌, ℕ, ◌+◌, ◌-◌, ◌<◌, ◌≤◌, Bool, true, false, cond, ◌==◌, List, [], ◌∷◌, ◌++◌, Some, None, Result, Ok, unwrap_or, length, refl, sym, subst, ap, ◌∙◌, arith, append_assoc, append-nil, length-append, length-drop}
+use Rattle.std.specs.List.{Contains, find, last_or}
 use Rattle.std.specs.Str.{bytes_eq}
 use Rattle.std.proofs.lemmas.Bool.{eqb-true}
 use Rattle.std.proofs.lemmas.Bool.Decides.{nat_tests}
@@ -9,10 +9,11 @@ use Rattle.std.proofs.lemmas.Slice.Eq.{bytes_eq-Decides}
 use Rattle.kv_keys.specs.Grammar.{is_key}
 use Rattle.kv_keys.specs.declared.error.KvError.{KvError}
 use Rattle.kv_model.specs.Acceptance.{accept, next_write, IsAccepted, IsLawful, LawfulFrom}
-use Rattle.kv_model.specs.Acts.{Act, Wrote, Seal, Write, is_purge, is_sealed, writes_of}
+use Rattle.kv_model.specs.Acts.{Act, Wrote, Seal, Compact, Write, is_purge, is_sealed, writes_of}
+use Rattle.kv_model.specs.Compaction.{is_stored, stored_writes}
 use Rattle.kv_model.specs.Configuration.{Configuration, IsLegal}
 use Rattle.kv_store.specs.inside.Next.{HasOneMore, kept_after, kept_before, next_kept}
-use Rattle.kv_model.specs.Reads.{unless_empty}
+use Rattle.kv_model.specs.Reads.{unless_empty, write_at_of}
 use Rattle.kv_model.specs.Requests.{Asked, key_of, op_of, value_of}
 use Rattle.kv_model.specs.Retained.{kept, last_n, last_revision, retained, revisions}
 use Rattle.kv_store.specs.Standing.{StandsFor}
@@ -20,7 +21,10 @@ use Rattle.kv_store.specs.Stored.{Stored, kept_at}
 use Rattle.kv_model.specs.declared.write.Op.{Op}
 use Rattle.kv_model.proofs.Found.{last_revision-kept, or_empty, unless_empty-long, unless_empty-none, unless_empty-some}
 use Rattle.kv_model.proofs.Keeping.{kept_other, kept_revisions_same, kept_seal, retained_count, retained_seal}
-use Rattle.kv_model.proofs.Numbered.{CountsFrom, accepted_is_next, counts_from_lawful, writes_of-seal, writes_of-wrote}
+use Rattle.kv_model.proofs.Members.{Contains-here, Contains-map, Contains-there}
+use Rattle.kv_model.proofs.Numbered.{accepted_is_next, counts_from_lawful, rises_counted, writes_of-seal, writes_of-wrote}
+use Rattle.kv_model.proofs.Rising.{Rises-members}
+use Rattle.kv_model.proofs.Storing.{floor_of-seal, floor_of-wrote, stored-push}
 
 -- ---- acts
 
@@ -38,11 +42,19 @@ pub is_sealed-seal : (acts : List Act) → is_sealed (acts ++ Seal ∷ []) ≡ t
 is_sealed-seal [] = refl
 is_sealed-seal (Wrote w ∷ acts) = is_sealed-seal acts
 is_sealed-seal (Seal ∷ acts) = refl
+is_sealed-seal (Compact floor ∷ acts) = is_sealed-seal acts
 
 pub is_sealed-wrote : (acts : List Act) (w : Write) → is_sealed (acts ++ Wrote w ∷ []) ≡ is_sealed acts
 is_sealed-wrote [] w = refl
 is_sealed-wrote (Wrote v ∷ acts) w = is_sealed-wrote acts w
 is_sealed-wrote (Seal ∷ acts) w = refl
+is_sealed-wrote (Compact floor ∷ acts) w = is_sealed-wrote acts w
+
+pub is_sealed-compact : (acts : List Act) (floor : ℕ) → is_sealed (acts ++ Compact floor ∷ []) ≡ is_sealed acts
+is_sealed-compact [] floor = refl
+is_sealed-compact (Wrote v ∷ acts) floor = is_sealed-compact acts floor
+is_sealed-compact (Seal ∷ acts) floor = refl
+is_sealed-compact (Compact f ∷ acts) floor = is_sealed-compact acts floor
 
 -- ---- what is stored of a key
 
@@ -75,22 +87,23 @@ stands_for_seal acts version s =
       legal = s.legal;
       lawful = lawful-push version.config acts Seal s.lawful tt;
       last = s.last ∙ ap length (sym (writes_of-seal acts));
-      written = λ r. s.written r ∙ ap (find (λ (w : Write). w.revision == r)) (sym (writes_of-seal acts));
+      written = λ r. s.written r ∙ ap (find (λ (w : Write). w.revision == r)) (sym (stored-push version.config h acts Seal s.lawful tt));
       kept = λ key. s.kept key ∙ ap (λ ws. unless_empty (revisions ws)) (sym (kept_seal h key acts));
       values = s.values ∙ ap length (sym (retained_seal h acts));
+      floor = s.floor ∙ sym (floor_of-seal acts);
       sealed = sym (is_sealed-seal acts);
     }
 
 -- ---- a write
 
-find-push : (n r : ℕ) (ws : List Write) (w : Write) → CountsFrom n ws → w.revision ≡ n + length ws → find (λ v. v.revision == r) (ws ++ w ∷ []) ≡ cond (w.revision == r) (Some w) (find (λ v. v.revision == r) ws)
-find-push n r [] w h e = refl
-find-push n r (v ∷ ws) w h e =
-    ap (cond (v.revision == r) (Some v)) (find-push (suc n) r ws w h.1 (omega (arith, e)))
+find-push : (r : ℕ) (ws : List Write) (w : Write) → ((v : Write) → Contains ws v → v.revision < w.revision) → find (λ v. v.revision == r) (ws ++ w ∷ []) ≡ cond (w.revision == r) (Some w) (find (λ v. v.revision == r) ws)
+find-push r [] w h = refl
+find-push r (v ∷ ws) w h =
+    ap (cond (v.revision == r) (Some v)) (find-push r ws w (λ u m. h u (Contains-there v ws u m)))
     ∙ in_turn (v.revision == r) refl (w.revision == r) refl
   where
     in_turn : (a : Bool) → (v.revision == r) ≡ a → (b : Bool) → (w.revision == r) ≡ b → cond a (Some v) (cond b (Some w) (find (λ u. u.revision == r) ws)) ≡ cond b (Some w) (cond a (Some v) (find (λ u. u.revision == r) ws))
-    in_turn true p true q = absurd (omega (arith, h.0, e, eqb-true v.revision r p, eqb-true w.revision r q))
+    in_turn true p true q = absurd (omega (arith, h v (Contains-here v ws), eqb-true v.revision r p, eqb-true w.revision r q))
     in_turn true p false q = refl
     in_turn false p b q = refl
 
@@ -112,6 +125,13 @@ module _ (acts : List Act) (old new : Stored) (w : Write) (s : StandsFor acts ol
   counted : w.revision ≡ 1 + length (writes_of acts)
   counted =
       omega (arith, ap (λ (v : Write). v.revision) (sym (accepted_is_next old.config accepted.0 acts w accepted.1.1)))
+
+  -- the stored writes have lesser revisions
+  before_it : (v : Write) → Contains (stored_writes old.config.history acts) v → v.revision < w.revision
+  before_it v m =
+      let among = Contains-map (λ (u : Write). u.revision) (stored_writes old.config.history acts) v m in
+      let small = (Rises-members 1 (1 + length (writes_of acts)) (revisions (stored_writes old.config.history acts)) v.revision (rises_counted (is_stored old.config.history acts) 1 (writes_of acts) (counts_from_lawful old.config acts s.lawful)) among).1 in
+      omega (arith, small, counted)
 
   length_after : length (writes_of (acts ++ Wrote w ∷ [])) ≡ length (writes_of acts) + 1
   length_after = omega (arith, ap length (writes_of-wrote acts w), length-append (writes_of acts) (w ∷ []))
@@ -145,12 +165,14 @@ module _ (acts : List Act) (old new : Stored) (w : Write) (s : StandsFor acts ol
     written = λ r.
         more.written r
         ∙ ap (cond (w.revision == r) (Some w)) (s.written r)
-        ∙ sym (ap (find (λ (v : Write). v.revision == r)) (writes_of-wrote acts w) ∙ find-push 1 r (writes_of acts) w (counts_from_lawful old.config acts s.lawful) counted);
+        ∙ sym (ap (find (λ (v : Write). v.revision == r)) (stored-push old.config old.config.history acts (Wrote w) s.lawful accepted) ∙ find-push r (stored_writes old.config.history acts) w before_it)
+        ∙ ap (λ (c : Configuration). write_at_of c.history r (acts ++ Wrote w ∷ [])) (sym more.config);
     kept = λ key.
         more.kept key
         ∙ kept_of key (bytes_eq w.key key) refl
         ∙ ap (λ (c : Configuration). unless_empty (revisions (kept c.history key (acts ++ Wrote w ∷ [])))) (sym more.config);
     values = values_after ∙ ap (λ (c : Configuration). length (retained c.history (acts ++ Wrote w ∷ []))) (sym more.config);
+    floor = more.floor ∙ s.floor ∙ sym (floor_of-wrote acts w);
     sealed = more.sealed ∙ s.sealed ∙ sym (is_sealed-wrote acts w);
   }
 

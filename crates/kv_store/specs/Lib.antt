@@ -1,3 +1,4 @@
+pub mod Asked
 pub mod Standing
 pub mod Stored
 pub mod inside

@@ -12,6 +12,7 @@ pub record Stored : Type 0 where
   pub by_revision : List (ℕ × Write)
   pub last : ℕ
   pub values : ℕ
+  pub floor : ℕ
   pub sealed : Bool
 
 -- the revisions that are stored of a key

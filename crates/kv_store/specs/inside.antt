@@ -1,4 +1,5 @@
 pub mod Bounds
+pub mod Compacted
 pub mod Fields
 pub mod Next
 pub mod Putting

@@ -82,12 +82,12 @@ impl Version {
         }
     }
 
-    // Every accepted write is stored, so the last revision is also the number of stored writes.
+    // The stored writes fill the journal, or the accepted ones have used up its revisions.
     fn is_full(&self) -> bool
         ensures full { (acts : List Act) → StandsFor acts self.now → result ≡ is_full self.now.config acts }
         ensures room { result ≡ false → self.now.last < self.now.config.revision_limit }
     {
-        self.last >= self.write_limit || self.last >= self.revision_limit
+        self.stored() >= self.write_limit || self.last >= self.revision_limit
     }
 
     // Why the key does not allow the request.

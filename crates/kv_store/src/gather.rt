@@ -11,9 +11,10 @@ ghost use Rattle.kv_trie.specs.Form.{Ascends, order};
 ghost use Rattle.kv_model.specs.Acts.{Act};
 ghost use Rattle.kv_model.specs.Retained.{revisions};
 ghost use Rattle.kv_model.specs.Given.{initial};
-ghost use Rattle.kv_store.specs.inside.Selected.{initial_revisions, initial_of};
+ghost use Rattle.kv_store.specs.inside.Selected.{initial_revisions, initial_at, initial_of};
 ghost use Rattle.kv_store.specs.Standing.{StandsFor};
 
+use crate::left::kept_of;
 use crate::version::Version;
 use crate::wanted::Wanted;
 use kv_keys::{Key, KvError};
@@ -75,7 +76,62 @@ impl<'w, W: Wanted> Visit<Key, Vec<u64>> for Gather<'w, W> {
     }
 }
 
-// The revisions of wanted keys that a watch begins with, in order.
+// The revisions of wanted keys that a watch begins with, by a look at each key.
+fn walked<W: Wanted>(
+    alloc: Global,
+    by_key: &Trie<Key, Vec<u64>>,
+    wanted: &W,
+    start: Start,
+) -> Result<Vec<u64>, KvError>
+    ensures same { IfOk result
+        (λ found. found.items ≡ flat_map (initial_of (W.wants_key wanted.now) start) by_key.now) }
+    ensures err { IfErr result (λ error. error ≡ OutOfMemory) }
+{
+    let mut gather = Gather {
+        wanted,
+        start,
+        found: Vec::new(alloc),
+    };
+    by_key.each(&mut gather)?;
+    Ok(gather.found)
+}
+
+// The revisions of these keys that a watch begins with, by one look-up for each key.
+fn looked_up(
+    alloc: Global,
+    by_key: &Trie<Key, Vec<u64>>,
+    keys: &[Key],
+    start: Start,
+) -> Result<Vec<u64>, KvError>
+    ensures same { IfOk result (λ found. found.items ≡ flat_map (initial_at start by_key.now) keys.now) }
+    ensures err { IfErr result (λ error. error ≡ OutOfMemory) }
+{
+    let mut found = Vec::new(alloc);
+    for key in keys {
+        add_selected(&mut found, start, kept_of(by_key, key))?;
+    }
+    Ok(found)
+}
+
+// The revisions of wanted keys that a watch begins with, in any order.
+fn found_of<W: Wanted>(
+    alloc: Global,
+    by_key: &Trie<Key, Vec<u64>>,
+    wanted: &W,
+    start: Start,
+) -> Result<Vec<u64>, KvError>
+    requires { Ascends (order (slice_cmp nat_cmp) fnv32_of 7) by_key.now }
+    ensures same { IfOk result
+        (λ found. IsPermutation (flat_map (initial_of (W.wants_key wanted.now) start) by_key.now) found.items) }
+    ensures err { IfErr result (λ error. error ≡ OutOfMemory) }
+{
+    match wanted.literals(alloc)? {
+        Some(keys) => looked_up(alloc, by_key, &keys, start),
+        None => walked(alloc, by_key, wanted, start),
+    }
+}
+
+// The revisions of wanted keys that a watch begins with, in order. Where there is no key, none is made.
 fn selected_revisions_of<W: Wanted>(
     alloc: Global,
     by_key: &Trie<Key, Vec<u64>>,
@@ -88,20 +144,18 @@ fn selected_revisions_of<W: Wanted>(
     ensures sorted { IfOk result (λ found. IsSorted nat_cmp found.items) }
     ensures err { IfErr result (λ error. error ≡ OutOfMemory) }
 {
-    let mut gather = Gather {
-        wanted,
-        start,
-        found: Vec::new(alloc),
-    };
-    by_key.each(&mut gather)?;
-    let mut found = gather.found;
+    if by_key.len() == 0 {
+        return Ok(Vec::new(alloc));
+    }
+    let mut found = found_of(alloc, by_key, wanted, start)?;
     found.sort_unstable();
     Ok(found)
 }
 
 impl Version {
-    /// The revisions of the entries whose keys are wanted and that a watch with this start begins with, in order. It
-    /// looks at each key once, and sorts what it takes of the wanted ones.
+    /// The revisions of the entries whose keys are wanted and that a watch with this start begins with, in order. Keys
+    /// that are wanted by name are looked up, each once; else it looks at each key of the bucket. It sorts what it
+    /// takes of the wanted ones.
     pub fn revisions_where<W: Wanted>(
         &self,
         alloc: Global,

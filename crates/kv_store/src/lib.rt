@@ -4,10 +4,13 @@
 
 mod accept;
 mod apply;
+mod compacting;
 mod entries;
 mod gather;
 mod kept;
+mod left;
 mod listed;
+mod literal;
 mod put;
 mod reads;
 mod rev;

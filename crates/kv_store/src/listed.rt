@@ -44,8 +44,9 @@ impl Version {
         Ok(found)
     }
 
-    /// The keys that match and whose latest entry is a put, in the order of those puts' revisions. It looks at each
-    /// key once, sorts the latest revisions of those that match, and looks up one write for each.
+    /// The keys that match and whose latest entry is a put, in the order of those puts' revisions. It looks up the key
+    /// of a filter without a wildcard, and else looks at each key once, sorts the latest revisions of those that match,
+    /// and looks up one write for each.
     pub fn keys(&self, alloc: Global, filter: &Filter) -> Result<Vec<&Key>, KvError>
         ensures ok { IfOk result
             (λ found. (acts : List Act) → StandsFor acts self.now →

@@ -1,10 +1,11 @@
 //! Reads of a version that take no memory.
 
-ghost use Rattle.std.specs.Prelude.{◌≡◌, ℕ, ◌==◌, List, [], unwrap_or, IfErr, MatchResult};
+ghost use Rattle.std.specs.Prelude.{◌≡◌, ℕ, ◌==◌, List, [], length, unwrap_or, IfErr, MatchResult};
 ghost use Rattle.std.specs.List.{find, list_any};
 ghost use Rattle.std.specs.Option.{option_and_then, option_copied};
 ghost use Rattle.kv_keys.specs.declared.error.KvError.TheVariants.{KeyNotFound};
 ghost use Rattle.kv_model.specs.Acts.{Act};
+ghost use Rattle.kv_model.specs.Compaction.{stored_writes};
 ghost use Rattle.kv_store.specs.inside.Next.{kept_before};
 ghost use Rattle.kv_model.specs.Reads.{get_at_of, get_of, if_put, status_of};
 ghost use Rattle.kv_model.specs.Retained.{kept};
@@ -32,6 +33,15 @@ fn if_put(write: Option<&Write>) -> Result<&Write, KvError>
 }
 
 impl Version {
+    // How many writes are stored.
+    pub(crate) fn stored(&self) -> u64
+        ensures value { result ≡ length self.now.by_revision }
+        ensures acts { (acts : List Act) → StandsFor acts self.now →
+            result ≡ length (stored_writes self.now.config.history acts) }
+    {
+        self.by_revision.len()
+    }
+
     /// The history bound, the last revision, whether writes have ended, and how many writes are stored and how many
     /// entries retained. Nothing is walked.
     pub fn status(&self) -> Status
@@ -39,7 +49,7 @@ impl Version {
           history = self.now.config.history;
           last = self.now.last;
           sealed = self.now.sealed;
-          stored = self.now.last;
+          stored = length self.now.by_revision;
           values = self.now.values;
         } }
         ensures acts { (acts : List Act) → StandsFor acts self.now → result ≡ status_of self.now.config.history acts }
@@ -48,7 +58,7 @@ impl Version {
             history: self.history,
             last: self.last,
             sealed: self.sealed,
-            stored: self.last,
+            stored: self.stored(),
             values: self.values,
         }
     }

@@ -6,7 +6,7 @@ ghost use Rattle.std.specs.Option.{option_copied};
 ghost use Rattle.std.specs.Str.{bytes_eq};
 ghost use Rattle.kv_keys.specs.Outcome.{Refuses};
 ghost use Rattle.kv_keys.specs.declared.error.KvError.TheVariants.{OutOfMemory};
-ghost use Rattle.kv_model.specs.Acts.{Act, Seal, is_sealed, writes_of};
+ghost use Rattle.kv_model.specs.Acts.{Act, Seal, floor_of, is_sealed, writes_of};
 ghost use Rattle.kv_model.specs.Configuration.{configure};
 ghost use Rattle.kv_model.specs.Reads.{unless_empty, write_at_of};
 ghost use Rattle.kv_model.specs.Retained.{kept, revisions};
@@ -21,8 +21,8 @@ use std::alloc::Global;
 use std::marker::Model;
 use std::sync::Arc;
 
-/// A version of a bucket. `apply` and `seal` make another one, which shares what both have, and leave this one as it
-/// is; `write` changes this one, and no other.
+/// A version of a bucket. `apply`, `seal` and `compact` make another one, which shares what both have, and leave this
+/// one as it is; `write` and `compact_in_place` change this one, and no other.
 ///
 /// Contracts see what it stores, and say which lists of accepted acts that stands for.
 #[derive(Drop)]
@@ -36,6 +36,7 @@ pub struct Version {
     pub(crate) by_revision: Trie<Rev, Write>,
     pub(crate) last: u64,
     pub(crate) values: u64,
+    pub(crate) floor: u64,
     pub(crate) sealed: bool,
 }
 
@@ -74,6 +75,7 @@ impl Version {
             by_revision: Trie::new(),
             last: 0,
             values: 0,
+            floor: 0,
             sealed: false,
         })
     }
@@ -83,13 +85,13 @@ impl Version {
         &self,
         by_key: Trie<Key, Vec<u64>>,
         by_revision: Trie<Rev, Write>,
-        last: u64,
         values: u64,
+        floor: u64,
         sealed: bool,
     ) -> Result<Version, KvError>
-        requires { IsBounded (record self.now { by_key = kept_entries by_key; by_revision = by_revision; last = last; values = values; sealed = sealed }) }
+        requires { IsBounded (record self.now { by_key = kept_entries by_key; by_revision = by_revision; values = values; floor = floor; sealed = sealed }) }
         ensures ok { IfOk result (λ version. version ≡
-            record self.now { by_key = kept_entries by_key; by_revision = by_revision; last = last; values = values; sealed = sealed }) }
+            record self.now { by_key = kept_entries by_key; by_revision = by_revision; values = values; floor = floor; sealed = sealed }) }
         ensures err { IfErr result (λ e. e ≡ OutOfMemory) }
     {
         Ok(Version {
@@ -100,8 +102,9 @@ impl Version {
             revision_limit: self.revision_limit,
             by_key,
             by_revision,
-            last,
+            last: self.last,
             values,
+            floor,
             sealed,
         })
     }
@@ -113,7 +116,7 @@ impl Version {
     {
         let by_key = self.by_key.snapshot()?;
         let by_revision = self.by_revision.snapshot()?;
-        let version = self.with_parts(by_key, by_revision, self.last, self.values, sealed)?;
+        let version = self.with_parts(by_key, by_revision, self.values, self.floor, sealed)?;
         Ok(version)
     }
 
@@ -153,6 +156,14 @@ impl Version {
         self.last
     }
 
+    /// The floor of the last compaction, 0 where there was none.
+    pub fn floor(&self) -> u64
+        ensures value { result ≡ self.now.floor }
+        ensures acts { (acts : List Act) → StandsFor acts self.now → result ≡ floor_of acts }
+    {
+        self.floor
+    }
+
     /// Whether writes have ended.
     pub fn sealed(&self) -> bool
         ensures value { result ≡ self.now.sealed }
@@ -175,7 +186,7 @@ impl Version {
     pub fn by_revision(&self) -> &Trie<Rev, Write>
         ensures value { result.now ≡ self.now.by_revision }
         ensures acts { (acts : List Act) → StandsFor acts self.now → (revision : ℕ) →
-            lookup (λ r. revision == r) result.now ≡ write_at_of revision acts }
+            lookup (λ r. revision == r) result.now ≡ write_at_of self.now.config.history revision acts }
     {
         &self.by_revision
     }
@@ -193,7 +204,8 @@ impl Version {
     /// The write that is stored of the revision, retained or not. It takes no memory.
     pub fn write_at(&self, revision: u64) -> Option<&Write>
         ensures value { option_copied result ≡ write_at revision self.now }
-        ensures acts { (acts : List Act) → StandsFor acts self.now → option_copied result ≡ write_at_of revision acts }
+        ensures acts { (acts : List Act) → StandsFor acts self.now →
+            option_copied result ≡ write_at_of self.now.config.history revision acts }
     {
         if revision > self.last {
             return None;

@@ -1,9 +1,13 @@
 //! Which keys are asked for.
 
-ghost use Rattle.std.specs.Prelude.{◌≡◌, ℕ, Bool, List};
+ghost use Rattle.std.specs.Prelude.{◌≡◌, ℕ, Bool, List, IfErr, IfOk, IfSome};
+ghost use Rattle.kv_keys.specs.declared.error.KvError.TheVariants.{OutOfMemory};
 ghost use Rattle.kv_keys.specs.Matching.{matches, any_matches};
+ghost use Rattle.kv_store.specs.Asked.{AreAsked};
 
-use kv_keys::{Filter, Filters, Key};
+use crate::literal::literals;
+use kv_keys::{Filter, Filters, Key, KvError};
+use std::alloc::Global;
 
 /// A test of keys.
 pub trait Wanted {
@@ -12,6 +16,12 @@ pub trait Wanted {
     /// Whether the key is asked for.
     fn wants(&self, key: &Key) -> bool
         ensures { result ≡ wants_key self.now key.now };
+
+    /// The keys that are asked for, each once, where each is asked for by its name; `None` tells nothing of them. It
+    /// makes each key with one request for memory.
+    fn literals(&self, alloc: Global) -> Result<Option<Vec<Key>>, KvError>
+        ensures asked { IfOk result (λ keys. IfSome keys (λ keys. AreAsked (wants_key self.now) keys.items)) }
+        ensures err { IfErr result (λ error. error ≡ OutOfMemory) };
 }
 
 impl Wanted for Filter {
@@ -20,6 +30,10 @@ impl Wanted for Filter {
     fn wants(&self, key: &Key) -> bool {
         Filter::matches(self, key)
     }
+
+    fn literals(&self, alloc: Global) -> Result<Option<Vec<Key>>, KvError> {
+        literals(alloc, self.as_str())
+    }
 }
 
 impl Wanted for Filters {
@@ -27,5 +41,9 @@ impl Wanted for Filters {
 
     fn wants(&self, key: &Key) -> bool {
         Filters::matches(self, key)
+    }
+
+    fn literals(&self, alloc: Global) -> Result<Option<Vec<Key>>, KvError> {
+        literals(alloc, self.as_str())
     }
 }

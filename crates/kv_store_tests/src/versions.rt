@@ -8,6 +8,7 @@ use std::alloc::Global;
 use std::process::Abort;
 use std::test::Fail;
 
+mod compacted;
 mod configuration;
 mod in_place;
 mod limits;

@@ -9,6 +9,7 @@ use std::alloc::Global;
 use std::process::Abort;
 use std::test::Fail;
 
+mod compacted;
 mod driving;
 mod flags;
 mod rows;
@@ -163,8 +164,8 @@ fn open_on(
 // The next item, which `peek` says before, and by which `handed` grows.
 fn step(rt: &impl Abort, cursor: &mut Cursor, base: &Version, now: &Version) -> Option<Event> {
     let handed = cursor.handed();
-    let next = cursor.peek(base, now).event();
-    let taken = cursor.take(base, now).event();
+    let next = cursor.peek(Some(base), now).event();
+    let taken = cursor.take(Some(base), now).event();
     assert_eq!(rt; next, taken);
     assert_eq!(rt; cursor.handed() == handed, taken.is_none());
     taken

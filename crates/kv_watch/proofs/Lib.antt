@@ -1,5 +1,7 @@
 pub mod Lists
 pub mod Opening
+pub mod Owing
 pub mod Placing
 pub mod SlowSteps
 pub mod Walks
+pub mod Reaching

@@ -1,8 +1,9 @@
 -- What is owed at the opening, and that a cursor is in place there.
-use Rattle.std.proofs.Common.{◌≡◌, ℕ, suc, ◌+◌, ◌-◌, ◌≤◌, Bool, true, false, cond, not, List, [], ◌∷◌, ◌++◌, Some, None, unwrap_or, length, take, drop, filter, refl, sym, ap, ◌∙◌, subst, arith, add-one, append-nil, append_assoc, length-append}
+use Rattle.std.proofs.Common.{◌≡◌, ℕ, suc, ◌+◌, ◌-◌, ◌≤◌, Bool, true, false, cond, not, List, [], ◌∷◌, ◌++◌, Some, None, unwrap_or, length, take, drop, filter, refl, sym, ap, ◌∙◌, arith, add-one, append-nil, append_assoc, length-append}
 use Rattle.std.specs.List.{Contains, last_or, cons_option}
 use Rattle.std.specs.Option.{option_map_or}
 use Rattle.std.proofs.lemmas.List.{drop-append-le, take-append-le}
+use Rattle.kv_keys.specs.Matching.{any_matches}
 use Rattle.kv_model.specs.Acts.{Act, Write, IsPrefix, writes_of, is_put}
 use Rattle.kv_model.specs.Retained.{revisions}
 use Rattle.kv_store.specs.Standing.{StandsFor}
@@ -14,8 +15,9 @@ use Rattle.kv_model.specs.declared.options.Start.{Start}
 use Rattle.kv_watch.specs.Following.{Following, InPlace, marker_if, shown_behind, one_more, given_to, live_to}
 use Rattle.kv_model.specs.Given.{AnEntry, entry_of, matching, all_shown, initial, ending, given, item_revisions}
 use Rattle.kv_watch.specs.inside.Showing.{is_put_at}
-use Rattle.kv_model.proofs.GivenLaws.{matching_initial, given-append, live-append, all_shown-matching-append, no_fewer_writes}
-use Rattle.kv_watch.proofs.Placing.{found_in, few_writes}
+use Rattle.kv_model.proofs.GivenLaws.{given-append, live-append, all_shown-matching-append, no_fewer_writes}
+use Rattle.kv_store.proofs.Reading.{initial_stored}
+use Rattle.kv_watch.proofs.Placing.{few_writes}
 use Rattle.kv_watch.proofs.Walks.{counts, behind_counted}
 
 -- ---- what is owed
@@ -46,7 +48,7 @@ pub owed_shown : (acts : List Act) (base : Stored) → StandsFor acts base → (
     → let ws = matching filters (initial base.config.history start acts) in
     cond ignore_deletes (filter (is_put_at base) (revisions ws)) (revisions ws) ≡ item_revisions (all_shown (record { start = start; ignore_deletes = ignore_deletes; headers_only = headers_only }) ws)
 owed_shown acts base s filters start true headers_only =
-    puts_shown base start headers_only (matching filters (initial base.config.history start acts)) (λ w m. s.written w.revision ∙ found_in acts (counts acts base s) w (Contains-from_filter _ (writes_of acts) w (subst (λ ws. Contains ws w) (matching_initial base.config.history start acts filters) m)).0)
+    puts_shown base start headers_only (matching filters (initial base.config.history start acts)) (λ w m. initial_stored acts base start w s (Contains-from_filter (λ v. any_matches filters v.key) (initial base.config.history start acts) w m).0)
 owed_shown acts base s filters start false headers_only = all_revisions start headers_only (matching filters (initial base.config.history start acts))
 
 -- ---- in place at the opening
@@ -70,6 +72,7 @@ opened acts base s filters options owed marker seen next o m e x =
       owed = o;
       marker = m ∙ ap (λ k. drop k (ending options.start)) (sym none₁);
       left = ap (λ ws. all_shown options (matching filters ws)) (behind_counted seen (writes_of acts) (counts acts base s) ∙ ap (λ k. drop k (writes_of acts)) e) ∙ ap (λ k. drop k lives) (sym none₂);
+      begun = omega (arith, e);
       seen = omega (arith, e);
       next = x ∙ one_within seen (omega (arith, e, few_writes acts base s)) ∙ add-one seen ∙ ap suc e ∙ sym (ap (λ k. suc (unwrap_or (last_or None (item_revisions (take k lives))) (length (writes_of acts)))) none₂);
     }
@@ -110,6 +113,7 @@ in_place_later n began acts later base now newer cursor at s same p =
           ∙ all_shown-matching-append options filters (drop cursor.seen (writes_of acts)) (writes_of p.0)
           ∙ ap (λ xs. xs ++ more) (sym before ∙ at.left)
           ∙ sym (ap (drop m) lives ∙ drop-append-le m (live_to began acts cursor) more inside);
+      begun = at.begun;
       seen = omega (arith, at.seen, no_fewer_writes acts later p);
       next = at.next ∙ sym (ap (λ xs. suc (unwrap_or (last_or None (item_revisions xs)) (length (writes_of began)))) (ap (take m) lives ∙ take-append-le m (live_to began acts cursor) more inside));
     }

@@ -6,18 +6,22 @@ use Rattle.std.specs.Option.{option_len, option_map}
 use Rattle.std.proofs.lemmas.Bool.{and_parts, leb-true, leb-false}
 use Rattle.std.proofs.lemmas.List.{drop_all, reverse-append}
 use Rattle.std.proofs.lemmas.List.Elements.{filter_map-append}
-use Rattle.std.proofs.lemmas.Option.{slice_get-get_or, slice_get_within}
+use Rattle.std.proofs.lemmas.Option.{slice_get_within}
 use Rattle.kv_keys.specs.Matching.{any_matches}
 use Rattle.kv_keys.specs.declared.error.KvError.TheVariants.{ValueTooLarge, Sealed, JournalFull}
 use Rattle.kv_model.specs.Requests.{Asked, value_of}
-use Rattle.kv_model.specs.Acceptance.{LawfulFrom, accept, is_full, objection, next_write, unless}
-use Rattle.kv_model.specs.Acts.{Act, Wrote, Seal, Write, IsPrefix, writes_of, is_put, is_sealed, stored_writes}
-use Rattle.kv_model.specs.Configuration.{Configuration}
+use Rattle.kv_model.specs.Acceptance.{IsLawful, LawfulFrom, accept, is_full, objection, next_write, unless}
+use Rattle.kv_model.specs.Acts.{Act, Wrote, Seal, Compact, Write, IsPrefix, writes_of, is_put, is_sealed}
+use Rattle.kv_model.specs.Compaction.{stored_writes}
+use Rattle.kv_model.specs.Configuration.{Configuration, IsLegal}
 use Rattle.kv_model.specs.Reads.{write_at_of}
 use Rattle.kv_store.specs.Standing.{StandsFor}
 use Rattle.kv_store.specs.Stored.{Stored, write_at}
 use Rattle.kv_model.proofs.Members.{Contains-here, Contains-there, Contains-from_filter}
-use Rattle.kv_model.proofs.Numbered.{CountsFrom, find_counted, writes_of-wrote, writes_of-seal}
+use Rattle.kv_model.proofs.Found.{write_at_kept}
+use Rattle.kv_model.proofs.Numbered.{CountsFrom, counts_from_lawful, writes_of-wrote, writes_of-seal, writes_of-compact}
+use Rattle.kv_store.proofs.Reading.{history_some}
+use Rattle.kv_store.proofs.Selecting.{initial_is_kept}
 use Rattle.kv_model.specs.declared.event.Event.{Event}
 use Rattle.kv_model.specs.declared.options.Options.{Options}
 use Rattle.kv_model.specs.declared.options.Start.{Start}
@@ -26,62 +30,57 @@ use Rattle.kv_watch.specs.Following.{Following, InPlace, marker_if, shown_behind
 use Rattle.kv_model.specs.Given.{Item, AnEntry, EndMarker, Entry, entry_of, matching, all_shown, initial, ending, item_revisions, revision_of, event_of}
 use Rattle.kv_model.specs.Showing.{is_shown}
 use Rattle.kv_watch.specs.Taking.{entry_item}
-use Rattle.kv_model.proofs.GivenLaws.{matching_initial}
+use Rattle.kv_model.proofs.GivenLaws.{matching_initial, no_fewer_writes}
 use Rattle.kv_watch.proofs.Lists.{drop-append, head_of_drop, get_from_drop, rest_from_drop, take_push, last_or-push, last_front, no_last}
-use Rattle.kv_watch.proofs.Walks.{counts, drop_past, live_end, revision_at, shown_front, hidden_front, behind_counted}
+use Rattle.kv_watch.proofs.Walks.{counts, drop_past, live_end, shown_front, hidden_front, behind_counted}
 
 -- ---- items that are entries of stored writes
 
 -- each item is the entry of a write of the acts, which is found by its revision
-abbrev pub AllFrom : List Act → Bool → List Item → Type 0
-AllFrom acts headers_only [] = Unit {0}
-AllFrom acts headers_only (x ∷ xs) = ((w : Write) × (write_at_of w.revision acts ≡ Some w) × (x ≡ AnEntry (entry_of headers_only w))) × AllFrom acts headers_only xs
+abbrev pub AllFrom : ℕ → List Act → Bool → List Item → Type 0
+AllFrom h acts headers_only [] = Unit {0}
+AllFrom h acts headers_only (x ∷ xs) = ((w : Write) × (write_at_of h w.revision acts ≡ Some w) × (x ≡ AnEntry (entry_of headers_only w))) × AllFrom h acts headers_only xs
 
-AllFrom-drop : (acts : List Act) (headers_only : Bool) (xs : List Item) (n : ℕ) → AllFrom acts headers_only xs → AllFrom acts headers_only (drop n xs)
-AllFrom-drop acts headers_only [] n h = let e : [] ≡ drop {A = Item} n [] = sym (drop_all n [] (omega arith)) in subst (AllFrom acts headers_only) e tt
-AllFrom-drop acts headers_only (x ∷ xs) zero h = h
-AllFrom-drop acts headers_only (x ∷ xs) (suc n) h = AllFrom-drop acts headers_only xs n h.1
+AllFrom-drop : (h : ℕ) (acts : List Act) (headers_only : Bool) (xs : List Item) (n : ℕ) → AllFrom h acts headers_only xs → AllFrom h acts headers_only (drop n xs)
+AllFrom-drop h acts headers_only [] n all = let e : [] ≡ drop {A = Item} n [] = sym (drop_all n [] (omega arith)) in subst (AllFrom h acts headers_only) e tt
+AllFrom-drop h acts headers_only (x ∷ xs) zero all = all
+AllFrom-drop h acts headers_only (x ∷ xs) (suc n) all = AllFrom-drop h acts headers_only xs n all.1
 
--- a write is found by its revision
-pub found_in : (acts : List Act) → CountsFrom 1 (writes_of acts) → (w : Write) → Contains (writes_of acts) w → write_at_of w.revision acts ≡ Some w
-found_in acts counted w m =
-    let here : slice_get (writes_of acts) m.0 ≡ Some w = slice_get-get_or (writes_of acts) m.0 w m.1 ∙ ap (λ v. Some v) m.2 in
-    let number = revision_at (writes_of acts) m.0 w counted here in
-    find_counted 1 w.revision (writes_of acts) counted (omega (arith, number)) ∙ ap (λ i. slice_get (writes_of acts) i) (omega (arith, number)) ∙ here
+-- an initial write is kept, so it is found by its revision
+initial_found : (config : Configuration) (began : List Act) (start : Start) → IsLegal config → IsLawful config began → (w : Write) → Contains (initial config.history start began) w → write_at_of config.history w.revision began ≡ Some w
+initial_found config began start legal lawful w m =
+    write_at_kept config config.history w.key began w lawful (initial_is_kept config.history began (counts_from_lawful config began lawful) (history_some config legal) start w m)
 
-all_from : (acts : List Act) (options : Options) (vs : List Write) → ((w : Write) → Contains vs w → write_at_of w.revision acts ≡ Some w) → AllFrom acts options.headers_only (all_shown options vs)
-all_from acts options [] h = tt
-all_from acts options (w ∷ vs) h =
-    let rest = all_from acts options vs (λ v m. h v (Contains-there w vs v m)) in
-    elim (options.ignore_deletes && not (is_put w.op)) as (λ b. AllFrom acts options.headers_only (cons_option (cond b None (Some (AnEntry (entry_of options.headers_only w)))) (all_shown options vs))) [
+all_from : (h : ℕ) (acts : List Act) (options : Options) (vs : List Write) → ((w : Write) → Contains vs w → write_at_of h w.revision acts ≡ Some w) → AllFrom h acts options.headers_only (all_shown options vs)
+all_from h acts options [] found = tt
+all_from h acts options (w ∷ vs) found =
+    let rest = all_from h acts options vs (λ v m. found v (Contains-there w vs v m)) in
+    elim (options.ignore_deletes && not (is_put w.op)) as (λ b. AllFrom h acts options.headers_only (cons_option (cond b None (Some (AnEntry (entry_of options.headers_only w)))) (all_shown options vs))) [
       | true ↦ rest
-      | false ↦ ((w, h w (Contains-here w vs), refl), rest)
+      | false ↦ ((w, found w (Contains-here w vs), refl), rest)
     ]
 
--- what is shown of a selection of the writes
-selection_from : (acts : List Act) (options : Options) (p : Write → Bool) → CountsFrom 1 (writes_of acts) → AllFrom acts options.headers_only (all_shown options (filter p (writes_of acts)))
-selection_from acts options p counted = all_from acts options (filter p (writes_of acts)) (λ w m. found_in acts counted w (Contains-from_filter p (writes_of acts) w m).0)
-
-pub initial_from : (h : ℕ) (began : List Act) (filters : List (List ℕ)) (options : Options) → CountsFrom 1 (writes_of began)
-    → AllFrom began options.headers_only (all_shown options (matching filters (initial h options.start began)))
-initial_from h began filters options counted =
-    subst (λ ws. AllFrom began options.headers_only (all_shown options ws)) (sym (matching_initial h options.start began filters)) (selection_from began options _ counted)
+pub initial_from : (config : Configuration) (began : List Act) (filters : List (List ℕ)) (options : Options) → IsLegal config → IsLawful config began
+    → AllFrom config.history began options.headers_only (all_shown options (matching filters (initial config.history options.start began)))
+initial_from config began filters options legal lawful =
+    let ws = initial config.history options.start began in
+    all_from config.history began options (matching filters ws) (λ w m. initial_found config began options.start legal lawful w (Contains-from_filter (λ v. any_matches filters v.key) ws w m).0)
 
 -- the first of such items, by its revision
-pub first_owed : (acts : List Act) (headers_only : Bool) (xs : List Item) (r : ℕ) (rs : List ℕ) → AllFrom acts headers_only xs → r ∷ rs ≡ item_revisions xs
-    → (w : Write) × (rest : List Item) × (write_at_of r acts ≡ Some w) × (xs ≡ AnEntry (entry_of headers_only w) ∷ rest) × (rs ≡ item_revisions rest)
-first_owed acts headers_only [] r rs h e = cc
-first_owed acts headers_only (x ∷ xs) r rs h e =
-    let w = h.0.0 in
-    let parts : r ∷ rs ≡ w.revision ∷ item_revisions xs = e ∙ ap (λ y. item_revisions (y ∷ xs)) h.0.2 in
+pub first_owed : (h : ℕ) (acts : List Act) (headers_only : Bool) (xs : List Item) (r : ℕ) (rs : List ℕ) → AllFrom h acts headers_only xs → r ∷ rs ≡ item_revisions xs
+    → (w : Write) × (rest : List Item) × (write_at_of h r acts ≡ Some w) × (xs ≡ AnEntry (entry_of headers_only w) ∷ rest) × (rs ≡ item_revisions rest)
+first_owed h acts headers_only [] r rs all e = cc
+first_owed h acts headers_only (x ∷ xs) r rs all e =
+    let w = all.0.0 in
+    let parts : r ∷ rs ≡ w.revision ∷ item_revisions xs = e ∙ ap (λ y. item_revisions (y ∷ xs)) all.0.2 in
     let number : r ≡ w.revision = cc in
     let others : rs ≡ item_revisions xs = cc in
-    (w, xs, ap (λ n. write_at_of n acts) number ∙ h.0.1, ap (λ y. y ∷ xs) h.0.2, others)
+    (w, xs, ap (λ n. write_at_of h n acts) number ∙ all.0.1, ap (λ y. y ∷ xs) all.0.2, others)
 
-none_owed : (acts : List Act) (headers_only : Bool) (xs : List Item) → AllFrom acts headers_only xs → [] ≡ item_revisions xs → xs ≡ []
-none_owed acts headers_only [] h e = refl
-none_owed acts headers_only (x ∷ xs) h e =
-    let parts : [] ≡ h.0.0.revision ∷ item_revisions xs = e ∙ ap (λ y. item_revisions (y ∷ xs)) h.0.2 in cc
+none_owed : (h : ℕ) (acts : List Act) (headers_only : Bool) (xs : List Item) → AllFrom h acts headers_only xs → [] ≡ item_revisions xs → xs ≡ []
+none_owed h acts headers_only [] all e = refl
+none_owed h acts headers_only (x ∷ xs) all e =
+    let parts : [] ≡ all.0.0.revision ∷ item_revisions xs = e ∙ ap (λ y. item_revisions (y ∷ xs)) all.0.2 in cc
 
 -- ---- numbers are small
 
@@ -98,7 +97,7 @@ room config asked acts w h =
     let first = cond_ok (nat_lt config.value_limit (length (value_of asked))) ValueTooLarge r₁ w h in
     let second = cond_ok (is_sealed acts) Sealed r₂ w first.1 in
     let third = cond_ok (is_full config acts) JournalFull r₃ w second.1 in
-    by_test (nat_le config.write_limit (length (stored_writes acts))) third.0
+    by_test (nat_le config.write_limit (length (stored_writes config.history acts))) third.0
   where
     by_test : (b : Bool) → (b || nat_le config.revision_limit (length (writes_of acts))) ≡ false → length (writes_of acts) < config.revision_limit
     by_test true t = cc
@@ -113,6 +112,9 @@ bounded_from config before (Wrote w ∷ acts) h l =
 bounded_from config before (Seal ∷ acts) h l =
     let more : length (writes_of (before ++ Seal ∷ [])) ≤ config.revision_limit = omega (arith, ap length (writes_of-seal before)) in
     subst (λ as'. length (writes_of as') ≤ config.revision_limit) (append_assoc before (Seal ∷ []) acts) (bounded_from config (before ++ Seal ∷ []) acts h.1 more)
+bounded_from config before (Compact floor ∷ acts) h l =
+    let more : length (writes_of (before ++ Compact floor ∷ [])) ≤ config.revision_limit = omega (arith, ap length (writes_of-compact before floor)) in
+    subst (λ as'. length (writes_of as') ≤ config.revision_limit) (append_assoc before (Compact floor ∷ []) acts) (bounded_from config (before ++ Compact floor ∷ []) acts h.1 more)
 
 -- acts that a version stands for have less than 2^32 writes
 pub few_writes : (acts : List Act) (version : Stored) → StandsFor acts version → length (writes_of acts) ≤ 4294967295
@@ -147,39 +149,39 @@ ending_few (From revision) = omega arith
 
 -- ---- the first item that is left of the live ones
 
-CountsFrom-drop : (m n : ℕ) (ws : List Write) → CountsFrom n ws → CountsFrom (n + m) (drop m ws)
+pub CountsFrom-drop : (m n : ℕ) (ws : List Write) → CountsFrom n ws → CountsFrom (n + m) (drop m ws)
 CountsFrom-drop m n [] h = let e : [] ≡ drop {A = Write} m [] = sym (drop_all m [] (omega arith)) in subst (CountsFrom (n + m)) e tt
 CountsFrom-drop zero n (w ∷ ws) h = let e : n + 0 ≡ n = omega arith in rw e h
 CountsFrom-drop (suc m) n (w ∷ ws) h = let e : n + suc m ≡ suc n + m = omega arith in rw e (CountsFrom-drop m (suc n) ws h.1)
 
 step_from : (options : Options) (filters : List (List ℕ)) (ws : List Write) (m : ℕ) (vs : List Write) (x : Item) (rest : List Item)
     → drop m ws ≡ vs → CountsFrom (suc m) vs → all_shown options (matching filters vs) ≡ x ∷ rest
-    → (w : Write) × (x ≡ AnEntry (entry_of options.headers_only w)) × (w.revision ≤ length ws) × (all_shown options (matching filters (drop w.revision ws)) ≡ rest)
+    → (w : Write) × (x ≡ AnEntry (entry_of options.headers_only w)) × (w.revision ≤ length ws) × (all_shown options (matching filters (drop w.revision ws)) ≡ rest) × (m < w.revision)
 step_from options filters ws m [] x rest d h e = cc
-step_from options filters ws m (v ∷ vs) x rest d h e = by_test (is_shown filters options v) refl (λ s. step_from options filters ws (m + 1) vs x rest (rest_from_drop ws m v vs d) (subst (λ n. CountsFrom n vs) (omega arith) h.1) s)
+step_from options filters ws m (v ∷ vs) x rest d h e = by_test (is_shown filters options v) refl (λ s. let found = step_from options filters ws (m + 1) vs x rest (rest_from_drop ws m v vs d) (subst (λ n. CountsFrom n vs) (omega arith) h.1) s in (found.0, found.1, found.2, found.3, omega (arith, found.4)))
   where
     by_test : (b : Bool) → is_shown filters options v ≡ b
-        → (all_shown options (matching filters vs) ≡ x ∷ rest → (w : Write) × (x ≡ AnEntry (entry_of options.headers_only w)) × (w.revision ≤ length ws) × (all_shown options (matching filters (drop w.revision ws)) ≡ rest))
-        → (w : Write) × (x ≡ AnEntry (entry_of options.headers_only w)) × (w.revision ≤ length ws) × (all_shown options (matching filters (drop w.revision ws)) ≡ rest)
+        → (all_shown options (matching filters vs) ≡ x ∷ rest → (w : Write) × (x ≡ AnEntry (entry_of options.headers_only w)) × (w.revision ≤ length ws) × (all_shown options (matching filters (drop w.revision ws)) ≡ rest) × (m < w.revision))
+        → (w : Write) × (x ≡ AnEntry (entry_of options.headers_only w)) × (w.revision ≤ length ws) × (all_shown options (matching filters (drop w.revision ws)) ≡ rest) × (m < w.revision)
     by_test true t later =
         let both : AnEntry (entry_of options.headers_only v) ∷ all_shown options (matching filters vs) ≡ x ∷ rest = sym (shown_front options filters v vs t) ∙ e in
         let first : x ≡ AnEntry (entry_of options.headers_only v) = cc in
         let others : all_shown options (matching filters vs) ≡ rest = cc in
         let number : v.revision ≡ m + 1 = omega (arith, h.0) in
         let long : m + 1 ≤ length ws = omega (arith, ap length d, length-drop m ws) in
-        (v, first, omega (arith, number, long), ap (λ us. all_shown options (matching filters us)) (ap (λ n. drop n ws) number ∙ rest_from_drop ws m v vs d) ∙ others)
+        (v, first, omega (arith, number, long), ap (λ us. all_shown options (matching filters us)) (ap (λ n. drop n ws) number ∙ rest_from_drop ws m v vs d) ∙ others, omega (arith, number))
     by_test false t later = later (sym (hidden_front options filters v vs t) ∙ e)
 
 -- the first item behind a revision is the entry of a write, and behind that write's revision is the rest
 pub next_shown : (acts : List Act) (version : Stored) → StandsFor acts version → (filters : List (List ℕ)) (options : Options) (seen : ℕ) (x : Item) (rest : List Item)
     → shown_behind seen acts filters options ≡ x ∷ rest
-    → (w : Write) × (x ≡ AnEntry (entry_of options.headers_only w)) × (w.revision ≤ length (writes_of acts)) × (shown_behind w.revision acts filters options ≡ rest)
+    → (w : Write) × (x ≡ AnEntry (entry_of options.headers_only w)) × (w.revision ≤ length (writes_of acts)) × (shown_behind w.revision acts filters options ≡ rest) × (seen < w.revision)
 next_shown acts version s filters options seen x rest e =
     let ws = writes_of acts in
     let counted = counts acts version s in
     let from : (k : ℕ) → shown_behind k acts filters options ≡ all_shown options (matching filters (drop k ws)) = λ k. ap (λ vs. all_shown options (matching filters vs)) (behind_counted k ws counted) in
     let found = step_from options filters ws seen (drop seen ws) x rest refl (subst (λ n. CountsFrom n (drop seen ws)) (omega arith) (CountsFrom-drop seen 1 ws counted)) (sym (from seen) ∙ e) in
-    (found.0, found.1, found.2, from found.0.revision ∙ found.3)
+    (found.0, found.1, found.2, from found.0.revision ∙ found.3, found.4)
 
 -- ---- a cursor in place
 
@@ -197,11 +199,11 @@ module _ (began acts : List Act) (base now : Stored) (filters : List (List ℕ))
   abbrev At : ℕ → List ℕ → Bool → ℕ → ℕ → ℕ → Type 0
   At n owed marker seen next handed = InPlace began acts n base now (record { filters = filters; options = options; owed = owed; marker = marker; seen = seen; next = next; handed = handed })
 
-  entries : StandsFor began base → (n : ℕ) → AllFrom began options.headers_only (drop n initials)
-  entries s n = AllFrom-drop began options.headers_only initials n (initial_from base.config.history began filters options (counts began base s))
+  entries : StandsFor began base → (n : ℕ) → AllFrom base.config.history began options.headers_only (drop n initials)
+  entries s n = AllFrom-drop base.config.history began options.headers_only initials n (initial_from base.config began filters options s.legal s.lawful)
 
   -- what is left is what is left of the three parts
-  whole : (n : ℕ) (owed : List ℕ) (marker : Bool) (seen next handed : ℕ) → At n owed marker seen next handed
+  pub whole : (n : ℕ) (owed : List ℕ) (marker : Bool) (seen next handed : ℕ) → At n owed marker seen next handed
       → drop n all_given ≡ drop n initials ++ (marker_if marker ++ shown_behind seen acts filters options)
   whole n owed marker seen next handed at =
       drop-append initials (ending options.start ++ lives) n
@@ -209,14 +211,14 @@ module _ (began acts : List Act) (base now : Stored) (filters : List (List ℕ))
 
   -- the next item is the entry of the first owed write
   pub next_owed : (n r : ℕ) (rs : List ℕ) (marker : Bool) (seen next handed : ℕ) → At n (r ∷ rs) marker seen next handed
-      → (w : Write) × (write_at_of r began ≡ Some w) × (slice_get all_given n ≡ Some (AnEntry (entry_of options.headers_only w)))
+      → (w : Write) × (write_at_of base.config.history r began ≡ Some w) × (slice_get all_given n ≡ Some (AnEntry (entry_of options.headers_only w)))
   next_owed n r rs marker seen next handed at =
-      let first = first_owed began options.headers_only (drop n initials) r rs (entries at.base_stands n) at.owed in
+      let first = first_owed base.config.history began options.headers_only (drop n initials) r rs (entries at.base_stands n) at.owed in
       let left = whole n (r ∷ rs) marker seen next handed at ∙ ap (λ xs. xs ++ (marker_if marker ++ shown_behind seen acts filters options)) first.3 in
       (first.0, first.2, get_from_drop all_given n _ _ left)
 
   none_left : (n : ℕ) (marker : Bool) (seen next handed : ℕ) → At n [] marker seen next handed → drop n initials ≡ []
-  none_left n marker seen next handed at = none_owed began options.headers_only (drop n initials) (entries at.base_stands n) at.owed
+  none_left n marker seen next handed at = none_owed base.config.history began options.headers_only (drop n initials) (entries at.base_stands n) at.owed
 
   left_live : (n : ℕ) (marker : Bool) (seen next handed : ℕ) → At n [] marker seen next handed → drop n all_given ≡ marker_if marker ++ shown_behind seen acts filters options
   left_live n marker seen next handed at =
@@ -274,7 +276,7 @@ module _ (began acts : List Act) (base now : Stored) (filters : List (List ℕ))
 
   behind_owed : (n r : ℕ) (rs : List ℕ) (marker : Bool) (seen next handed : ℕ) → At n (r ∷ rs) marker seen next handed → At (n + 1) rs marker seen next (one_more handed)
   behind_owed n r rs marker seen next handed at =
-      let first = first_owed began options.headers_only (drop n initials) r rs (entries at.base_stands n) at.owed in
+      let first = first_owed base.config.history began options.headers_only (drop n initials) r rs (entries at.base_stands n) at.owed in
       let there = next_owed n r rs marker seen next handed at in
       let few = all_few at.base_stands at.now_stands at.prefix in
       let long = length_there n _ there.2 in
@@ -291,6 +293,7 @@ module _ (began acts : List Act) (base now : Stored) (filters : List (List ℕ))
         owed = first.4 ∙ ap item_revisions (sym (rest_from_drop initials n _ _ first.3));
         marker = at.marker ∙ ap (λ k. drop k (ending options.start)) (sym zero₁);
         left = at.left ∙ ap (λ k. drop k lives) (sym zero₂);
+        begun = at.begun;
         seen = at.seen;
         next = at.next ∙ ap (λ k. suc (unwrap_or (last_or None (item_revisions (take k lives))) (length (writes_of began)))) (sym zero₂);
       }
@@ -314,6 +317,7 @@ module _ (began acts : List Act) (base now : Stored) (filters : List (List ℕ))
         owed = ap item_revisions (sym (drop_all (n + 1) initials (omega (arith, past))));
         marker = sym (ap (λ k. drop k (ending options.start)) more ∙ rest_from_drop (ending options.start) (n - length initials) EndMarker [] (sym at.marker));
         left = at.left ∙ ap (λ k. drop k lives) (sym zero₂);
+        begun = at.begun;
         seen = at.seen;
         next = at.next ∙ ap (λ k. suc (unwrap_or (last_or None (item_revisions (take k lives))) (length (writes_of began)))) (sym zero₂);
       }
@@ -345,6 +349,7 @@ module _ (began acts : List Act) (base now : Stored) (filters : List (List ℕ))
         owed = ap item_revisions (sym (drop_all (n + 1) initials (omega (arith, past))));
         marker = sym (drop_all (n + 1 - length initials) (ending options.start) (omega (arith, past, past')));
         left = ap (λ r. shown_behind r acts filters options) number ∙ found.3 ∙ sym (ap (λ k. drop k lives) more ∙ rest_from_drop lives m (AnEntry e) rest here);
+        begun = omega (arith, at.begun, number, found.4);
         seen = low;
         next = one_within e.revision (omega (arith, low, few_writes acts now at.now_stands)) ∙ add-one e.revision ∙ sym (ap suc (ap (λ o. unwrap_or o (length (writes_of began))) (ap (λ k. last_or None (item_revisions (take k lives))) more ∙ last)));
       }
@@ -414,6 +419,7 @@ module _ (began acts : List Act) (base now : Stored) (filters : List (List ℕ))
         owed = at.owed;
         marker = at.marker;
         left = live_end acts now at.now_stands filters options now.last (omega (arith, at.now_stands.last)) ∙ sym none ∙ at.left;
+        begun = omega (arith, at.now_stands.last, no_fewer_writes began acts at.prefix);
         seen = omega (arith, at.now_stands.last);
         next = at.next;
       }

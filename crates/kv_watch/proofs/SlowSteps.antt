@@ -1,5 +1,5 @@
 -- The steps of the slow walk over all writes, and that it lists what is given.
-use Rattle.std.proofs.Common.{◌≡◌, ℕ, ◌+◌, ◌<◌, ◌≤◌, Bool, true, false, cond, ◌&&◌, not, List, [], ◌∷◌, ◌++◌, Some, None, length, get_or, take, drop, map, filter, refl, sym, ap, ◌∙◌, arith, append-nil, append_assoc, length-take}
+use Rattle.std.proofs.Common.{◌≡◌, ℕ, ◌+◌, ◌<◌, ◌≤◌, Bool, true, false, cond, ◌&&◌, not, List, [], ◌∷◌, ◌++◌, Some, None, length, get_or, take, drop, map, filter, refl, sym, ap, ◌∙◌, arith, append_assoc, length-take}
 use Rattle.std.specs.Borrow.{Bor}
 use Rattle.std.specs.List.{last_or, cons_option}
 use Rattle.std.specs.Str.{bytes_eq}
@@ -15,9 +15,8 @@ use Rattle.kv_model.specs.Given.{AnEntry, matching, all_shown, entry_of, initial
 use Rattle.kv_watch.specs.inside.Listing.{revisions_after}
 use Rattle.kv_model.specs.Showing.{is_initial, is_shown}
 use Rattle.kv_watch.specs.inside.Showing.{events_where, wrote_all}
-use Rattle.kv_model.proofs.Keeping.{since_purge-push}
+use Rattle.kv_model.proofs.Keeping.{since_purge-push, writes_of_key-push}
 use Rattle.kv_model.proofs.Members.{filter-filter}
-use Rattle.kv_model.proofs.Numbered.{writes_of-append}
 use Rattle.kv_model.proofs.GivenLaws.{initial_selects}
 use Rattle.kv_watch.proofs.Lists.{last_or-push}
 
@@ -53,47 +52,43 @@ begins_with h filters options began w = is_initial h options.start (wrote_all be
 -- ---- a loop that finds the last write of a key
 
 wrote-push : (writes : List (Bor Write)) (place : ℕ) (w : Bor Write) → place < length writes → w ≡ get_or writes place w
-    → writes_of (wrote_all (take (place + 1) writes)) ≡ writes_of (wrote_all (take place writes)) ++ w.now ∷ []
+    → wrote_all (take (place + 1) writes) ≡ wrote_all (take place writes) ++ Wrote w.now ∷ []
 wrote-push writes place w l e =
-    ap (λ vs. writes_of (wrote_all vs)) (take_more writes place w l ∙ ap (λ v. take place writes ++ v ∷ []) (sym e))
-    ∙ ap writes_of (map-append (λ v. Wrote v.now) (take place writes) (w ∷ []))
-    ∙ writes_of-append (wrote_all (take place writes)) (Wrote w.now ∷ [])
+    ap wrote_all (take_more writes place w l ∙ ap (λ v. take place writes ++ v ∷ []) (sym e))
+    ∙ map-append (λ v. Wrote v.now) (take place writes) (w ∷ [])
+
+-- the writes of a key before a place
+abbrev of_key_to : List ℕ → ℕ → List (Bor Write) → List Write
+of_key_to key place writes = writes_of_key key (wrote_all (take place writes))
+
+of_key_more : (key : List ℕ) (writes : List (Bor Write)) (place : ℕ) (w : Bor Write) → place < length writes → w ≡ get_or writes place w
+    → of_key_to key (place + 1) writes ≡ cond (bytes_eq w.now.key key) (of_key_to key place writes ++ w.now ∷ []) (of_key_to key place writes)
+of_key_more key writes place w l e = ap (writes_of_key key) (wrote-push writes place w l e) ∙ writes_of_key-push key (wrote_all (take place writes)) (Wrote w.now)
 
 pub last_write_more : (key : List ℕ) (writes : List (Bor Write)) (place : ℕ) (w : Bor Write) → place < length writes → w ≡ get_or writes place w
     → last_write key (wrote_all (take (place + 1) writes)) ≡ cond (bytes_eq w.now.key key) (Some w.now) (last_write key (wrote_all (take place writes)))
-last_write_more key writes place w l e =
-    ap (λ vs. last_or None (filter (λ v. bytes_eq v.key key) vs)) (wrote-push writes place w l e)
-    ∙ ap (last_or None) (filter-append (λ v. bytes_eq v.key key) (writes_of (wrote_all (take place writes))) (w.now ∷ []))
-    ∙ by_test (bytes_eq w.now.key key)
+last_write_more key writes place w l e = ap (last_or None) (of_key_more key writes place w l e) ∙ by_test (bytes_eq w.now.key key)
   where
-    by_test : (b : Bool) → last_or None (writes_of_key key (wrote_all (take place writes)) ++ cond b (w.now ∷ []) []) ≡ cond b (Some w.now) (last_write key (wrote_all (take place writes)))
-    by_test true = last_or-push None (writes_of_key key (wrote_all (take place writes))) w.now
-    by_test false = ap (last_or None) (append-nil (writes_of_key key (wrote_all (take place writes))))
+    by_test : (b : Bool) → last_or None (cond b (of_key_to key place writes ++ w.now ∷ []) (of_key_to key place writes)) ≡ cond b (Some w.now) (last_write key (wrote_all (take place writes)))
+    by_test true = last_or-push None (of_key_to key place writes) w.now
+    by_test false = refl
 
 -- ---- a loop that gathers the revisions since the last purge
 
 abbrev pub revisions_to : List ℕ → ℕ → List (Bor Write) → List ℕ
 revisions_to key place writes = revisions (since_purge (writes_of_key key (wrote_all (take place writes))))
 
--- the writes of a key before a place
-abbrev of_key_to : List ℕ → ℕ → List (Bor Write) → List Write
-of_key_to key place writes = writes_of_key key (wrote_all (take place writes))
-
 pub revisions_more : (key : List ℕ) (writes : List (Bor Write)) (place : ℕ) (w : Bor Write) → place < length writes → w ≡ get_or writes place w
     → revisions_to key (place + 1) writes ≡ revisions_after (revisions_to key place writes) key w.now
-revisions_more key writes place w l e =
-    let before = writes_of (wrote_all (take place writes)) in
-    ap (λ vs. revisions (since_purge (filter (λ v. bytes_eq v.key key) vs))) (wrote-push writes place w l e)
-    ∙ ap (λ vs. revisions (since_purge vs)) (filter-append (λ v. bytes_eq v.key key) before (w.now ∷ []))
-    ∙ by_test (bytes_eq w.now.key key)
+revisions_more key writes place w l e = ap (λ vs. revisions (since_purge vs)) (of_key_more key writes place w l e) ∙ by_test (bytes_eq w.now.key key)
   where
     by_purge : (b : Bool) → revisions (cond b [] (since_purge (of_key_to key place writes)) ++ w.now ∷ []) ≡ cond b [] (revisions (since_purge (of_key_to key place writes))) ++ w.now.revision ∷ []
     by_purge true = refl
     by_purge false = map-append (λ v. v.revision) (since_purge (of_key_to key place writes)) (w.now ∷ [])
 
-    by_test : (b : Bool) → revisions (since_purge (of_key_to key place writes ++ cond b (w.now ∷ []) [])) ≡ cond b (cond (is_purge w.now.op) [] (revisions (since_purge (of_key_to key place writes))) ++ w.now.revision ∷ []) (revisions (since_purge (of_key_to key place writes)))
+    by_test : (b : Bool) → revisions (since_purge (cond b (of_key_to key place writes ++ w.now ∷ []) (of_key_to key place writes))) ≡ cond b (cond (is_purge w.now.op) [] (revisions (since_purge (of_key_to key place writes))) ++ w.now.revision ∷ []) (revisions (since_purge (of_key_to key place writes)))
     by_test true = ap revisions (since_purge-push (of_key_to key place writes) w.now) ∙ by_purge (is_purge w.now.op)
-    by_test false = ap (λ vs. revisions (since_purge vs)) (append-nil (of_key_to key place writes))
+    by_test false = refl
 
 -- ---- the list is what is given
 

@@ -4,11 +4,12 @@ use Rattle.std.specs.Prelude.{nat_lt}
 use Rattle.std.specs.List.{slice_get}
 use Rattle.std.proofs.lemmas.Bool.{ltb-true, ltb-false}
 use Rattle.std.proofs.lemmas.List.{drop_all}
-use Rattle.kv_model.specs.Acts.{Act, Write, writes_of}
+use Rattle.kv_model.specs.Acts.{Act, Write, writes_of, floor_of}
 use Rattle.kv_model.specs.Reads.{write_at_of}
 use Rattle.kv_store.specs.Standing.{StandsFor}
 use Rattle.kv_store.specs.Stored.{Stored}
-use Rattle.kv_model.proofs.Numbered.{CountsFrom, counts_from_lawful, write_at_counted}
+use Rattle.kv_model.proofs.Found.{write_at_counted}
+use Rattle.kv_model.proofs.Numbered.{CountsFrom, counts_from_lawful}
 use Rattle.kv_model.specs.declared.options.Options.{Options}
 use Rattle.kv_watch.specs.Following.{shown_behind}
 use Rattle.kv_model.specs.Given.{AnEntry, entry_of, matching, all_shown}
@@ -68,39 +69,42 @@ revision_from n (v ∷ ws) (suc i) w h e = omega (arith, revision_from (suc n) w
 pub revision_at : (ws : List Write) (i : ℕ) (w : Write) → CountsFrom 1 ws → slice_get ws i ≡ Some w → w.revision ≡ i + 1
 revision_at ws i w h e = omega (arith, revision_from 1 ws i w h e)
 
--- the write of a revision stands at its place
-pub at_place : (acts : List Act) (place : ℕ) → CountsFrom 1 (writes_of acts) → write_at_of (place + 1) acts ≡ slice_get (writes_of acts) place
-at_place acts place h = write_at_counted (place + 1) acts h (omega arith) ∙ ap (λ i. slice_get (writes_of acts) i) (omega arith)
+-- from the floor on the write of a revision stands at its place
+pub at_place : (h : ℕ) (acts : List Act) (place : ℕ) → CountsFrom 1 (writes_of acts) → floor_of acts ≤ place → write_at_of h (place + 1) acts ≡ slice_get (writes_of acts) place
+at_place h acts place c l = write_at_counted h (place + 1) acts c (omega (arith, l)) ∙ ap (λ i. slice_get (writes_of acts) i) (omega arith)
 
 module _ (acts : List Act) (version : Stored) (s : StandsFor acts version) (filters : List (List ℕ)) (options : Options) where
   from_place : (place : ℕ) → shown_behind place acts filters options ≡ all_shown options (matching filters (drop place (writes_of acts)))
   from_place place = ap (λ ws. all_shown options (matching filters ws)) (behind_counted place (writes_of acts) (counts acts version s))
 
-  stands_here : (place : ℕ) (w : Write) → write_at_of (place + 1) acts ≡ Some w → slice_get (writes_of acts) place ≡ Some w
-  stands_here place w e = sym (at_place acts place (counts acts version s)) ∙ e
+  above : (place : ℕ) → version.floor ≤ place → floor_of acts ≤ place
+  above place l = omega (arith, s.floor, l)
 
-  pub live_next : (place : ℕ) (w : Write) → write_at_of (place + 1) acts ≡ Some w → is_shown filters options w ≡ true
+  stands_here : (place : ℕ) (w : Write) → version.floor ≤ place → write_at_of version.config.history (place + 1) acts ≡ Some w → slice_get (writes_of acts) place ≡ Some w
+  stands_here place w l e = sym (at_place version.config.history acts place (counts acts version s) (above place l)) ∙ e
+
+  pub live_next : (place : ℕ) (w : Write) → version.floor ≤ place → write_at_of version.config.history (place + 1) acts ≡ Some w → is_shown filters options w ≡ true
       → shown_behind place acts filters options ≡ AnEntry (entry_of options.headers_only w) ∷ shown_behind w.revision acts filters options
-  live_next place w e t =
-      let here = stands_here place w e in
+  live_next place w l e t =
+      let here = stands_here place w l e in
       let number : place + 1 ≡ w.revision = sym (revision_at (writes_of acts) place w (counts acts version s) here) in
       from_place place
       ∙ ap (λ ws. all_shown options (matching filters ws)) (drop_here (writes_of acts) place w here)
       ∙ shown_front options filters w (drop (place + 1) (writes_of acts)) t
       ∙ ap (λ items. AnEntry (entry_of options.headers_only w) ∷ items) (sym (from_place (place + 1)) ∙ ap (λ r. shown_behind r acts filters options) number)
 
-  pub live_skip : (place : ℕ) (w : Write) → write_at_of (place + 1) acts ≡ Some w → is_shown filters options w ≡ false
+  pub live_skip : (place : ℕ) (w : Write) → version.floor ≤ place → write_at_of version.config.history (place + 1) acts ≡ Some w → is_shown filters options w ≡ false
       → shown_behind place acts filters options ≡ shown_behind (place + 1) acts filters options
-  live_skip place w e t =
+  live_skip place w l e t =
       from_place place
-      ∙ ap (λ ws. all_shown options (matching filters ws)) (drop_here (writes_of acts) place w (stands_here place w e))
+      ∙ ap (λ ws. all_shown options (matching filters ws)) (drop_here (writes_of acts) place w (stands_here place w l e))
       ∙ hidden_front options filters w (drop (place + 1) (writes_of acts)) t
       ∙ sym (from_place (place + 1))
 
-  pub live_past : (place : ℕ) → write_at_of (place + 1) acts ≡ None → shown_behind place acts filters options ≡ []
-  live_past place e =
+  pub live_past : (place : ℕ) → version.floor ≤ place → write_at_of version.config.history (place + 1) acts ≡ None → shown_behind place acts filters options ≡ []
+  live_past place l e =
       from_place place
-      ∙ ap (λ ws. all_shown options (matching filters ws)) (drop_past (writes_of acts) place (sym (at_place acts place (counts acts version s)) ∙ e))
+      ∙ ap (λ ws. all_shown options (matching filters ws)) (drop_past (writes_of acts) place (sym (at_place version.config.history acts place (counts acts version s) (above place l)) ∙ e))
 
   pub live_end : (place : ℕ) → length (writes_of acts) ≤ place → shown_behind place acts filters options ≡ []
   live_end place l =

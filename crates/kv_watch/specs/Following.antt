@@ -1,5 +1,5 @@
 -- Where a cursor stands in what its watch is given.
-use Rattle.std.specs.Prelude.{◌≡◌, ℕ, suc, ◌+◌, ◌-◌, ◌^◌, ◌≤◌, Bool, true, false, nat_lt, min, List, [], ◌∷◌, length, drop, filter, take, None, unwrap_or}
+use Rattle.std.specs.Prelude.{◌≡◌, ℕ, suc, ◌+◌, ◌-◌, ◌^◌, ◌≤◌, Bool, true, false, nat_lt, min, List, [], ◌∷◌, length, drop, filter, take, Option, Some, None, unwrap_or}
 use Rattle.std.specs.List.{last_or}
 use Rattle.kv_model.specs.Acts.{Act, IsPrefix, writes_of}
 use Rattle.kv_store.specs.Standing.{StandsFor}
@@ -7,7 +7,7 @@ use Rattle.kv_store.specs.Stored.{Stored}
 use Rattle.kv_model.specs.declared.event.Event.{Event}
 use Rattle.kv_model.specs.declared.event.Event.TheVariants as events
 use Rattle.kv_model.specs.declared.options.Options.{Options}
-use Rattle.kv_model.specs.Given.{Item, EndMarker, matching, all_shown, initial, ending, given, item_revisions}
+use Rattle.kv_model.specs.Given.{Item, EndMarker, matching, all_shown, initial, ending, given, is_behind, item_revisions}
 
 -- what a cursor keeps: which initial entries it still owes, by their revisions, and whether it owes the end marker; up to which revision it has looked at live writes; one more than the revision of the last live entry that it handed out; and how many items it handed out
 pub record Following : Type 0 where
@@ -59,8 +59,19 @@ pub record InPlace (began acts : List Act) (n : ℕ) (base now : Stored) (cursor
   pub owed : cursor.owed ≡ item_revisions (drop n (initial_to base.config.history began cursor))
   pub marker : marker_if cursor.marker ≡ drop (n - length (initial_to base.config.history began cursor)) (ending cursor.options.start)
   pub left : shown_behind cursor.seen acts cursor.filters cursor.options ≡ drop (live_count base.config.history began n cursor) (live_to began acts cursor)
+  pub begun : length (writes_of began) ≤ cursor.seen
   pub seen : cursor.seen ≤ length (writes_of acts)
   pub next : cursor.next ≡ next_behind base.config.history began acts n cursor
+
+-- a cursor is in reach where it is in place, and no live item at or below the floor of the present version is still to be handed out
+pub record InReach (began acts : List Act) (n : ℕ) (base now : Stored) (cursor : Following) : Type 0 where
+  pub place : InPlace began acts n base now cursor
+  pub ahead : is_behind now.floor n base.config.history began acts cursor.filters cursor.options ≡ false
+
+-- the version of a watch's opening, as it is given to its cursor: it may be left out once no initial entry is owed
+abbrev pub IsOpening : Option Stored → Stored → Following → Type 0
+IsOpening (Some base) opening cursor = base ≡ opening
+IsOpening None opening cursor = cursor.owed ≡ []
 
 -- one more, within 64 bits
 abbrev pub one_more : ℕ → ℕ

@@ -1,13 +1,13 @@
 //! Cursors: how far a watch has come in what it is given.
 
-ghost use Rattle.std.specs.Prelude.{◌≡◌, ℕ, ◌+◌, ◌↔◌, List, None, IfOk, IfErr, length, slice_get, IsNone};
-ghost use Rattle.std.specs.Option.{option_len, option_map};
+ghost use Rattle.std.specs.Prelude.{◌≡◌, ℕ, ◌+◌, ◌≤◌, ◌↔◌, List, [], Some, None, IfOk, IfErr, length, nat_lt, slice_get, IsNone};
+ghost use Rattle.std.specs.Option.{option_copied, option_len, option_map};
 ghost use Rattle.kv_keys.specs.declared.error.KvError.TheVariants.{OutOfMemory};
-ghost use Rattle.kv_model.specs.Acts.{Act};
+ghost use Rattle.kv_model.specs.Acts.{Act, writes_of};
 ghost use Rattle.kv_store.specs.Standing.{StandsFor};
 ghost use Rattle.kv_store.specs.Stored.{Stored, write_at};
-ghost use Rattle.kv_watch.specs.Following.{given_to, behind, next_behind, InPlace};
-ghost use Rattle.kv_model.specs.Given.{event_of};
+ghost use Rattle.kv_watch.specs.Following.{given_to, behind, next_behind, InPlace, InReach, IsOpening};
+ghost use Rattle.kv_model.specs.Given.{event_of, is_behind};
 ghost use Rattle.kv_watch.specs.Taking.{entry_item, item_taken};
 
 use crate::live::{next_live, settled};
@@ -20,9 +20,10 @@ use kv_store::Version;
 use std::alloc::Global;
 use std::marker::Model;
 
-/// How far a watch has come in what it is given. It keeps no version: each call is handed the one that it was opened on
-/// and the present one, and is exact where the cursor is in place for these two. It is so at its opening, stays so
-/// behind each item, and for every later version of the bucket (see `laws::in_place_later`).
+/// How far a watch has come in what it is given. It keeps no version: each call is handed the present one, and the one
+/// that it was opened on, which may be left out once all initial entries were handed out. It is exact where the cursor is in reach for these two: in place, with no live entry at or
+/// below the floor of the present one still to be handed out. It is so at its opening, stays so behind each item, and
+/// for every later version of the bucket whose floor it is not behind (see `laws::in_reach_later`).
 ///
 /// It owes its initial entries as a list of revisions, made when it is opened: a take of one is a single look-up. Of
 /// live writes it remembers how far it has looked.
@@ -66,8 +67,8 @@ impl Cursor {
     ) -> Result<Cursor, KvError>
         ensures filters { IfOk result (λ cursor. cursor.filters ≡ filters.now) }
         ensures options { IfOk result (λ cursor. cursor.options ≡ options) }
-        ensures in_place { IfOk result (λ cursor. (acts : List Act) → StandsFor acts base.now →
-            InPlace acts acts 0 base.now base.now cursor) }
+        ensures in_reach { IfOk result (λ cursor. (acts : List Act) → StandsFor acts base.now →
+            InReach acts acts 0 base.now base.now cursor) }
         ensures err { IfErr result (λ e. e ≡ OutOfMemory) }
     {
         let owed = owed_at_opening(alloc, base, filters, options)?;
@@ -84,13 +85,35 @@ impl Cursor {
         })
     }
 
+    /// Lets the version of the opening go once all initial entries were handed out: who keeps it for the cursor has no
+    /// need of it any more.
+    pub fn let_go(&self, kept: &mut Option<Version>)
+        ensures opening { (base : Stored) → IsOpening kept.old base self.now → IsOpening kept.new base self.now }
+        ensures lets_go { self.now.owed ≡ [] → kept.new ≡ None }
+    {
+        if self.owed.is_empty() {
+            *kept = None;
+        }
+    }
+
+    /// What has to be kept for the cursor of the version that it was opened on.
+    pub fn keep(&self, base: Version) -> Option<Version>
+        ensures opening { IsOpening result base self.now }
+        ensures lets_go { self.now.owed ≡ [] → result ≡ None }
+    {
+        let mut kept = Some(base);
+        self.let_go(&mut kept);
+        kept
+    }
+
     /// What `take` would hand out.
-    pub fn peek<'a>(&self, base: &'a Version, now: &'a Version) -> Taken<'a>
-        ensures { (n : ℕ) (began acts : List Act) → InPlace began acts n base.now now.now self.now →
-            item_taken result ≡ slice_get (given_to base.now.config.history began acts self.now) n }
+    pub fn peek<'a>(&self, base: Option<&'a Version>, now: &'a Version) -> Taken<'a>
+        ensures { (n : ℕ) (began acts : List Act) (opening : Stored) →
+            IsOpening (option_copied base.entry) opening self.now → InReach began acts n opening now.now self.now →
+            item_taken result ≡ slice_get (given_to opening.config.history began acts self.now) n }
     {
         if let Some(revision) = self.owed.last() {
-            return entry_at(base, *revision, self.options.headers_only);
+            return initial_at(base, *revision, self.options.headers_only);
         }
         if self.marker {
             return Taken::Marker;
@@ -103,17 +126,20 @@ impl Cursor {
 
     /// Hands out the next item, lent from the versions, and moves on behind it. Where there is none it is `Empty`, and
     /// the cursor stays as it is.
-    pub fn take<'a>(&mut self, base: &'a Version, now: &'a Version) -> Taken<'a>
+    pub fn take<'a>(&mut self, base: Option<&'a Version>, now: &'a Version) -> Taken<'a>
         ensures filters { self.new.filters ≡ self.old.filters }
         ensures options { self.new.options ≡ self.old.options }
         // It is the next item of what the watch is given, or there is none.
-        ensures next { (n : ℕ) (began acts : List Act) → InPlace began acts n base.now now.now self.old →
-            item_taken result ≡ slice_get (given_to base.now.config.history began acts self.old) n }
+        ensures next { (n : ℕ) (began acts : List Act) (opening : Stored) →
+            IsOpening (option_copied base.entry) opening self.old → InReach began acts n opening now.now self.old →
+            item_taken result ≡ slice_get (given_to opening.config.history began acts self.old) n }
         // It is empty exactly where all that the watch is given was handed out.
-        ensures end { (n : ℕ) (began acts : List Act) → InPlace began acts n base.now now.now self.old →
-            (item_taken result ≡ None) ↔ (n ≡ length (given_to base.now.config.history began acts self.old)) }
-        ensures in_place { (n : ℕ) (began acts : List Act) → InPlace began acts n base.now now.now self.old →
-            InPlace began acts (n + option_len (item_taken result)) base.now now.now self.new }
+        ensures end { (n : ℕ) (began acts : List Act) (opening : Stored) →
+            IsOpening (option_copied base.entry) opening self.old → InReach began acts n opening now.now self.old →
+            (item_taken result ≡ None) ↔ (n ≡ length (given_to opening.config.history began acts self.old)) }
+        ensures in_reach { (n : ℕ) (began acts : List Act) (opening : Stored) →
+            IsOpening (option_copied base.entry) opening self.old → InReach began acts n opening now.now self.old →
+            InReach began acts (n + option_len (item_taken result)) opening now.now self.new }
         ensures none { item_taken result ≡ None → self.new ≡ self.old }
     {
         let taken = self.peek(base, now);
@@ -152,7 +178,12 @@ impl Cursor {
             InPlace began acts n base now.now self.old →
             peeked ≡ option_map event_of (slice_get (given_to base.config.history began acts self.old) n) →
             InPlace began acts (n + option_len peeked) base now.now self.new }
+        ensures in_reach { (n : ℕ) (began acts : List Act) (base : Stored) →
+            InReach began acts n base now.now self.old →
+            peeked ≡ option_map event_of (slice_get (given_to base.config.history began acts self.old) n) →
+            InReach began acts (n + option_len peeked) base now.now self.new }
         ensures none { peeked ≡ None → self.new ≡ record self.old { seen = now.now.last } }
+        ensures owes { self.old.owed ≡ [] → self.new.owed ≡ [] }
     {
         match peeked {
             Some(event) => self.step(event),
@@ -164,10 +195,10 @@ impl Cursor {
     /// later takes begin behind those writes.
     pub fn settle(&mut self, now: &Version)
         ensures same { self.new ≡ record self.old { seen = self.new.seen } }
-        ensures in_place { (n : ℕ) (began acts : List Act) (base : Stored) →
-            InPlace began acts n base now.now self.old →
-            InPlace began acts n base now.now self.new }
-        ensures looked { (n : ℕ) (began acts : List Act) (base : Stored) → InPlace began acts n base now.now self.old →
+        ensures in_reach { (n : ℕ) (began acts : List Act) (base : Stored) →
+            InReach began acts n base now.now self.old →
+            InReach began acts n base now.now self.new }
+        ensures looked { (n : ℕ) (began acts : List Act) (base : Stored) → InReach began acts n base now.now self.old →
             n ≡ length (given_to base.config.history began acts self.old) → self.new.seen ≡ now.now.last }
     {
         if self.owed.is_empty() && !self.marker {
@@ -177,22 +208,52 @@ impl Cursor {
 
     /// As `take` does. Where there is none it notes how far it looked, as `settle` does, so that what was looked at in
     /// vain is not looked at again. It looks once.
-    pub fn take_settled<'a>(&mut self, base: &'a Version, now: &'a Version) -> Taken<'a>
+    pub fn take_settled<'a>(&mut self, base: Option<&'a Version>, now: &'a Version) -> Taken<'a>
         ensures filters { self.new.filters ≡ self.old.filters }
         ensures options { self.new.options ≡ self.old.options }
-        ensures next { (n : ℕ) (began acts : List Act) → InPlace began acts n base.now now.now self.old →
-            item_taken result ≡ slice_get (given_to base.now.config.history began acts self.old) n }
-        ensures in_place { (n : ℕ) (began acts : List Act) → InPlace began acts n base.now now.now self.old →
-            InPlace began acts (n + option_len (item_taken result)) base.now now.now self.new }
+        ensures next { (n : ℕ) (began acts : List Act) (opening : Stored) →
+            IsOpening (option_copied base.entry) opening self.old → InReach began acts n opening now.now self.old →
+            item_taken result ≡ slice_get (given_to opening.config.history began acts self.old) n }
+        ensures in_reach { (n : ℕ) (began acts : List Act) (opening : Stored) →
+            IsOpening (option_copied base.entry) opening self.old → InReach began acts n opening now.now self.old →
+            InReach began acts (n + option_len (item_taken result)) opening now.now self.new }
         // Where there was none, nothing but how far it has looked changes, and it has looked at all.
         ensures none { item_taken result ≡ None → self.new ≡ record self.old { seen = self.new.seen } }
-        ensures looked { item_taken result ≡ None → (n : ℕ) (began acts : List Act) →
-            InPlace began acts n base.now now.now self.old →
+        ensures looked { item_taken result ≡ None → (n : ℕ) (began acts : List Act) (opening : Stored) →
+            IsOpening (option_copied base.entry) opening self.old → InReach began acts n opening now.now self.old →
             self.new.seen ≡ now.now.last }
+        // A cursor that owed no initial entry owes none afterwards.
+        ensures owes { self.old.owed ≡ [] → self.new.owed ≡ [] }
     {
         let taken = self.peek(base, now);
         self.pass(taken.event(), now);
         taken
+    }
+
+    /// Whether a live entry at or below the floor is still to be handed out, so that the version must not be compacted
+    /// to that floor. It looks at the live writes up to the next one that is shown.
+    pub fn behind(&self, now: &Version, floor: u64) -> bool
+        ensures { (n : ℕ) (began acts : List Act) (base : Stored) → InReach began acts n base now.now self.now →
+            result ≡ is_behind floor n base.config.history began acts self.now.filters self.now.options }
+    {
+        match next_live(now, &self.filters, self.options, self.seen) {
+            Some(write) => write.revision() <= floor,
+            None => false,
+        }
+    }
+
+    /// The highest floor, up to the last revision, to which the version may be compacted: no live entry at or below it
+    /// is still to be handed out. It looks as far as `behind` does.
+    pub fn reach(&self, now: &Version) -> u64
+        ensures within { (acts : List Act) → StandsFor acts now.now → result ≤ length (writes_of acts) }
+        ensures reach { (n : ℕ) (began acts : List Act) (base : Stored) → InReach began acts n base now.now self.now →
+            (floor : ℕ) → floor ≤ length (writes_of acts) →
+            is_behind floor n base.config.history began acts self.now.filters self.now.options ≡ nat_lt result floor }
+    {
+        match next_live(now, &self.filters, self.options, self.seen) {
+            Some(write) => write.revision().saturating_sub(1).min(now.revision()),
+            None => now.revision(),
+        }
     }
 
     /// What its watch begins with, and how it shows writes.
@@ -219,6 +280,17 @@ impl Cursor {
             result ≡ next_behind base.config.history began acts n self.now }
     {
         self.next
+    }
+}
+
+// The entry of an initial write, by its revision.
+fn initial_at<'a>(base: Option<&'a Version>, revision: u64, headers_only: bool) -> Taken<'a>
+    ensures { (opening : Stored) → option_copied base.entry ≡ Some opening →
+        item_taken result ≡ entry_item headers_only (write_at revision opening) }
+{
+    match base {
+        Some(base) => entry_at(base, revision, headers_only),
+        None => Taken::Empty,
     }
 }
 

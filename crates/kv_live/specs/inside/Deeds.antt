@@ -7,3 +7,4 @@ use Rattle.kv_live.specs.declared.deed.Kind.TheVariants as kinds
 abbrev pub act_of : Kind → Act
 act_of (kinds.Wrote write) = acts.Wrote write.value
 act_of kinds.Seal = acts.Seal
+act_of (kinds.Compact floor) = acts.Compact floor

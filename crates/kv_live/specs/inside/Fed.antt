@@ -3,7 +3,7 @@ use Rattle.std.specs.Prelude.{◌≡◌, ℕ, List}
 use Rattle.kv_model.specs.Acts.{Act, IsPrefix}
 use Rattle.kv_model.specs.Configuration.{Configuration}
 use Rattle.kv_model.specs.declared.options.Options.{Options}
-use Rattle.kv_watch.specs.Following.{Following, InPlace}
+use Rattle.kv_watch.specs.Following.{Following, InReach}
 use Rattle.kv_live.specs.Feeding.{Feeding}
 use Rattle.kv_live.specs.Known.{Known}
 use Rattle.kv_live.specs.inside.Shelves.{Shelved}
@@ -12,11 +12,11 @@ use Rattle.kv_live.specs.inside.Shelves.{Shelved}
 abbrev pub acts_on : Shelved → List Act
 acts_on shelf = shelf.glimpse.sight.log
 
--- the cursor of a feed is in place for the version of its opening and the one that it went on to, under this configuration; its reader has seen what it went on to
+-- the cursor of a feed is in reach for the version of its opening and the one that it went on to, under this configuration; its reader has seen what it went on to
 pub record IsFed (config : Configuration) (reader : Known) (base current : Shelved) (cursor : Following) : Type 0 where
   pub same_config : base.version.config ≡ config
   pub seen : IsPrefix (acts_on current) reader.seen
-  pub place : InPlace (acts_on base) (acts_on current) cursor.handed base.version current.version cursor
+  pub reach : InReach (acts_on base) (acts_on current) cursor.handed base.version current.version cursor
 
 abbrev pub feeding_of : Known → Shelved → Shelved → Following → Feeding
 feeding_of reader base current cursor = record {

@@ -299,3 +299,48 @@ fn each_call_over_a_marker(rt: HostRuntime) -> Result<(), Fail> {
     are_answers(&rt, &replies, &answers);
     Ok(())
 }
+
+// Two puts of `k` around a watch, and compactions.
+fn compactions_once(alloc: Global) -> Result<Vec<Call>, KvError> {
+    let mut calls = Vec::new(alloc);
+    push_put(alloc, &mut calls, "k", "1")?;
+    calls.push(Call::Watch(all_keys(alloc)?, LATEST))?;
+    push_put(alloc, &mut calls, "k", "2")?;
+    for floor in [3, 2, 1, 0] {
+        calls.push(Call::Compact(floor))?;
+    }
+    calls.push(Call::Status)?;
+    Ok(calls)
+}
+
+fn compactions(alloc: Global) -> Result<Vec<Call>, KvError> {
+    match compactions_once(alloc) {
+        Err(KvError::OutOfMemory) => compactions_once(alloc),
+        calls => calls,
+    }
+}
+
+#[test]
+fn compactions_in_a_run(rt: HostRuntime) -> Result<(), Fail> {
+    let calls = compactions(rt.alloc())?;
+    let replies = replies(&rt, rt.alloc(), 1, &calls)?;
+    let status = Status {
+        history: 1,
+        last: 2,
+        sealed: false,
+        stored: 1,
+        values: 1,
+    };
+    let answers = [
+        Answer::Revision(1),
+        Answer::Watch(1),
+        Answer::Revision(2),
+        Answer::Refused(KvError::BadFloor),
+        Answer::Refused(KvError::WatchBehind { watch: 1 }),
+        Answer::Compacted(1),
+        Answer::Refused(KvError::BadFloor),
+        Answer::Status(status, 1),
+    ];
+    are_answers(&rt, &replies, &answers);
+    Ok(())
+}

@@ -11,10 +11,12 @@ use kv_live::{
 use std::alloc::Global;
 use std::marker::Brand;
 use std::process::Abort;
+use std::rt::Clock;
 use std::sync::Wait;
 use std::test::Fail;
 use std::thread::{Threads, join};
 
+mod compacting;
 mod feeds;
 mod lock;
 mod opening;
@@ -30,6 +32,7 @@ enum Row {
     Lock(lock::Row),
     Feeds(feeds::Row),
     Told(told::Row),
+    Compacting(compacting::Row),
     Places,
     LeftBehind,
 }
@@ -51,14 +54,18 @@ impl Row {
 }
 
 // Runs a row, and once more where a request for memory ended it.
-fn run<R: Threads + Wait + Abort + Sync>(rt: &R, alloc: Global, row: Row) -> Result<(), KvError> {
+fn run<R: Threads + Wait + Abort + Sync + Clock>(
+    rt: &R,
+    alloc: Global,
+    row: Row,
+) -> Result<(), KvError> {
     match run_once(rt, alloc, row) {
         Err(KvError::OutOfMemory) => run_once(rt, alloc, row),
         done => done,
     }
 }
 
-fn run_once<R: Threads + Wait + Abort + Sync>(
+fn run_once<R: Threads + Wait + Abort + Sync + Clock>(
     rt: &R,
     alloc: Global,
     row: Row,
@@ -69,7 +76,7 @@ fn run_once<R: Threads + Wait + Abort + Sync>(
     run_on::<Brand, R>(rt, alloc, opened, row)
 }
 
-fn run_on<N: LiveName + Send + Sync, R: Threads + Wait + Abort + Sync>(
+fn run_on<N: LiveName + Send + Sync, R: Threads + Wait + Abort + Sync + Clock>(
     rt: &R,
     alloc: Global,
     opened: Opened,
@@ -87,7 +94,7 @@ fn run_on<N: LiveName + Send + Sync, R: Threads + Wait + Abort + Sync>(
     done
 }
 
-fn run_over<N: LiveName + Send + Sync, R: Threads + Wait + Abort + Sync>(
+fn run_over<N: LiveName + Send + Sync, R: Threads + Wait + Abort + Sync + Clock>(
     rt: &R,
     alloc: Global,
     live: &Live<N>,
@@ -101,6 +108,7 @@ fn run_over<N: LiveName + Send + Sync, R: Threads + Wait + Abort + Sync>(
         Row::Lock(row) => lock::run_row(rt, alloc, live, row),
         Row::Feeds(row) => feeds::run_row(rt, alloc, live, readers, row),
         Row::Told(row) => told::run_row(rt, alloc, live, readers, row),
+        Row::Compacting(row) => compacting::run_row(rt, alloc, live, readers, row),
         Row::Places => places::freed(rt, alloc, live, readers),
         Row::LeftBehind => places::left_behind(rt, alloc, live, readers),
     }

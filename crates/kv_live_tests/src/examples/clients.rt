@@ -18,22 +18,20 @@ const UPDATES: Options = Options {
     headers_only: false,
 };
 
-// A client: the version that it came upon, and where it is in what it is given.
+// A client: where it is in what it is given. It begins with updates, so that it needs no version of its own.
 #[derive(Drop)]
 struct Client {
-    base: Version,
     cursor: Cursor,
 }
 
 fn come(alloc: Global, now: &Version, filters: &Filters) -> Result<Client, KvError> {
-    let base = now.snapshot()?;
-    let cursor = Cursor::open(alloc, &base, filters, UPDATES)?;
-    Ok(Client { base, cursor })
+    let cursor = Cursor::open(alloc, now, filters, UPDATES)?;
+    Ok(Client { cursor })
 }
 
 // Hands a client what is next for it in this version, if anything is.
 fn serve<'a>(client: &'a mut Client, now: &'a Version) -> Taken<'a> {
-    client.cursor.take_settled(&client.base, now)
+    client.cursor.take_settled(None, now)
 }
 
 fn all_come(alloc: Global, now: &Version, count: usize) -> Result<Vec<Client>, KvError> {

@@ -1,6 +1,7 @@
 //! Laws of what a whole run of calls tells a watch. They are over the model alone, and know no version and no cursor.
 
 ghost use Rattle.std.specs.Prelude.{◌≡◌, ◌<◌, ◌≤◌, ℕ, false, List, [], ◌∷◌, ◌++◌, Some, filter, length};
+ghost use Rattle.std.specs.List.{list_any};
 ghost use Rattle.kv_keys.specs.declared.error.KvError.TheVariants.{OutOfMemory};
 ghost use Rattle.kv_model.specs.Acts.{IsPrefix};
 ghost use Rattle.kv_model.specs.Configuration.{Configuration};
@@ -10,7 +11,7 @@ ghost use Rattle.kv_model.specs.declared.call.Call.{Call};
 ghost use Rattle.kv_model.specs.declared.call.Call.TheVariants.{Watch, Take, Stop};
 ghost use Rattle.kv_model.specs.Answers.{Watching, Empty, Ended, Refused};
 ghost use Rattle.kv_model.specs.Runs.{run, answers_to, items_in};
-ghost use Rattle.kv_model.specs.Meeting.{may_add_act, bears_on, meetings_of};
+ghost use Rattle.kv_model.specs.Meeting.{may_add_act, compacts, bears_on, meetings_of};
 ghost use Rattle.kv_model.specs.State.{State, Watch as AWatch, watch_at, open_count, empty, after, answer_to};
 ghost use Rattle.kv_model.specs.Told.{GoesOn, IsOther, TellsWatch, TellsOn, TellsEachWatch};
 
@@ -43,7 +44,7 @@ pub fn tells_none_when_stopped()
         answer_to state (Stop number) ≡ Ended handed → items_in number (after state (Stop number)) calls ≡ [] }
 {}
 
-/// Calls of other watches leave a watch as it is, and so do writes, seals and reads.
+/// Calls of other watches leave a watch as it is, and so do writes, seals, compactions and reads.
 pub fn others_leave_it()
     ensures { (state : State) (number : ℕ) (watch : AWatch) (call : Call) →
         IsOther number call → watch_at number state.watches ≡ Some watch →
@@ -77,7 +78,7 @@ pub fn tells_on()
         TellsOn (run (empty config) before) calls (answers_to (run (empty config) before) calls) number watch }
 {}
 
-/// A call that is no write and no seal leaves the acts as they are.
+/// A call that is no write, no seal and no compaction leaves the acts as they are.
 pub fn leaves_the_acts()
     ensures { (state : State) (call : Call) → may_add_act call ≡ false → (after state call).acts ≡ state.acts }
 {}
@@ -92,10 +93,11 @@ pub fn others_change_nothing()
         items_in number_here here calls_here ≡ items_in number_there there calls_there }
 {}
 
-/// Without the calls of other watches, and without openings and reads, a watch is handed the same items.
+/// Without the calls of other watches, and without openings and reads, a watch is handed the same items, where no call is a
+/// compaction: whether one is refused depends on the other watches, and so may what is accepted after it.
 pub fn alone_is_the_same()
     ensures { (state : State) (watch : AWatch) (number : ℕ) (calls : List Call) →
-        watch_at number state.watches ≡ Some watch →
+        list_any compacts calls ≡ false → watch_at number state.watches ≡ Some watch →
         items_in number state (filter (bears_on number) calls) ≡ items_in number state calls }
 {}
 

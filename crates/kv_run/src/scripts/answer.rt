@@ -19,7 +19,7 @@ use crate::scripts::reads::{
 use crate::scripts::refusals::answer_refusal;
 use crate::scripts::takes::{answer_takes, pour_takes};
 use crate::scripts::watches::{answer_stop, answer_watch};
-use crate::scripts::writes::{answer_seal, answer_write};
+use crate::scripts::writes::{answer_compact, answer_seal, answer_write};
 use kv_bucket::Bucket;
 use kv_keys::KvError;
 use kv_script::{Command, is_skipped, parse};
@@ -52,6 +52,7 @@ fn answer_command(
         Command::Stop(watch) => answer_stop(alloc, bucket, *watch, out),
         Command::Status => answer_status(alloc, bucket, out),
         Command::Seal => answer_seal(alloc, bucket, out),
+        Command::Compact(floor) => answer_compact(alloc, bucket, *floor, out),
         Command::Place(key) => answer_place(alloc, key, out),
     }
 }

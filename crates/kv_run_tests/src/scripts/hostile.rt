@@ -19,7 +19,9 @@ const NOT_FOUND: &str = "{\"code\":12,\"error\":\"KeyNotFound\"}\n";
 
 const STALE: &str = "{\"code\":11,\"error\":\"WrongLastRevision\",\"last\":0}\n";
 
-const NO_COMMANDS: [&[u8]; 17] = [
+const BAD_FLOOR: &str = "{\"code\":19,\"error\":\"BadFloor\"}\n";
+
+const NO_COMMANDS: [&[u8]; 20] = [
     b"get a 18446744073709551616\n",
     b"get a 000000000000000000001\n",
     b"get a +1\n",
@@ -30,6 +32,9 @@ const NO_COMMANDS: [&[u8]; 17] = [
     b"watch > latest\n",
     b"take 1 1000001\n",
     b"seal x\n",
+    b"compact\n",
+    b"compact 1 1\n",
+    b"compact 18446744073709551616\n",
     b"place\n",
     b"get\ta\n",
     b"get  a\n",
@@ -52,6 +57,8 @@ fn numbers_at_their_limits(rt: HostRuntime) -> Result<(), Fail> {
     assert!(rt; alone(rt.alloc(), b"get a 18446744073709551615\n", NOT_FOUND)?);
     assert!(rt; alone(rt.alloc(), b"get a 00000000000000000001\n", NOT_FOUND)?);
     assert!(rt; alone(rt.alloc(), b"update n 18446744073709551615 -\n", STALE)?);
+    assert!(rt; alone(rt.alloc(), b"compact 18446744073709551615\n", BAD_FLOOR)?);
+    assert!(rt; alone(rt.alloc(), b"compact 0\n", BAD_FLOOR)?);
     Ok(())
 }
 

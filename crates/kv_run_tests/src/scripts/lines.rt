@@ -92,3 +92,27 @@ fn lines_without_calls(rt: HostRuntime) -> Result<(), Fail> {
     );
     Ok(())
 }
+
+#[test]
+fn compacted_once_a_watch_is_stopped(rt: HostRuntime) -> Result<(), Fail> {
+    let lines = [
+        "put k -",
+        "watch >",
+        "put k -",
+        "seal",
+        "compact 2",
+        "stop 1",
+        "compact 2",
+        "status",
+    ];
+    let text = "{\"revision\":1}\n\
+        {\"watch\":1}\n\
+        {\"revision\":2}\n\
+        {\"sealed\":true}\n\
+        {\"code\":20,\"error\":\"WatchBehind\",\"watch\":1}\n\
+        {\"handed\":0,\"stopped\":1}\n\
+        {\"compacted\":2}\n\
+        {\"bucket\":\"kv\",\"history\":1,\"last\":2,\"sealed\":true,\"stored\":1,\"values\":1,\"watches\":0}\n";
+    assert!(rt; answers(rt.alloc(), &lines, text)?);
+    Ok(())
+}

@@ -88,8 +88,10 @@ fn refused_lines_come_first(rt: HostRuntime) -> Result<(), Fail> {
 
 #[test]
 fn other_commands(rt: HostRuntime) -> Result<(), Fail> {
-    let script = "get .a\nkeys a..\nhistory .x\nplace\nput\nputs a -\nwatch a..\n";
+    let script = "get .a\nkeys a..\nhistory .x\nplace\nseal\ncompact 1\nput\nputs a -\nwatch a..\n";
     let text = "{\"code\":16,\"error\":\"BadCommand\"}\n\
+        {\"code\":16,\"error\":\"BadCommand\"}\n\
+        {\"code\":16,\"error\":\"BadCommand\"}\n\
         {\"code\":16,\"error\":\"BadCommand\"}\n\
         {\"code\":16,\"error\":\"BadCommand\"}\n\
         {\"code\":16,\"error\":\"BadCommand\"}\n\

@@ -49,6 +49,9 @@ worker_field worker = number_field (codes "worker") worker no_members
 abbrev pub sealed_fields : Members
 sealed_fields = member (codes "sealed") (boolean true) no_members
 
+abbrev pub compacted_fields : ℕ → Members
+compacted_fields floor = number_field (codes "compacted") floor no_members
+
 abbrev pub marker_fields : ℕ → Members
 marker_fields watch = member (codes "marker") (boolean true) (watch_field watch)
 

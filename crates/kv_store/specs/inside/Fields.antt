@@ -22,5 +22,6 @@ stored_of v = record {
   by_revision = v.by_revision;
   last = v.last;
   values = v.values;
+  floor = v.floor;
   sealed = v.sealed;
 }

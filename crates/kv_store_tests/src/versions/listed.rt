@@ -159,6 +159,7 @@ fn wildcards(rt: HostRuntime) -> Result<(), Fail> {
         ("*", "a "),
         ("*.b.>", "a.b.c "),
         (">", "a a.b a.b.c "),
+        ("a.b", "a.b "),
         ("b", ""),
     ];
     for (filter, keys) in rows {
@@ -178,6 +179,8 @@ fn keys_come_by_their_latest_revisions(rt: HostRuntime) -> Result<(), Fail> {
     ];
     let version = all_written(rt.alloc(), 5, &writes)?;
     lists(&rt, rt.alloc(), &version, ">", "b c ")?;
+    lists(&rt, rt.alloc(), &version, "c", "c ")?;
+    lists(&rt, rt.alloc(), &version, "a", "")?;
     Ok(())
 }
 
@@ -216,6 +219,9 @@ fn hostile_places(rt: HostRuntime) -> Result<(), Fail> {
     let numbers = [(Op::Put, 2), (Op::Put, 4)];
     retains(&rt, rt.alloc(), &version, "zinke", &numbers)?;
     lists(&rt, rt.alloc(), &version, ">", "zinke ")?;
+    let latest = Start::Latest;
+    selects(&rt, rt.alloc(), &version, "zinke", latest, &[4])?;
+    selects(&rt, rt.alloc(), &version, "zinke,altarage", latest, &[3, 4])?;
     Ok(())
 }
 
@@ -253,5 +259,64 @@ fn selections(rt: HostRuntime) -> Result<(), Fail> {
         &[3, 4, 5],
     )?;
     selects(&rt, rt.alloc(), &version, ">", Start::From(4), &[4, 5])?;
+    Ok(())
+}
+
+// Three keys of which one was deleted, each with its last two entries.
+fn three_keys(alloc: Global) -> Result<Version, KvError> {
+    let writes = [
+        (Op::Put, "a.b"),
+        (Op::Put, "c"),
+        (Op::Put, "a.b"),
+        (Op::Delete, "x.b"),
+        (Op::Put, "a.b"),
+    ];
+    all_written(alloc, 2, &writes)
+}
+
+#[test]
+fn keys_by_their_names(rt: HostRuntime) -> Result<(), Fail> {
+    let version = three_keys(rt.alloc())?;
+    let rows: [(&str, Start, &[u64]); 10] = [
+        ("a.b", Start::Latest, &[5]),
+        ("a.b", Start::History, &[3, 5]),
+        ("a.b", Start::From(4), &[5]),
+        ("a.b", Start::Updates, &[]),
+        ("x.b", Start::Latest, &[4]),
+        ("a.b,x.b,c", Start::History, &[2, 3, 4, 5]),
+        // none of these is there
+        ("a", Start::History, &[]),
+        ("nobody,a.b.c", Start::History, &[]),
+        // each once, though two filters name it
+        ("c,a.b,c,nobody", Start::Latest, &[2, 5]),
+        ("a.b,a.b,a.b", Start::History, &[3, 5]),
+    ];
+    for (filters, start, wanted) in rows {
+        selects(&rt, rt.alloc(), &version, filters, start, wanted)?;
+    }
+    Ok(())
+}
+
+#[test]
+fn names_beside_wildcards(rt: HostRuntime) -> Result<(), Fail> {
+    let version = three_keys(rt.alloc())?;
+    let rows: [(&str, Start, &[u64]); 5] = [
+        ("c,a.*", Start::History, &[2, 3, 5]),
+        ("a.b,*.b", Start::Latest, &[4, 5]),
+        ("nobody,c,nobody.>", Start::Latest, &[2]),
+        (">,c", Start::Latest, &[2, 4, 5]),
+        ("*", Start::Latest, &[2]),
+    ];
+    for (filters, start, wanted) in rows {
+        selects(&rt, rt.alloc(), &version, filters, start, wanted)?;
+    }
+    Ok(())
+}
+
+#[test]
+fn nothing_is_there(rt: HostRuntime) -> Result<(), Fail> {
+    let version = all_written(rt.alloc(), 1, &[])?;
+    selects(&rt, rt.alloc(), &version, "a,b", Start::Latest, &[])?;
+    selects(&rt, rt.alloc(), &version, "a,>", Start::Latest, &[])?;
     Ok(())
 }

@@ -231,24 +231,53 @@ fn wants<W: Wanted>(wanted: &W, key: &Key) -> bool {
     wanted.wants(key)
 }
 
+fn asked_once<W: Wanted>(alloc: Global, wanted: &W) -> Result<Option<u64>, KvError> {
+    match wanted.literals(alloc)? {
+        Some(keys) => Ok(Some(keys.len() as u64)),
+        None => Ok(None),
+    }
+}
+
+// How many keys are asked for, where each is by its name.
+fn asked_by_name<W: Wanted>(alloc: Global, wanted: &W) -> Result<Option<u64>, KvError> {
+    match asked_once(alloc, wanted) {
+        Err(KvError::OutOfMemory) => asked_once(alloc, wanted),
+        other => other,
+    }
+}
+
+fn filter(alloc: Global, text: &str) -> Result<Filter, KvError> {
+    match Filter::parse(alloc, text) {
+        Err(KvError::OutOfMemory) => Filter::parse(alloc, text),
+        parsed => parsed,
+    }
+}
+
+fn filters(alloc: Global, text: &str) -> Result<Filters, KvError> {
+    match Filters::parse(alloc, text) {
+        Err(KvError::OutOfMemory) => Filters::parse(alloc, text),
+        parsed => parsed,
+    }
+}
+
 #[test]
 fn wanted_by_a_filter(rt: HostRuntime) -> Result<(), Fail> {
     let a = key(rt.alloc(), "a")?;
-    let all = match Filter::parse(rt.alloc(), "*") {
-        Err(KvError::OutOfMemory) => Filter::parse(rt.alloc(), "*"),
-        parsed => parsed,
-    }?;
+    let all = filter(rt.alloc(), "*")?;
     assert!(rt; wants(&all, &a));
+    assert_eq!(rt; asked_by_name(rt.alloc(), &all)?, None);
+    let alone = filter(rt.alloc(), "a")?;
+    assert_eq!(rt; asked_by_name(rt.alloc(), &alone)?, Some(1));
     Ok(())
 }
 
 #[test]
 fn wanted_by_filters(rt: HostRuntime) -> Result<(), Fail> {
     let a = key(rt.alloc(), "a")?;
-    let others = match Filters::parse(rt.alloc(), "b,a.>") {
-        Err(KvError::OutOfMemory) => Filters::parse(rt.alloc(), "b,a.>"),
-        parsed => parsed,
-    }?;
+    let others = filters(rt.alloc(), "b,a.>")?;
     assert!(rt; !wants(&others, &a));
+    assert_eq!(rt; asked_by_name(rt.alloc(), &others)?, None);
+    let named = filters(rt.alloc(), "b,a.b,b")?;
+    assert_eq!(rt; asked_by_name(rt.alloc(), &named)?, Some(2));
     Ok(())
 }

@@ -61,10 +61,10 @@ fn shows_put_and_delete(
         size: 3,
         value,
     };
-    shows(rt, &cursor.peek(base, now), first);
-    shows(rt, &cursor.take(base, now), first);
+    shows(rt, &cursor.peek(Some(base), now), first);
+    shows(rt, &cursor.take(Some(base), now), first);
     assert_eq!(rt; step(rt, cursor, base, now), Some(Event::Marker));
-    shows_delete(rt, &cursor.take(base, now));
+    shows_delete(rt, &cursor.take(Some(base), now));
 }
 
 fn shows_delete(rt: &impl Abort, taken: &Taken<'_>) {

@@ -313,7 +313,7 @@ fn keep<N: LiveName, R: Wait>(
 }
 
 // Writes through the guard, at this revision.
-fn keeps_at<N: LiveName, R: Wait + Abort>(
+pub(super) fn keeps_at<N: LiveName, R: Wait + Abort>(
     rt: &R,
     keeper: &mut Keeper<N>,
     request: &Request,

@@ -71,7 +71,7 @@ fn watch_on_guard<N: LiveName, R: Wait + Abort>(
     }
 }
 
-fn watches_on_guard_as<N: LiveName, R: Wait + Abort>(
+pub(super) fn watches_on_guard_as<N: LiveName, R: Wait + Abort>(
     rt: &R,
     live: &Live<N>,
     filters: &Filters,
@@ -127,7 +127,7 @@ pub(super) fn seal_live<N: LiveName, R: Wait + Abort>(
 }
 
 // Takes from a watch, on a guard of its own: this item.
-fn takes_on_guard<N: LiveName, R: Wait + Abort>(
+pub(super) fn takes_on_guard<N: LiveName, R: Wait + Abort>(
     rt: &R,
     live: &Live<N>,
     number: u64,

@@ -25,7 +25,7 @@ pub returns-clause-ok : goal.returns-clause-ok
 returns-clause-ok g c =
     let config = g.N.LiveName.opening.config in
     let heard = c.hear_all.new.feed in
-    let went = c.refresh.new.self in
+    let went = c.refresh.new.feed in
     IfOk-weaker c.version.result _ (HasLast config _ _)
     (λ version shows. last_shown config _ went.acts version (shown config _ heard went version c.hear_all.ensures.told c.in_ok-refresh.ensures.ok shows))
     c.version.ensures.ok

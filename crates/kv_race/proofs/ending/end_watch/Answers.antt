@@ -26,6 +26,6 @@ returns-clause-ok g c =
     let heard = c.hear_all.new.feed in
     let last = c.collect.new.feed in
     let within : heard.handed ≤ length (given_by config.history heard) = omega (arith, c.handed.ensures.value, c.handed.ensures.within) in
-    ended config _ c.args.watched.feed heard c.refresh.new.self last c.stop-reader.result.0.seen
+    ended config _ c.args.watched.feed heard c.refresh.new.feed last c.stop-reader.result.0.seen
     c.hear_all.ensures.heard c.hear_all.ensures.told c.in_ok-refresh.ensures.ok c.collect.ensures.place (ap (λ (reader : Known). reader.seen) c.stop-reader.ensures.reader)
     c.args.watched.seen.items c.collect.new.seen.items c.in_ok-last.last c.in_ok-last.ensures.ok c.handed.ensures.prefix within c.collect.ensures.watch c.collect.ensures.seen c.in_ok-collect.ensures.all

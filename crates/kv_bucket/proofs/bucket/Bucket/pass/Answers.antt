@@ -18,8 +18,8 @@ returns-in-Some c = rw (← c.self.view_is) (λ state r e.
     let now : Bucketed = record { version = c.self.inside.version; watches = watches; opened = c.self.inside.opened } in
     let at : position (has_number c.args.number) watches ≡ Some place = sym (rw c.deref.ensures.value at c.in-Some.ensures) in
     let found = found_there (has_number c.args.number) watches place at in
-    let held : Holding = record { number = c.held.inside.number; base = c.held.inside.base; cursor = c.held.inside.cursor } in
+    let held : Holding = record { number = c.held.inside.number; base = c.held.inside.base.value; kept = c.held.inside.kept; cursor = c.held.inside.cursor } in
     let is : c.index_mut-held.result.now ≡ found.0 = c.index_mut-held.ensures.value ∙ get_or_from_slice_get watches place found.0 c.index_mut-held.result.now found.1 in
     let here : slice_get watches place ≡ Some held = found.1 ∙ ap (λ (h : Holding). Some h) (sym is ∙ sym c.held.view_is) in
     let moved = c.pass.ensures in
-    passed state now c.args.number place held at here r c.pass.new.self c.args.peeked moved.filters moved.options moved.in_place e)
+    passed state now c.args.number place held at here r c.let_go.new.kept c.pass.new.self c.args.peeked (c.let_go.ensures.opening held.base) moved.owes moved.filters moved.options moved.in_reach e)

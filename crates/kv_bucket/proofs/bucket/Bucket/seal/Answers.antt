@@ -7,4 +7,4 @@ use Rattle.kv_bucket.proofs.bucket.Bucket.seal.Goals as goal
 
 pub returns-clause-ok : goal.returns-clause-ok
 returns-clause-ok c = rw (← c.self.view_is) (λ state r.
-    (refl, represents_act later state _ Seal c.in_ok-next.next r (ap (λ (v : Stored). v.config) c.in_ok-next.ensures.ok) (c.in_ok-next.ensures.stands state.acts r.version)))
+    (refl, represents_act later state _ Seal c.in_ok-next.next refl r (ap (λ (v : Stored). v.config) c.in_ok-next.ensures.ok) (c.in_ok-next.ensures.stands state.acts r.version)))

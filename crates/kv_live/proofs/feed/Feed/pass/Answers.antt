@@ -13,10 +13,10 @@ pub returns-clause-once : goal.returns-clause-once
 returns-clause-once g c =
     let was = c.self.inside in
     let config = g.N.LiveName.opening.config in
-    let fed = c.self.invariant in
-    let feed = feeding_of was.reader was.held.base was.held.current was.cursor in
+    let fed = c.self.invariant.0 in
+    let feed = feeding_of was.reader was.held.base.value was.held.current was.cursor in
     let next : c.args.peeked ≡ option_map event_of (next_of config.history feed) =
     subst (λ (f : Feeding). c.args.peeked ≡ option_map event_of (next_of config.history f)) (sym c.self.view_is) c.requires.next in
     subst (λ (f : Feeding). c.args.peeked ≡ None → (told : List Act) → (w : Write) → Owes f told w → HasOnce f w (take f.handed (given_by config.history f))) c.self.view_is
-    (λ none told w owes. all_has_once config feed told w (lawful_fed config was.reader was.held.base was.held.current was.cursor fed) fed.place.prefix
-    (all_handed config was.reader was.held.base was.held.current was.cursor fed (sym none ∙ next)) owes)
+    (λ none told w owes. all_has_once config feed told w (lawful_fed config was.reader was.held.base.value was.held.current was.cursor fed) fed.reach.place.prefix
+    (all_handed config was.reader was.held.base.value was.held.current was.cursor fed (sym none ∙ next)) owes)

@@ -5,7 +5,7 @@ use Rattle.kv_model.specs.Answers.{Sealed}
 use Rattle.kv_store.specs.Standing.{StandsFor}
 use Rattle.kv_store.specs.Stored.{Stored}
 use Rattle.kv_live.specs.Keeping.{Kept, kept_of, IsSomewhere, IsKeptStep}
-use Rattle.kv_live.proofs.Keeping.{kept_after, posted_after, kept_same, published_stands, somewhere_act, at_act}
+use Rattle.kv_live.proofs.Keeping.{kept_after, posted_after, kept_same, published_stands, goes_on, somewhere_act, at_act}
 use Rattle.kv_live.proofs.keeper.Keeper.seal.Goals as goal
 
 pub invariant_of-self-2 : goal.invariant_of-self-2
@@ -21,7 +21,7 @@ invariant_of-self-2 g c =
     let bucket : c.keep.new.bucket ≡ record was.bucket { version = next } = search rules in
     let new : Kept = kept_of c.keep.new.bucket c.keep.new.publisher in
     let put : kept_after old Seal next ≡ new = kept_same old was.bucket c.keep.new.bucket Seal next c.keep.new.publisher refl posted bucket in
-    subst (IsSomewhere config) put (somewhere_act config old Seal next some same stands)
+    subst (IsSomewhere config) put (somewhere_act config old Seal next (goes_on old Seal next refl same stands) some)
 
 pub returns-clause-ok : goal.returns-clause-ok
 returns-clause-ok g c =
@@ -36,5 +36,5 @@ returns-clause-ok g c =
     let bucket : c.keep.new.bucket ≡ record was.bucket { version = next } = search rules in
     let new : Kept = kept_of c.keep.new.bucket c.keep.new.publisher in
     let put : kept_after old Seal next ≡ new = kept_same old was.bucket c.keep.new.bucket Seal next c.keep.new.publisher refl posted bucket in
-    let step : IsKeptStep old calls.Seal Sealed (kept_after old Seal next) = λ state at. (refl, at_act state old Seal next at same stands) in
+    let step : IsKeptStep old calls.Seal Sealed (kept_after old Seal next) = λ state at. (refl, at_act state old Seal next (goes_on old Seal next refl same stands) at) in
     subst (λ (k : Kept). IsKeptStep k calls.Seal Sealed new) c.self.view_is (subst (λ (k : Kept). IsKeptStep old calls.Seal Sealed k) put step)

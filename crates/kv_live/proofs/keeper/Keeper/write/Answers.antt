@@ -1,6 +1,6 @@
 use Rattle.std.proofs.Common.{rules, ◌≡◌, List, ◌++◌, ◌∷◌, [], Some, Ok, refl, subst, sym, ap, ◌∙◌}
 use Rattle.kv_model.specs.Acceptance.{accept}
-use Rattle.kv_model.specs.Acts.{Act, Wrote, Write}
+use Rattle.kv_model.specs.Acts.{Act, Wrote, Write, is_compaction}
 use Rattle.kv_model.specs.Requests.{asked}
 use Rattle.kv_model.specs.declared.call.Call.TheVariants as calls
 use Rattle.kv_model.specs.Answers.{Revision}
@@ -8,7 +8,7 @@ use Rattle.kv_store.specs.Standing.{StandsFor}
 use Rattle.kv_store.specs.Stored.{Stored}
 use Rattle.kv_live.specs.Posted.{Posted}
 use Rattle.kv_live.specs.Keeping.{Kept, kept_of, IsSomewhere, IsKeptStep, PublishesWrite}
-use Rattle.kv_live.proofs.Keeping.{kept_after, posted_after, kept_same, published_stands, somewhere_kept, at_write, publishes}
+use Rattle.kv_live.proofs.Keeping.{kept_after, posted_after, kept_same, published_stands, goes_on, somewhere_kept, at_write, publishes}
 use Rattle.kv_live.proofs.keeper.Keeper.write.Goals as goal
 
 pub invariant_of-self-2 : goal.invariant_of-self-2
@@ -25,7 +25,7 @@ invariant_of-self-2 g c =
     let deed : c.in-Some.deed ≡ Wrote accepted.0 =
     let found : Some c.in-Some.deed ≡ Some (Wrote accepted.0) = sym c.in-Some.is ∙ c.last_deed.ensures was.publisher.acts accepted.0 accepted.1.1 in cc found in
     let stands : StandsFor (was.publisher.acts ++ c.in-Some.deed ∷ []) next = subst (λ (act : Act). StandsFor (was.publisher.acts ++ act ∷ []) next) (sym deed) accepted.1.1 in
-    somewhere_kept config old was.bucket c.keep.new.bucket c.in-Some.deed next was.publisher c.keep.new.publisher c.keep.result some refl same stands c.keep.ensures.ok c.keep.ensures.unchanged
+    somewhere_kept config old was.bucket c.keep.new.bucket c.in-Some.deed next was.publisher c.keep.new.publisher c.keep.result (goes_on old c.in-Some.deed next (ap is_compaction deed) same stands) some refl c.keep.ensures.ok c.keep.ensures.unchanged
 
 pub returns-clause-ok : goal.returns-clause-ok
 returns-clause-ok g c =

@@ -30,6 +30,9 @@ returns-in-Status-clause-err c = on_err_weaker c.answer_status.result (λ same s
 pub returns-in-Seal-clause-err : goal.returns-in-Seal-clause-err
 returns-in-Seal-clause-err c = rw c.in-Seal.is (on_err_weaker c.answer_seal.result (λ same state r. ends_once state _ _ _ _ _ same.0 (same.1 state r)) c.answer_seal.ensures.err)
 
+pub returns-in-Compact-clause-err : goal.returns-in-Compact-clause-err
+returns-in-Compact-clause-err c = rw c.in-Compact.is (on_err_weaker c.answer_compact.result (λ same state r. ends_once state _ _ _ _ _ same.0 (same.1 state r)) c.answer_compact.ensures.err)
+
 pub returns-in-Place-clause-err : goal.returns-in-Place-clause-err
 returns-in-Place-clause-err c = on_err_weaker c.answer_place.result (λ same state r. ends_at_once state _ _ _ _ same r) c.answer_place.ensures.err
 

@@ -1,5 +1,7 @@
-use Rattle.std.proofs.Common.{sym, ◌∙◌}
-use Rattle.kv_store.proofs.Lookups.{none_above}
+use Rattle.std.proofs.Common.{◌≡◌, sym, ap, ◌∙◌}
+use Rattle.std.specs.Option.{option_copied}
+use Rattle.kv_store.specs.Stored.{write_at}
+use Rattle.kv_store.proofs.Lookups.{none_above, write_by_number}
 use Rattle.kv_store.proofs.version.Version.write_at.Goals as goal
 
 pub returns-then-revision-self-clause-value : goal.returns-then-revision-self-clause-value
@@ -9,3 +11,9 @@ returns-then-revision-self-clause-value c =
 pub returns-then-revision-self-clause-acts : goal.returns-then-revision-self-clause-acts
 returns-then-revision-self-clause-acts c = λ acts s.
     returns-then-revision-self-clause-value c ∙ s.written c.args.revision
+
+pub returns-clause-acts : goal.returns-clause-acts
+returns-clause-acts c = λ acts s.
+    let value : option_copied c.get.result ≡ write_at c.args.revision c.args.self.now =
+    (rw c.new.ensures at c.get.ensures) ∙ sym (write_by_number c.args.revision c.self.inside.by_revision) ∙ ap (write_at c.args.revision) c.self.view_is in
+    value ∙ s.written c.args.revision

@@ -1,0 +1,97 @@
+//! The functions that C calls to compact a bucket.
+
+ghost use Rattle.std.specs.Prelude.{◌≡◌, Err, Some, IsFalse};
+ghost use Rattle.kv_bucket.specs.Held.{Represents};
+ghost use Rattle.kv_bucket.specs.Stepping.{IsStep};
+ghost use Rattle.kv_c.specs.Calling.{IsReach, StandsAt, Steps, holds_bucket};
+ghost use Rattle.kv_c.specs.Codes.{accepted, code_by};
+ghost use Rattle.kv_keys.specs.declared.error.KvError.TheVariants.{WatchBehind};
+ghost use Rattle.kv_model.specs.Answers.{Compacted};
+ghost use Rattle.kv_model.specs.State.{State, may_compact};
+ghost use Rattle.kv_model.specs.declared.call.Call.TheVariants.{Compact};
+
+use crate::codes::{CLOSED, refuse};
+use crate::content::Content;
+use crate::handle::Handle;
+use kv_bucket::Bucket;
+use std::alloc::Global;
+
+#[tactic(auto, using(crate::proofs::Refusing::code_from, crate::proofs::Refusing::watch_from, crate::proofs::Refusing::compacted_from))]
+fn compact(bucket: &mut Bucket, floor: u64, watch: &mut u64) -> u64
+    ensures compacted { result ≡ 0 → IsStep bucket.old (Compact floor) (Compacted floor) bucket.new }
+    ensures code { (state : State) → Represents state bucket.old → ¬ (result ≡ 1) →
+        result ≡ code_by accepted (may_compact floor state) }
+    ensures watch { result ≡ 20 → (state : State) → Represents state bucket.old →
+        may_compact floor state ≡ Err (WatchBehind watch.new) }
+    ensures refused { ¬ (result ≡ 0) → bucket.new ≡ bucket.old }
+{
+    match bucket.compact(floor) {
+        Ok(()) => 0,
+        Err(refusal) => refuse(refusal, watch),
+    }
+}
+
+fn compact_in(content: &mut Content, floor: u64, watch: &mut u64) -> u64
+    ensures compacted { result ≡ 0 → Steps (Compact floor) (Compacted floor) (Some content.old) (Some content.new) }
+    ensures code { (state : State) → StandsAt state (Some content.old) → ¬ (result ≡ 1) →
+        result ≡ code_by accepted (may_compact floor state) }
+    ensures watch { result ≡ 20 → (state : State) → StandsAt state (Some content.old) →
+        may_compact floor state ≡ Err (WatchBehind watch.new) }
+    ensures refused { ¬ (result ≡ 0) → content.new ≡ content.old }
+    ensures closed { IsFalse (holds_bucket (Some content.old)) → result ≡ 32 }
+{
+    match content {
+        Content::Bucket(bucket) => compact(bucket, floor, watch),
+        Content::View(_) | Content::Feed(_) => CLOSED,
+    }
+}
+
+/// Compacts a bucket to a floor: of the writes at or below it only the retained ones stay stored. Where a watch has
+/// still to hand out an entry at or below it that came after its opening, the least number of such a watch is handed
+/// out.
+#[unsafe(no_mangle)]
+pub extern "C" fn kv_compact(alloc: Global, handle: &mut Handle, floor: u64, watch: &mut u64) -> u64
+    ensures compacted { result ≡ 0 →
+        Steps (Compact floor) (Compacted floor) handle.old.slot.held handle.new.slot.held }
+    ensures code { (state : State) → StandsAt state handle.old.slot.held → ¬ (result ≡ 1) →
+        result ≡ code_by accepted (may_compact floor state) }
+    ensures watch { result ≡ 20 → (state : State) → StandsAt state handle.old.slot.held →
+        may_compact floor state ≡ Err (WatchBehind watch.new) }
+    ensures refused { ¬ (result ≡ 0) → handle.new.slot.held ≡ handle.old.slot.held }
+    ensures closed { IsFalse (holds_bucket handle.old.slot.held) → result ≡ 32 }
+{
+    let Some(mut content) = handle.take(alloc) else {
+        return CLOSED;
+    };
+    let done = compact_in(&mut content, floor, watch);
+    handle.put(content);
+    done
+}
+
+fn reach_of(content: &Content, floor: &mut u64) -> u64
+    ensures reach { (state : State) → StandsAt state (Some content.now) → (result ≡ 0) × IsReach state floor.new }
+    ensures closed { IsFalse (holds_bucket (Some content.now)) → result ≡ 32 }
+{
+    match content {
+        Content::Bucket(bucket) => {
+            *floor = bucket.reach();
+            0
+        }
+        Content::View(_) | Content::Feed(_) => CLOSED,
+    }
+}
+
+/// Hands out the highest floor to which a bucket can be compacted, 0 where there is none.
+#[unsafe(no_mangle)]
+pub extern "C" fn kv_reach(alloc: Global, handle: &mut Handle, floor: &mut u64) -> u64
+    ensures reach { (state : State) → StandsAt state handle.old.slot.held → (result ≡ 0) × IsReach state floor.new }
+    ensures unchanged { handle.new.slot.held ≡ handle.old.slot.held }
+    ensures closed { IsFalse (holds_bucket handle.old.slot.held) → result ≡ 32 }
+{
+    let Some(content) = handle.take(alloc) else {
+        return CLOSED;
+    };
+    let done = reach_of(&content, floor);
+    handle.put(content);
+    done
+}

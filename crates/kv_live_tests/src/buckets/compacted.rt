@@ -1,0 +1,166 @@
+//! Compactions of a bucket, and what they leave to its watches.
+
+use super::*;
+
+fn compact_once(bucket: &mut Bucket, floor: u64) -> Answer {
+    match bucket.compact(floor) {
+        Ok(()) => Answer::Compacted(floor),
+        Err(error) => Answer::Refused(error),
+    }
+}
+
+// A refusal leaves the bucket as it was.
+fn compact(rt: &impl Abort, bucket: &mut Bucket, floor: u64) -> Answer {
+    let before = look(bucket);
+    let answer = compact_once(bucket, floor);
+    if let Answer::Refused(error) = answer {
+        looks(rt, bucket, before);
+        if error == KvError::OutOfMemory {
+            return compact_once(bucket, floor);
+        }
+    }
+    answer
+}
+
+// Whether it may be compacted, as an answer.
+fn may_compact(bucket: &Bucket, floor: u64) -> Answer {
+    match bucket.may_compact(floor) {
+        Ok(()) => Answer::Compacted(floor),
+        Err(error) => Answer::Refused(error),
+    }
+}
+
+fn compacts_as(rt: &impl Abort, bucket: &mut Bucket, floor: u64, expected: Answer) {
+    assert_eq!(rt; may_compact(bucket, floor), expected);
+    assert_eq!(rt; compact(rt, bucket, floor), expected);
+}
+
+fn compacts(rt: &impl Abort, bucket: &mut Bucket, floor: u64) {
+    compacts_as(rt, bucket, floor, Answer::Compacted(floor));
+}
+
+fn reaches(rt: &impl Abort, bucket: &Bucket, reach: u64) {
+    assert_eq!(rt; bucket.reach(), reach);
+}
+
+fn takes(rt: &impl Abort, bucket: &mut Bucket, answers: &[Answer]) {
+    for answer in answers {
+        assert_eq!(rt; peek(bucket, 1), *answer);
+        assert_eq!(rt; take(bucket, 1), *answer);
+    }
+}
+
+// Puts of `k`, each with its value.
+fn put_all(
+    rt: &impl Abort,
+    alloc: Global,
+    bucket: &mut Bucket,
+    values: &[&str],
+) -> Result<(), KvError> {
+    for value in values {
+        let request = put(alloc, "k", value)?;
+        write(rt, bucket, &request)?;
+    }
+    Ok(())
+}
+
+#[test]
+fn compaction_and_watches(rt: HostRuntime) -> Result<(), Fail> {
+    let filters = all_keys(rt.alloc())?;
+    let mut bucket = keeping(rt.alloc(), 1)?;
+    put_all(&rt, rt.alloc(), &mut bucket, &["1"])?;
+    assert_eq!(rt; watch(&rt, &mut bucket, &filters)?, 1);
+    put_all(&rt, rt.alloc(), &mut bucket, &["2", "3", "4"])?;
+    reaches(&rt, &bucket, 1);
+    let behind = Answer::Refused(KvError::WatchBehind { watch: 1 });
+    compacts_as(&rt, &mut bucket, 2, behind);
+    compacts(&rt, &mut bucket, 1);
+    takes(
+        &rt,
+        &mut bucket,
+        &[Answer::Entry(1), Answer::Marker, Answer::Entry(2)],
+    );
+    compacts(&rt, &mut bucket, 2);
+    takes(
+        &rt,
+        &mut bucket,
+        &[Answer::Entry(3), Answer::Entry(4), Answer::Empty],
+    );
+    reaches(&rt, &bucket, 4);
+    compacts(&rt, &mut bucket, 4);
+    compacts_as(&rt, &mut bucket, 3, Answer::Refused(KvError::BadFloor));
+    let status = Status {
+        history: 1,
+        last: 4,
+        sealed: false,
+        stored: 1,
+        values: 1,
+    };
+    assert_eq!(rt; bucket.version().status(), status);
+    Ok(())
+}
+
+// Whether the next entry of watch 1 shows this value.
+fn shows_next(bucket: &Bucket, value: &[u8]) -> bool {
+    match bucket.peek(1) {
+        Ok(Taken::Entry(shown)) => shown.value() == Some(value),
+        _ => false,
+    }
+}
+
+fn is_stored(bucket: &Bucket, revision: u64) -> bool {
+    bucket.version().write_at(revision).is_some()
+}
+
+// An entry of the opening that was compacted since is still handed out, as it was.
+#[test]
+fn initial_of_its_moment_after_a_compaction(rt: HostRuntime) -> Result<(), Fail> {
+    let mut bucket = watched_between_puts(&rt, rt.alloc(), 1)?;
+    compacts(&rt, &mut bucket, 1);
+    assert!(rt; !is_stored(&bucket, 1));
+    assert!(rt; shows_next(&bucket, b"1"));
+    takes(
+        &rt,
+        &mut bucket,
+        &[
+            Answer::Entry(1),
+            Answer::Marker,
+            Answer::Entry(2),
+            Answer::Empty,
+        ],
+    );
+    Ok(())
+}
+
+// A bucket with a put, so many watches, and another put of the same key.
+fn watched_between_puts(rt: &impl Abort, alloc: Global, count: u64) -> Result<Bucket, KvError> {
+    let filters = all_keys(alloc)?;
+    let mut bucket = keeping(alloc, 1)?;
+    put_all(rt, alloc, &mut bucket, &["1"])?;
+    for _ in 0..count {
+        watch(rt, &mut bucket, &filters)?;
+    }
+    put_all(rt, alloc, &mut bucket, &["2"])?;
+    Ok(bucket)
+}
+
+fn stops_at(rt: &impl Abort, bucket: &mut Bucket, number: u64, handed: u64) {
+    assert_eq!(rt; stop(bucket, number), Answer::Stopped(handed));
+}
+
+#[test]
+fn the_least_watch_that_is_behind(rt: HostRuntime) -> Result<(), Fail> {
+    let mut bucket = watched_between_puts(&rt, rt.alloc(), 2)?;
+    let behind = Answer::Refused(KvError::WatchBehind { watch: 1 });
+    compacts_as(&rt, &mut bucket, 2, behind);
+    takes(
+        &rt,
+        &mut bucket,
+        &[Answer::Entry(1), Answer::Marker, Answer::Entry(2)],
+    );
+    let behind = Answer::Refused(KvError::WatchBehind { watch: 2 });
+    compacts_as(&rt, &mut bucket, 2, behind);
+    stops_at(&rt, &mut bucket, 2, 0);
+    compacts(&rt, &mut bucket, 2);
+    Ok(())
+}

@@ -1,0 +1,51 @@
+//! Filters that are keys. A filter without a wildcard is a key, by the grammars of both, and matches that key alone.
+
+ghost use Rattle.std.specs.Prelude.{◌≡◌, ◌++◌, ◌∷◌, [], if◌then◌else◌, IfErr, IfOk, IfSome, IsTrue, OnOk};
+ghost use Rattle.std.specs.List.{list_any};
+ghost use Rattle.std.specs.Str.{bytes_eq};
+ghost use Rattle.kv_keys.specs.declared.error.KvError.TheVariants.{OutOfMemory};
+ghost use Rattle.kv_keys.specs.Grammar.{is_key, parts};
+ghost use Rattle.kv_keys.specs.Matching.{any_matches};
+ghost use Rattle.kv_store.specs.Asked.{AreAsked};
+
+use kv_keys::{Key, KvError};
+use std::alloc::Global;
+
+// The filter as a key, where it is one. One with a wildcard takes no memory.
+fn literal(alloc: Global, filter: &str) -> Result<Option<Key>, KvError>
+    ensures ok { IfOk result (λ key. IfSome key (λ key. (key ≡ filter.now) × IsTrue (is_key filter.now))) }
+    ensures err { IfErr result (λ error. error ≡ OutOfMemory) }
+{
+    match Key::parse(alloc, filter) {
+        Ok(key) => Ok(Some(key)),
+        Err(KvError::BadKey) => Ok(None),
+        Err(error) => Err(error),
+    }
+}
+
+// Adds the key, unless it is there.
+fn add_once(keys: &mut Vec<Key>, key: Key) -> Result<(), KvError>
+    ensures ok { OnOk result (keys.new.items
+        ≡ (if list_any (λ k. bytes_eq k key) keys.old.items then keys.old.items else keys.old.items ++ key ∷ [])) }
+    ensures err { IfErr result (λ error. error ≡ OutOfMemory) }
+{
+    if !keys.contains(&key) {
+        keys.push(key)?;
+    }
+    Ok(())
+}
+
+/// The keys that a list of filters asks for, each once, where no filter of it has a wildcard.
+pub fn literals(alloc: Global, filters: &str) -> Result<Option<Vec<Key>>, KvError>
+    ensures asked { IfOk result (λ keys. IfSome keys (λ keys. AreAsked (any_matches (parts filters.now)) keys.items)) }
+    ensures err { IfErr result (λ error. error ≡ OutOfMemory) }
+{
+    let mut keys = Vec::new(alloc);
+    for filter in filters.split(',') {
+        match literal(alloc, filter)? {
+            Some(key) => add_once(&mut keys, key)?,
+            None => return Ok(None),
+        }
+    }
+    Ok(Some(keys))
+}
