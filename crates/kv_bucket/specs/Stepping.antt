@@ -10,9 +10,11 @@ use Rattle.kv_model.specs.State.{State, after, answer_to}
 
 -- the bucket answered as the model does, and represents the state that the model comes to
 abbrev pub IsStep : Bucketed → Call → Answer → Bucketed → Type 0
-IsStep old call answer new = (state : State) → Represents state old → (answer ≡ answer_to state call) × Represents (after state call) new
+IsStep old call answer new = (state : State) → Represents state old → (answer ≡ answer_to state call) ×
+    Represents (after state call) new
 
 -- the same for calls in a row: replies were added with the model's answers
 abbrev pub IsRun : Bucketed → List Call → List Reply → List Reply → Bucketed → Type 0
 IsRun old calls before replies new = (added : List Reply) × (replies ≡ before ++ added)
-    × ((state : State) → Represents state old → (map answer_of added ≡ answers_to state calls) × Represents (run state calls) new)
+    × ((state : State) → Represents state old → (map answer_of added ≡ answers_to state calls) ×
+    Represents (run state calls) new)

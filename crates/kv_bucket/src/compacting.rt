@@ -83,7 +83,8 @@ impl Bucket {
     // The least of the last revision and of the watches' reaches.
     fn least_reach(&self) -> u64
         ensures within { (state : State) → Represents state self.now → result ≤ length (writes_of state.acts) }
-        ensures reach { (state : State) → Represents state self.now → (floor : ℕ) → floor ≤ length (writes_of state.acts) →
+        ensures reach { (state : State) → Represents state self.now → (floor : ℕ) →
+            floor ≤ length (writes_of state.acts) →
             is_some (first_behind 1 floor state.config.history state.acts state.watches) ≡ nat_lt result floor }
     {
         let mut reach = self.version.revision();
@@ -96,7 +97,8 @@ impl Bucket {
     // The highest floor that the open watch of the number is not behind; the last revision where there is none.
     fn reach_at(&self, number: u64) -> u64
         ensures within { (state : State) → Represents state self.now → result ≤ length (writes_of state.acts) }
-        ensures reach { (state : State) → Represents state self.now → (floor : ℕ) → floor ≤ length (writes_of state.acts) →
+        ensures reach { (state : State) → Represents state self.now → (floor : ℕ) →
+            floor ≤ length (writes_of state.acts) →
             behind_at floor state number ≡ nat_lt result floor }
     {
         let Some(place) = place_of(&self.watches, number) else {

@@ -25,7 +25,12 @@ impl Model for Held {
 
     ghost Value = { Holding };
 
-    ghost view = { λ held. record { number = held.number; base = held.base.value; kept = held.kept; cursor = held.cursor } };
+    ghost view = { λ held. record {
+      number = held.number;
+      base = held.base.value;
+      kept = held.kept;
+      cursor = held.cursor;
+    } };
 }
 
 impl Held {

@@ -31,7 +31,8 @@ impl Bucket {
         ensures told_early { OnErr result ((k : ℕ) × (k < length calls.now) ×
             IsRun self.old (take k calls.now) replies.old.items replies.new.items self.new ×
             ((state : State) → Represents state self.old →
-            TellsEachWatch state (take k calls.now) (map answer_of (drop (length replies.old.items) replies.new.items)))) }
+            TellsEachWatch state (take k calls.now) (map answer_of
+            (drop (length replies.old.items) replies.new.items)))) }
     {
         for call in calls {
             replies.reserve(1)?;

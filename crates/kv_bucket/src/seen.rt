@@ -30,7 +30,13 @@ impl Model for Seen {
 
     ghost Value = { Entry };
 
-    ghost view = { λ s. record { key = s.key; op = s.op; revision = s.revision; size = s.size; value = option_map (λ v. v.items) s.value } };
+    ghost view = { λ s. record {
+      key = s.key;
+      op = s.op;
+      revision = s.revision;
+      size = s.size;
+      value = option_map (λ v. v.items) s.value;
+    } };
 }
 
 impl Seen {

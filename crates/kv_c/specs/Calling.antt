@@ -65,7 +65,8 @@ Shows config acts held = Reads config acts (version_in held)
 
 -- the write that is asked for is accepted at this revision
 abbrev pub IsWrite : Bucketed → Asked → ℕ → Bucketed → Type 0
-IsWrite old what revision new = (request : Request) × (asked request ≡ what) × IsStep old (calls.Write request) (Revision revision) new
+IsWrite old what revision new = (request : Request) × (asked request ≡ what) ×
+    IsStep old (calls.Write request) (Revision revision) new
 
 -- the same, of what a handle holds before and after
 abbrev pub Accepts : Asked → Option Content → ℕ → Option Content → Type 0
@@ -94,7 +95,8 @@ Refreshes of old new = ⊥
 
 -- the code of a feed that is to go on: 36 where that version has fewer writes than its own, else 21 where it lags behind that one's floor
 abbrev pub refreshed_code : List Act → List Act → ℕ → Stored → Fed → ℕ
-refreshed_code began acts n v f = if nat_le f.present.last v.last then (if lags v.floor began acts n f then 21 else 0) else 36
+refreshed_code began acts n v f = if nat_le f.present.last v.last then
+    (if lags v.floor began acts n f then 21 else 0) else 36
 
 -- the same, of what the handles hold
 abbrev pub refresh_code : List Act → List Act → ℕ → Option Stored → Option Content → ℕ
@@ -136,7 +138,8 @@ IsValue found room size revision = (w : Write) × (found ≡ Some w) × (take si
 
 -- these entries were found, and the one of an index is handed out, without its key
 abbrev pub IsHistory : Option (List Write) → ℕ → ℕ → Item → List ℕ → Type 0
-IsHistory found index count item room = (ws : List Write) × (found ≡ Some ws) × (count ≡ length ws) × IsEntry (slice_get ws index) item room
+IsHistory found index count item room = (ws : List Write) × (found ≡ Some ws) × (count ≡ length ws) ×
+    IsEntry (slice_get ws index) item room
 
 -- these keys are handed out
 abbrev pub AreKeys : List (List ℕ) → ℕ → ℕ → List ℕ → Type 0

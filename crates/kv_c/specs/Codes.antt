@@ -49,7 +49,8 @@ fits bytes room = nat_le (length bytes) (length room)
 
 -- a name is copied to the room, where there is enough of it; how many bytes it has is told
 abbrev pub IsNamed : List ℕ → List ℕ → ℕ → ℕ → List ℕ → Type 0
-IsNamed name room code size copied = (code ≡ room_code (fits name room)) × (size ≡ length name) × (code ≡ 0 → take size copied ≡ name)
+IsNamed name room code size copied = (code ≡ room_code (fits name room)) × (size ≡ length name) ×
+    (code ≡ 0 → take size copied ≡ name)
 
 -- that of a write whose value is copied
 abbrev pub value_code : List ℕ → Write → ℕ
@@ -76,7 +77,8 @@ read_code key room found = code_by (value_code room) (with_key key (ok_or found 
 
 -- that of a read of the entry of an index
 abbrev pub history_code : List ℕ → ℕ → List ℕ → Option (List Write) → ℕ
-history_code key index room found = code_by (λ ws. found_code room (slice_get ws index)) (with_key key (ok_or found KeyNotFound))
+history_code key index room found = code_by (λ ws. found_code room (slice_get ws index))
+    (with_key key (ok_or found KeyNotFound))
 
 -- keys as they are written: each with a zero byte behind it, which no key has
 abbrev pub listed : List (List ℕ) → List ℕ

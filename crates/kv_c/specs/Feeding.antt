@@ -28,7 +28,8 @@ next_of began acts n f = slice_get (given_to f.base.config.history began acts f.
 
 -- it lags behind a floor where the floor is above the last revision of its version, or a live item at or below it is still to be handed out
 abbrev pub lags : ℕ → List Act → List Act → ℕ → Fed → Bool
-lags floor began acts n f = nat_lt (length (writes_of acts)) floor || is_behind floor n f.base.config.history began acts f.cursor.filters f.cursor.options
+lags floor began acts n f = nat_lt (length (writes_of acts)) floor || is_behind floor n f.base.config.history began
+    acts f.cursor.filters f.cursor.options
 
 -- it begins with a version, and has handed out nothing
 abbrev pub Opens : Stored → List (List ℕ) → Options → Fed → Type 0
@@ -39,10 +40,13 @@ Opens v filters options f = (f.base ≡ v) × (f.present ≡ v) × (f.cursor.fil
 abbrev pub IsRefreshed : Stored → Fed → Fed → Type 0
 IsRefreshed v old new = (new ≡ record old { present = v })
     × ((began acts : List Act) (n : ℕ) → HasHanded began acts n old → lags v.floor began acts n old ≡ false)
-    × ((began acts later : List Act) (n : ℕ) → HasHanded began acts n old → StandsFor later v → v.config ≡ old.present.config → IsPrefix acts later → HasHanded began later n new)
+    × ((began acts later : List Act) (n : ℕ) → HasHanded began acts n old → StandsFor later v →
+    v.config ≡ old.present.config → IsPrefix acts later → HasHanded began later n new)
 
 -- it hands out the next item, or that there is none, and has handed out that one too
 abbrev pub HandsNext : Fed → Told → List ℕ → List ℕ → Fed → Type 0
-HandsNext old item keys values new = (new.base ≡ old.base) × (new.present ≡ old.present) × (new.cursor.filters ≡ old.cursor.filters) × (new.cursor.options ≡ old.cursor.options)
+HandsNext old item keys values new = (new.base ≡ old.base) × (new.present ≡ old.present) ×
+    (new.cursor.filters ≡ old.cursor.filters) × (new.cursor.options ≡ old.cursor.options)
     × ((began acts : List Act) (n : ℕ) → HasHanded began acts n old →
-    (answer_item (next_of began acts n old) ≡ told item keys values) × HasHanded began acts (n + option_len (next_of began acts n old)) new)
+    (answer_item (next_of began acts n old) ≡ told item keys values) ×
+    HasHanded began acts (n + option_len (next_of began acts n old)) new)

@@ -23,10 +23,17 @@ entry_told item keys values = record {
 }
 
 abbrev pub told : Item → List ℕ → List ℕ → Answer
-told item keys values = if item.kind == 0 then Empty else (if item.kind == 1 then Marker else AnsweredEntry (entry_told item keys values))
+told item keys values = if item.kind == 0 then Empty else
+    (if item.kind == 1 then Marker else AnsweredEntry (entry_told item keys values))
 
 abbrev pub numbers_told : Numbers → Answer
-numbers_told n = Told (record { history = n.history; last = n.last; sealed = n.sealed; stored = n.stored; values = n.values }) n.watches
+numbers_told n = Told (record {
+  history = n.history;
+  last = n.last;
+  sealed = n.sealed;
+  stored = n.stored;
+  values = n.values;
+}) n.watches
 
 -- the item tells of this write, without its key, or that there is none
 abbrev pub IsEntry : Option Write → Item → List ℕ → Type 0
@@ -45,7 +52,8 @@ AreCopied keys values entry = (take (length entry.key) keys ≡ entry.key) × Is
 
 -- the item tells how much room the entry needs
 abbrev pub Wants : Item → Answer → Type 0
-Wants item (AnsweredEntry entry) = (item.key_size ≡ length entry.key) × (item.value_size ≡ option_map_or length entry.value 0)
+Wants item (AnsweredEntry entry) = (item.key_size ≡ length entry.key) ×
+    (item.value_size ≡ option_map_or length entry.value 0)
 Wants item answer = ⊥
 
 -- the same of the value of a write

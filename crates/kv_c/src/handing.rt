@@ -5,7 +5,6 @@ ghost use Rattle.std.specs.Option.{option_copied};
 ghost use Rattle.kv_c.specs.Codes.{entry_fits, fits, room_code, taken_code, value_code, value_fits};
 ghost use Rattle.kv_model.specs.Answers.{AnsweredEntry, answer_item};
 ghost use Rattle.kv_c.specs.Handing.{AreCopied, IsEntry, IsValueCopied, Wants, told, op_named};
-ghost use Rattle.kv_model.specs.Acts.{is_put};
 ghost use Rattle.kv_watch.specs.Taking.{item_taken, entry_shown};
 
 use crate::codes::TOO_LITTLE_ROOM;
@@ -69,15 +68,6 @@ fn number_of(op: Op) -> u32
     }
 }
 
-fn is_put(op: Op) -> bool
-    ensures { result ≡ is_put op }
-{
-    match op {
-        Op::Put => true,
-        Op::Delete | Op::Purge => false,
-    }
-}
-
 /// The item without an entry.
 pub(crate) fn empty_item(kind: u32) -> Item
     ensures { result.kind ≡ kind }
@@ -106,7 +96,7 @@ fn write_item(write: &Write) -> Item
         key_size: 0,
         size: size as u64,
         value_size: size,
-        has_value: is_put(write.op()),
+        has_value: write.op().is_put(),
     }
 }
 

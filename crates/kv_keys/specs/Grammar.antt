@@ -35,7 +35,8 @@ is_literal token = is_present token && list_all is_key_character token
 -- the tokens of a filter are stars and literals, and the last may be `>`
 abbrev pub are_filter_tokens : List (List ℕ) → Bool
 are_filter_tokens [] = true
-are_filter_tokens (token ∷ more) = is_rest (token ∷ more) || ((is_star token || is_literal token) && are_filter_tokens more)
+are_filter_tokens (token ∷ more) = is_rest (token ∷ more) ||
+    ((is_star token || is_literal token) && are_filter_tokens more)
 
 -- a filter has 1 to 255 bytes
 unfoldable pub is_filter : List ℕ → Bool

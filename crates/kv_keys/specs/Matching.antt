@@ -21,7 +21,8 @@ abbrev pub tokens_match : List (List ℕ) → List (List ℕ) → Bool
 tokens_match [] [] = true
 tokens_match [] (word ∷ words) = false
 tokens_match (token ∷ more) [] = false
-tokens_match (token ∷ more) (word ∷ words) = is_rest (token ∷ more) || ((is_star token || bytes_eq token word) && tokens_match more words)
+tokens_match (token ∷ more) (word ∷ words) = is_rest (token ∷ more) ||
+    ((is_star token || bytes_eq token word) && tokens_match more words)
 
 -- whether a filter matches a key
 unfoldable pub matches : List ℕ → List ℕ → Bool

@@ -1,6 +1,6 @@
 -- What a call of the lock tells of the state that the keeper was at.
 use Rattle.std.proofs.Common.{◌≡◌, ℕ, List, Result, Ok, Err, refl, subst}
-use Rattle.std.specs.Prelude.{IfErr, OnOk}
+use Rattle.std.specs.Prelude.{OnOk}
 use Rattle.kv_keys.specs.Outcome.{Refuses}
 use Rattle.kv_keys.specs.declared.error.KvError.{KvError}
 use Rattle.kv_model.specs.Acceptance.{accept, IsLawful}
@@ -8,7 +8,7 @@ use Rattle.kv_model.specs.Acts.{Act}
 use Rattle.kv_model.specs.Configuration.{Configuration}
 use Rattle.kv_model.specs.Requests.{Asked}
 use Rattle.kv_live.specs.Keeping.{Kept, IsAt, state_of, IsSomewhere, PublishesWrite, WritesSomewhere, RefusedSomewhere, IsLawfulState, IsKeptStep, CompactsSomewhere, UncompactedSomewhere}
-use Rattle.kv_model.specs.Answers.{Compacted, Refused}
+use Rattle.kv_model.specs.Answers.{Compacted}
 use Rattle.kv_model.specs.declared.call.Call.TheVariants as calls
 use Rattle.kv_model.specs.State.{State, answer_compact, may_compact}
 use Rattle.kv_live.proofs.Keeping.{same_config}

@@ -27,7 +27,8 @@ next_of h feed = slice_get (given_by h feed) feed.handed
 
 -- a feed lags behind a floor where the floor is above the last revision of the feed's acts, or a live item at or below it is still to be handed out
 abbrev pub lags : ℕ → ℕ → Feeding → Bool
-lags h floor feed = nat_lt (length (writes_of feed.acts)) floor || is_behind floor feed.handed h feed.began feed.acts feed.filters feed.options
+lags h floor feed = nat_lt (length (writes_of feed.acts)) floor || is_behind floor feed.handed h feed.began feed.acts
+    feed.filters feed.options
 
 -- a reader has seen more, or as much as before
 abbrev pub HasSeenMore : Known → Known → Type 0
@@ -48,7 +49,8 @@ pub record IsNotRefreshed (before after : Feeding) : Type 0 where
 -- why a feed stays where it is: nothing was read, or it lags behind the floor of what its reader has seen by now
 abbrev pub IsStopped : ℕ → Feeding → Feeding → KvError → Type 0
 IsStopped h before after error =
-    IsUnread error ⊎ ((error ≡ Lagged (floor_of after.reader.seen)) × (lags h (floor_of after.reader.seen) before ≡ true))
+    IsUnread error ⊎ ((error ≡ Lagged (floor_of after.reader.seen)) ×
+    (lags h (floor_of after.reader.seen) before ≡ true))
 
 -- what was told was added to what its reader knows; nothing else of it changed
 pub record HasLearned (told : List Act) (before after : Feeding) : Type 0 where

@@ -22,11 +22,17 @@ pub record Kept : Type 0 where
   pub noted : List Act
 
 abbrev pub kept_of : Bucketed → Posted → Kept
-kept_of bucket posted = record { bucket = bucket; published = posted.acts; is_open = posted.is_open; noted = posted.noted }
+kept_of bucket posted = record {
+  bucket = bucket;
+  published = posted.acts;
+  is_open = posted.is_open;
+  noted = posted.noted;
+}
 
 -- a refused call leaves what lies under the lock as it was, but for the store, which may have ended where memory was refused: then the history has an act that is not published
 abbrev pub IsLeft : Kept → KvError → Kept → Type 0
-IsLeft old error new = (new ≡ old) ⊎ ((error ≡ OutOfMemory) × ((lost : Act) × (new ≡ record old { is_open = false; noted = old.published ++ lost ∷ [] })))
+IsLeft old error new = (new ≡ old) ⊎ ((error ≡ OutOfMemory) ×
+    ((lost : Act) × (new ≡ record old { is_open = false; noted = old.published ++ lost ∷ [] })))
 
 -- an accepted act is shown by the store, which was open before
 abbrev pub StaysOpen : Kept → Kept → Type 0
@@ -47,19 +53,23 @@ IsSomewhere config kept = (watches : List Watch) × IsAt (state_of config kept.p
 
 -- a call is one step of the model, from every state that the value was at, in full
 abbrev pub IsKeptStep : Kept → Call → Answer → Kept → Type 0
-IsKeptStep old call answer new = (state : State) → IsAt state old → (answer ≡ answer_to state call) × IsAt (after state call) new
+IsKeptStep old call answer new = (state : State) → IsAt state old → (answer ≡ answer_to state call) ×
+    IsAt (after state call) new
 
 -- a request was accepted after the acts before, at this revision, and the acts after are those with its write
 abbrev pub PublishesWrite : Configuration → Asked → ℕ → List Act → List Act → Type 0
-PublishesWrite config request revision before later = (w : Write) × ((accept config request before ≡ Ok w) × (w.revision ≡ revision) × (later ≡ before ++ Wrote w ∷ []))
+PublishesWrite config request revision before later = (w : Write) ×
+    ((accept config request before ≡ Ok w) × (w.revision ≡ revision) × (later ≡ before ++ Wrote w ∷ []))
 
 -- the same after some lawful acts
 abbrev pub WritesSomewhere : Configuration → Asked → ℕ → List Act → Type 0
-WritesSomewhere config request revision later = (before : List Act) × (IsLawful config before × PublishesWrite config request revision before later)
+WritesSomewhere config request revision later = (before : List Act) ×
+    (IsLawful config before × PublishesWrite config request revision before later)
 
 -- the refusal is the one that the rules give after some lawful acts
 abbrev pub RefusedSomewhere : Configuration → Asked → KvError → Type 0
-RefusedSomewhere config request error = (before : List Act) × (IsLawful config before × Refuses error (accept config request before))
+RefusedSomewhere config request error = (before : List Act) ×
+    (IsLawful config before × Refuses error (accept config request before))
 
 -- a state of this configuration, of lawful acts
 abbrev pub IsLawfulState : Configuration → State → Type 0
@@ -71,7 +81,8 @@ CompactsSomewhere config floor = (state : State) × (IsLawfulState config state 
 
 -- the refusal of a compaction is the one that the rules give at some such state
 abbrev pub UncompactedSomewhere : Configuration → ℕ → KvError → Type 0
-UncompactedSomewhere config floor error = (state : State) × (IsLawfulState config state × Refuses error (may_compact floor state))
+UncompactedSomewhere config floor error = (state : State) ×
+    (IsLawfulState config state × Refuses error (may_compact floor state))
 
 -- an opening that has no name yet, and how many readers it is for
 pub record Unnamed : Type 0 where

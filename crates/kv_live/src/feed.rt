@@ -1,6 +1,6 @@
 //! Feeds: watches outside the lock.
 
-ghost use Rattle.std.specs.Prelude.{◌≡◌, ◌≤◌, ◌↔◌, false, List, [], ⊤, None, IfOk, IfErr, OnOk, MatchResult, length, take};
+ghost use Rattle.std.specs.Prelude.{◌≡◌, ◌≤◌, ◌↔◌, false, List, [], ⊤, None, IfOk, IfErr, OnOk, MatchResult, is_some, length, take};
 ghost use Rattle.std.specs.Borrow.{sem, follows_so};
 ghost use Rattle.std.specs.Option.{option_map};
 ghost use mathlib.Core.Option.{none};
@@ -214,7 +214,8 @@ impl<N: LiveName> Feed<N> {
     /// Hands out the next item, lent from the feed's version. Where all was handed out it is `Empty`, and nothing
     /// changes.
     pub fn take(&mut self) -> Taken<'_>
-        ensures* after { sem 𝓛 (follows_so (the_row N.row N.LiveName) (the_row N.row N.LiveName) self.entry.ghost_name none (λ _ _. ⊤)
+        ensures* after { sem 𝓛 (follows_so (the_row N.row N.LiveName) (the_row N.row N.LiveName)
+            self.entry.ghost_name none (λ _ _. ⊤)
             (λ left. left ≡ after_item self.old (item_taken result))) }
         ensures once { item_taken result ≡ None → (told : List Act) (w : Write) → Owes self.old told w →
             HasOnce self.old w (take self.old.handed (given_by N.opening.config.history self.old)) }
@@ -252,15 +253,24 @@ impl<N: LiveName> Feed<N> {
         self.reader.wait_timeout(rt, limit)
     }
 
+    // Whether there is a next item. It notes how far it looked, so that what was looked at in vain is not looked at
+    // again, and a take of the item finds it at once.
+    fn settle(&mut self) -> bool
+        ensures same { self.new ≡ self.old }
+        ensures found { result ≡ is_some (next_of N.opening.config.history self.old) }
+    {
+        self.cursor.settle(self.held.current.version())
+    }
+
     // Goes on until there is a next item, or the bucket was closed and there will never be one.
     fn go_on<R: Wait>(&mut self, rt: &R) -> Result<(), KvError>
         ensures goes { WentOn self.old self.new }
         ensures err { IfErr result IsHeldBack }
     {
         for _ in rt.forever() {
-            let Taken::Empty = self.peek() else {
+            if self.settle() {
                 return Ok(());
-            };
+            }
             match self.wait(rt) {
                 Woken::Changed => self.refresh()?,
                 Woken::Closed => return Ok(()),
@@ -270,9 +280,11 @@ impl<N: LiveName> Feed<N> {
     }
 
     /// Hands out the next item, lent from the feed's version, and waits where there is none yet. It is `Empty` once the
-    /// bucket was closed and all was handed out.
+    /// bucket was closed and all was handed out. It looks at each write once, and at the one that it hands out twice:
+    /// to find it and to lend it.
     pub fn next<R: Wait>(&mut self, rt: &R) -> Result<Taken<'_>, KvError>
-        ensures* after { sem 𝓛 (follows_so (the_row N.row N.LiveName) (the_row N.row N.LiveName) self.entry.ghost_name none (λ _ _. ⊤)
+        ensures* after { sem 𝓛 (follows_so (the_row N.row N.LiveName) (the_row N.row N.LiveName)
+            self.entry.ghost_name none (λ _ _. ⊤)
             (λ left. MatchResult result
             (λ taken. HandsNext N.opening.config.history self.old (item_taken taken) left)
             (λ e. WentOn self.old left × IsHeldBack e))) }

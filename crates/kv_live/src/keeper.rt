@@ -104,7 +104,8 @@ impl<N: LiveName> Keeper<N> {
     pub fn write<R: Wait>(&mut self, rt: &R, request: &Request) -> Result<u64, KvError>
         ensures ok { IfOk result (λ revision. IsKeptStep self.old (Write request.now) (Revision revision) self.new) }
         ensures published { IfOk result
-            (λ revision. PublishesWrite N.opening.config (asked request.now) revision self.old.published self.new.published) }
+            (λ revision. PublishesWrite N.opening.config (asked request.now) revision self.old.published
+            self.new.published) }
         ensures refused { IfErr result (λ e. (state : State) → IsAt state self.old →
             Refuses e (accept state.config (asked request.now) state.acts)) }
         ensures open { OnOk result (StaysOpen self.old self.new) }
@@ -173,7 +174,8 @@ impl<N: LiveName> Keeper<N> {
     /// Hands out the next item of a watch, lent from the bucket, and moves the watch on behind it, as `Bucket::take`
     /// does.
     pub fn take(&mut self, number: u64) -> Result<Taken<'_>, KvError>
-        ensures* after { sem 𝓛 (follows_so (the_row N.row N.LiveName) (the_row N.row N.LiveName) self.entry.ghost_name none (λ _ _. ⊤)
+        ensures* after { sem 𝓛 (follows_so (the_row N.row N.LiveName) (the_row N.row N.LiveName)
+            self.entry.ghost_name none (λ _ _. ⊤)
             (λ left. (left.is_open ≡ self.old.is_open) × MatchResult result
             (λ taken. IsKeptStep self.old (Take number) (answer_item (item_taken taken)) left)
             (λ e. left ≡ self.old))) }

@@ -45,7 +45,10 @@ impl Model for Opened {
 
     ghost Value = { Unnamed };
 
-    ghost view = { λ o. record { opening = record { book = o.blank.sight.book; config = o.bucket.version.config }; readers = o.readers } };
+    ghost view = { λ o. record {
+      opening = record { book = o.blank.sight.book; config = o.bucket.version.config };
+      readers = o.readers;
+    } };
 
     ghost invariant = { λ o. Represents (empty o.bucket.version.config) o.bucket × (0 < o.readers) × (o.readers ≤ 32) };
 }
@@ -134,7 +137,8 @@ fn write_on<N: LiveName, R: Wait>(
     ensures ok { IfOk result
         (λ revision. (later : List Act) × WritesSomewhere N.opening.config (asked request.now) revision later) }
     ensures published { IfOk result
-        (λ revision. PublishesWrite N.opening.config (asked request.now) revision keeper.old.published keeper.new.published) }
+        (λ revision. PublishesWrite N.opening.config (asked request.now) revision keeper.old.published
+        keeper.new.published) }
     ensures refused { IfErr result (λ e. RefusedSomewhere N.opening.config (asked request.now) e) }
 {
     keeper.is_somewhere();
@@ -174,7 +178,8 @@ impl<N: LiveName> Live<N> {
     /// published. It waits until the lock is free.
     pub fn lock<R: Wait>(&self, rt: &R) -> MutexGuard<'_, Keeper<N>>
         ensures state { IsSomewhere N.opening.config (mutex_guard_value result) }
-        ensures open { IsOpenUnlessLost (mutex_guard_value result).is_open (mutex_guard_value result).published (mutex_guard_value result).noted }
+        ensures open { IsOpenUnlessLost (mutex_guard_value result).is_open (mutex_guard_value result).published
+            (mutex_guard_value result).noted }
     {
         let keeper = self.keeper.lock(rt);
         keeper.is_somewhere();

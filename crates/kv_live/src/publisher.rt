@@ -52,7 +52,9 @@ impl<N: LiveName> Model for Publisher<N> {
 
     ghost view = { λ p. record { acts = p.front; is_open = is_some p.copies; noted = p.noted } };
 
-    ghost invariant = { λ p. IfSome p.copies (λ c. c ≡ p.front) × IsOpenUnlessLost (is_some p.copies) p.front p.noted × IsOf N.opening p.empty × (p.empty.glimpse.sight.log ≡ []) };
+    ghost invariant = { λ p. IfSome p.copies (λ c. c ≡ p.front) ×
+        IsOpenUnlessLost (is_some p.copies) p.front p.noted × IsOf N.opening p.empty ×
+        (p.empty.glimpse.sight.log ≡ []) };
 }
 
 // Adds an act to the history, publishes the version after it, and wakes those who sleep until then. All that can be

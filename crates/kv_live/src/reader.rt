@@ -48,7 +48,8 @@ impl<N: LiveName> Model for Reader<N> {
 
     ghost view = { λ r. record { seen = r.seen; told = r.told } };
 
-    ghost invariant = { λ r. IsSome r.seat × IfSome r.seat (λ s. (view_of s.place).seen ≡ r.seen) × IsOf N.opening r.empty × (r.empty.glimpse.sight.log ≡ []) };
+    ghost invariant = { λ r. IsSome r.seat × IfSome r.seat (λ s. (view_of s.place).seen ≡ r.seen) ×
+        IsOf N.opening r.empty × (r.empty.glimpse.sight.log ≡ []) };
 }
 
 impl<N: LiveName> Reader<N> {

@@ -1,7 +1,8 @@
-//! Tests of buckets by worked rows, and the example of docs/library.md with threads. They use public calls alone.
+//! Tests of what threads share, by worked rows, and the examples of docs/library.md with threads. They use public calls
+//! alone.
 #![tactic(auto)]
 
 #[cfg(test)]
-mod buckets;
-#[cfg(test)]
 mod examples;
+#[cfg(test)]
+mod threads;

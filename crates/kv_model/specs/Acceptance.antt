@@ -17,11 +17,13 @@ has_value key acts = option_map_or (λ w. is_put w.op) (last_write key acts) fal
 -- a journal is full where its stored writes fill the store, or the accepted ones used up its revisions
 abbrev pub is_full : Configuration → List Act → Bool
 is_full config acts =
-    nat_le config.write_limit (length (stored_writes config.history acts)) || nat_le config.revision_limit (length (writes_of acts))
+    nat_le config.write_limit (length (stored_writes config.history acts)) || nat_le config.revision_limit
+    (length (writes_of acts))
 
 -- a revision that is asked for has to be the key's last
 abbrev pub unless_last : ℕ → List ℕ → List Act → Option KvError
-unless_last revision key acts = if revision == last_revision key acts then None else Some (WrongLastRevision (last_revision key acts))
+unless_last revision key acts = if revision == last_revision key acts then None else
+    Some (WrongLastRevision (last_revision key acts))
 
 abbrev pub unless_last_or_none : Option ℕ → List ℕ → List Act → Option KvError
 unless_last_or_none None key acts = None
@@ -37,7 +39,12 @@ objection (purge key last) acts = unless_last_or_none last key acts
 
 -- the write that is appended: its revision is one more than the number of writes before it
 abbrev pub next_write : Asked → List Act → Write
-next_write asked acts = record { key = key_of asked; op = op_of asked; value = value_of asked; revision = length (writes_of acts) + 1 }
+next_write asked acts = record {
+  key = key_of asked;
+  op = op_of asked;
+  value = value_of asked;
+  revision = length (writes_of acts) + 1;
+}
 
 abbrev pub unless : Option KvError → Write → Result Write KvError
 unless None w = Ok w
@@ -53,7 +60,8 @@ accept config asked acts =
 
 -- a write is accepted where some request for a key is; a seal always is; a compaction is where its floor is not bad
 abbrev pub IsAccepted : Configuration → List Act → Act → Type 0
-IsAccepted config before (Wrote w) = (asked : Asked) × ((is_key (key_of asked) ≡ true) × (accept config asked before ≡ Ok w))
+IsAccepted config before (Wrote w) = (asked : Asked) ×
+    ((is_key (key_of asked) ≡ true) × (accept config asked before ≡ Ok w))
 IsAccepted config before Seal = ⊤
 IsAccepted config before (Compact floor) = is_bad_floor floor before ≡ false
 

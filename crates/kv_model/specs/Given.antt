@@ -47,7 +47,8 @@ entry_of headers_only w = record {
 
 -- how options show a write: as its entry, or not at all where they ignore deletes and it is a marker
 abbrev pub shown : Options → Write → Option Item
-shown options w = if options.ignore_deletes && not (is_put w.op) then None else Some (AnEntry (entry_of options.headers_only w))
+shown options w = if options.ignore_deletes && not (is_put w.op) then None else
+    Some (AnEntry (entry_of options.headers_only w))
 
 abbrev pub all_shown : Options → List Write → List Item
 all_shown options ws = filter_map (shown options) ws
@@ -75,7 +76,8 @@ item_revisions items = filter_map revision_of items
 
 -- among items a live one at or below a floor: an entry behind the writes of the watch's beginning, as many as these
 abbrev pub has_live_below : ℕ → ℕ → List Item → Bool
-has_live_below beginning floor items = list_any (λ revision. nat_lt beginning revision && nat_le revision floor) (item_revisions items)
+has_live_below beginning floor items = list_any (λ revision. nat_lt beginning revision && nat_le revision floor)
+    (item_revisions items)
 
 -- a watch that was handed so many items is behind a floor where a live item at or below the floor is still to be handed out
 abbrev pub is_behind : ℕ → ℕ → ℕ → List Act → List Act → List (List ℕ) → Options → Bool

@@ -44,4 +44,5 @@ meets acts own = record { own = own; acts = acts }
 -- what the own calls of the watch of a number meet in a run, in order
 abbrev pub meetings_of : ℕ → State → List Call → List Meeting
 meetings_of number s [] = []
-meetings_of number s (call ∷ calls) = option_to_list (option_map (meets s.acts) (own_call number call)) ++ meetings_of number (after s call) calls
+meetings_of number s (call ∷ calls) = option_to_list (option_map (meets s.acts) (own_call number call))
+    ++ meetings_of number (after s call) calls

@@ -32,7 +32,8 @@ item_for number call answer = None
 abbrev pub items_for : ℕ → List Call → List Answer → List Item
 items_for number [] answers = []
 items_for number (call ∷ calls) [] = []
-items_for number (call ∷ calls) (answer ∷ answers) = option_to_list (item_for number call answer) ++ items_for number calls answers
+items_for number (call ∷ calls) (answer ∷ answers) = option_to_list (item_for number call answer)
+    ++ items_for number calls answers
 
 -- the items that a run hands to the watch of a number
 abbrev pub items_in : ℕ → State → List Call → List Item

@@ -169,11 +169,14 @@ abbrev pub answer_to : State → Call → Answer
 answer_to s (calls.Write request) = answer_write (accept s.config (asked request) s.acts)
 answer_to s calls.Seal = Sealed
 answer_to s (calls.Get key) = or_refused KeyNotFound (λ w. AnsweredEntry (read_entry w)) (get_of key s.acts)
-answer_to s (calls.GetAt key revision) = or_refused KeyNotFound (λ w. AnsweredEntry (read_entry w)) (get_at_of s.config.history key revision s.acts)
-answer_to s (calls.History key) = or_refused KeyNotFound (λ ws. Entries (map read_entry ws)) (history_of s.config.history key s.acts)
+answer_to s (calls.GetAt key revision) = or_refused KeyNotFound (λ w. AnsweredEntry (read_entry w))
+    (get_at_of s.config.history key revision s.acts)
+answer_to s (calls.History key) = or_refused KeyNotFound (λ ws. Entries (map read_entry ws))
+    (history_of s.config.history key s.acts)
 answer_to s (calls.Keys filtering) = Keys (keys_of filtering s.acts)
 answer_to s calls.Status = Numbers (status_of s.config.history s.acts) (open_count s.watches)
-answer_to s (calls.Watch filters options) = if has_room s then Watching (length s.watches + 1) else Refused TooManyWatches
+answer_to s (calls.Watch filters options) = if has_room s then Watching (length s.watches + 1) else
+    Refused TooManyWatches
 answer_to s (calls.Take number) = answer_take s (open_at number s)
 answer_to s (calls.Stop number) = answer_stop (open_at number s)
 answer_to s (calls.Compact floor) = answer_compact (may_compact floor s)

@@ -42,14 +42,21 @@ pub record GoesOn (before watch : Watch) : Type 0 where
   pub counts_no_more : before.is_open ≡ false → watch.handed ≡ before.handed
 
 -- the watch theorem for one watch, which one of the calls opened when the acts were `began`: among the answers, the items from its takes are, in order, the first of what it is given by the acts so far; where a take is answered Empty, they are all of what it is given by then; it counts them; a stop of it answers how many they are, and none comes after; and no entry comes twice, since the revisions of the entries rise where the acts are lawful
-pub record TellsOpened (s : State) (calls : List Call) (answers : List Answer) (began : List Act) (filters : List (List ℕ)) (options : Options) (number : ℕ) : Type 0 where
-  pub prefix : IsPrefix (items_for number calls answers) (given s.config.history began (run s calls).acts filters options)
-  pub all : (earlier later : List Call) → calls ≡ earlier ++ ask.Take number ∷ later → slice_get answers (length earlier) ≡ Some Empty →
+pub record TellsOpened (s : State) (calls : List Call) (answers : List Answer) (began : List Act)
+    (filters : List (List ℕ)) (options : Options) (number : ℕ) : Type 0 where
+  pub prefix : IsPrefix (items_for number calls answers)
+      (given s.config.history began (run s calls).acts filters options)
+  pub all : (earlier later : List Call) → calls ≡ earlier ++ ask.Take number ∷ later →
+      slice_get answers (length earlier) ≡ Some Empty →
       items_for number earlier answers ≡ given s.config.history began (run s earlier).acts filters options
-  pub counted : (watch : Watch) × (watch_at number (run s calls).watches ≡ Some watch) × (watch.handed ≡ length (items_for number calls answers))
-  pub stopped : (earlier later : List Call) (handed : ℕ) → calls ≡ earlier ++ ask.Stop number ∷ later → slice_get answers (length earlier) ≡ Some (Ended handed) →
-      (handed ≡ length (items_for number calls answers)) × (items_for number later (drop (length earlier + 1) answers) ≡ [])
-  pub once : IsLawful s.config (run s calls).acts → IsStrictlyIncreasing (item_revisions (items_for number calls answers))
+  pub counted : (watch : Watch) × (watch_at number (run s calls).watches ≡ Some watch) ×
+      (watch.handed ≡ length (items_for number calls answers))
+  pub stopped : (earlier later : List Call) (handed : ℕ) → calls ≡ earlier ++ ask.Stop number ∷ later →
+      slice_get answers (length earlier) ≡ Some (Ended handed) →
+      (handed ≡ length (items_for number calls answers)) ×
+      (items_for number later (drop (length earlier + 1) answers) ≡ [])
+  pub once : IsLawful s.config (run s calls).acts →
+      IsStrictlyIncreasing (item_revisions (items_for number calls answers))
 
 -- the watch theorem, for each watch that the calls opened
 abbrev pub TellsEachWatch : State → List Call → List Answer → Type 0
@@ -59,10 +66,16 @@ TellsEachWatch s calls answers = (before later : List Call) (filters : List (Lis
 
 -- the watch theorem for one watch that was there before the calls: among the answers, the items from its takes are, in order, the next of what it is given by the acts so far, behind those that it counted before; where a take is answered Empty, none is left by then; it counts them on; a stop of it answers the count, and none comes after; and no entry comes twice
 pub record TellsOn (s : State) (calls : List Call) (answers : List Answer) (number : ℕ) (watch : Watch) : Type 0 where
-  pub prefix : IsPrefix (items_for number calls answers) (drop watch.handed (given_to s.config.history (run s calls).acts watch))
-  pub all : (earlier later : List Call) → calls ≡ earlier ++ ask.Take number ∷ later → slice_get answers (length earlier) ≡ Some Empty →
+  pub prefix : IsPrefix (items_for number calls answers)
+      (drop watch.handed (given_to s.config.history (run s calls).acts watch))
+  pub all : (earlier later : List Call) → calls ≡ earlier ++ ask.Take number ∷ later →
+      slice_get answers (length earlier) ≡ Some Empty →
       items_for number earlier answers ≡ drop watch.handed (given_to s.config.history (run s earlier).acts watch)
-  pub counted : (now : Watch) × (watch_at number (run s calls).watches ≡ Some now) × (now.handed ≡ watch.handed + length (items_for number calls answers))
-  pub stopped : (earlier later : List Call) (handed : ℕ) → calls ≡ earlier ++ ask.Stop number ∷ later → slice_get answers (length earlier) ≡ Some (Ended handed) →
-      (handed ≡ watch.handed + length (items_for number calls answers)) × (items_for number later (drop (length earlier + 1) answers) ≡ [])
-  pub once : IsLawful s.config (run s calls).acts → IsStrictlyIncreasing (item_revisions (items_for number calls answers))
+  pub counted : (now : Watch) × (watch_at number (run s calls).watches ≡ Some now) ×
+      (now.handed ≡ watch.handed + length (items_for number calls answers))
+  pub stopped : (earlier later : List Call) (handed : ℕ) → calls ≡ earlier ++ ask.Stop number ∷ later →
+      slice_get answers (length earlier) ≡ Some (Ended handed) →
+      (handed ≡ watch.handed + length (items_for number calls answers)) ×
+      (items_for number later (drop (length earlier + 1) answers) ≡ [])
+  pub once : IsLawful s.config (run s calls).acts →
+      IsStrictlyIncreasing (item_revisions (items_for number calls answers))

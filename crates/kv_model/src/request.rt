@@ -67,7 +67,12 @@ impl Request {
     /// The write that is asked for, at a revision, with its own copies of the key and the value.
     pub fn write(&self, alloc: Global, revision: u64) -> Result<Write, KvError>
         ensures ok { IfOk result
-            (λ w. w ≡ record { key = key_of (asked self.now); op = op_of (asked self.now); value = value_of (asked self.now); revision = revision }) }
+            (λ w. w ≡ record {
+              key = key_of (asked self.now);
+              op = op_of (asked self.now);
+              value = value_of (asked self.now);
+              revision = revision;
+            }) }
         ensures key { IfOk result (λ w. IsTrue (is_key w.key)) }
         ensures err { IfErr result (λ e. e ≡ OutOfMemory) }
     {

@@ -7,8 +7,8 @@ use Rattle.kv_store.specs.Stored.{Stored}
 use Rattle.kv_model.specs.declared.options.Options.{Options}
 use Rattle.kv_model.specs.Given.{given}
 use Rattle.kv_bucket.specs.declared.reply.Reply.{Reply}
-use Rattle.kv_live.specs.Feeding.{Feeding, IsRefreshed, given_by}
-use Rattle.kv_race.specs.Telling.{Answered, BeginAll, HasHeard, HasLast, IsEnded, IsFollowed, IsShown}
+use Rattle.kv_live.specs.Feeding.{Feeding, HasLearned, IsRefreshed, given_by}
+use Rattle.kv_race.specs.Telling.{Answered, BeginAll, HasLast, IsEnded, IsFollowed, IsShown}
 use Rattle.kv_race.specs.Watching.{Are, Place, Watch, WritesDown, reply_to}
 use Rattle.kv_race.proofs.Fed.{went_on}
 use Rattle.kv_race.proofs.Hearing.{begin_all_later}
@@ -37,7 +37,7 @@ pub agreed : (config : Configuration) (answers : List (List Answered)) (acts : L
 agreed config answers acts each shows version shown is same = record { acts = acts; shown = subst (IsShown config answers acts) (sym is) shown; same = same }
 
 module _ (config : Configuration) (answers : List (List Answered)) (first heard went last : Feeding) (seen : List Act)
-    (hears : HasHeard first heard) (tells : BeginAll heard.reader.told answers) (goes : IsRefreshed heard went) (place : place_of last ≡ place_of went)
+    (hears : HasLearned [] first heard) (tells : BeginAll heard.reader.told answers) (goes : IsRefreshed heard went) (place : place_of last ≡ place_of went)
     (handed_back : seen ≡ last.reader.seen) where
   pub seen_is : last.acts ≡ seen
   seen_is = ap (λ (p : Place). p.acts) place ∙ (ap (λ (f : Feeding). f.acts) goes.same ∙ (sym (ap (λ (p : Place). p.seen) place) ∙ sym handed_back))

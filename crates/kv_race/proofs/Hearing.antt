@@ -1,19 +1,24 @@
 -- What a feed is told of, one receipt after the other.
-use Rattle.std.proofs.Common.{◌≡◌, ℕ, ◌+◌, ◌<◌, ◌≤◌, List, Ok, Err, IfOk, map, take, take_all, get_or, length, refl, sym, ap, subst, ◌∙◌}
+use Rattle.std.proofs.Common.{◌≡◌, ℕ, ◌+◌, ◌<◌, ◌≤◌, List, [], Ok, Err, IfOk, map, take, take_all, get_or, length, refl, sym, ap, subst, ◌∙◌}
 use Rattle.std.proofs.lemmas.List.{get_or-map, length-map}
 use Rattle.std.proofs.lemmas.List.Elements.{All-more}
 use Rattle.kv_model.specs.Acts.{Act, IsPrefix}
-use Rattle.kv_live.specs.Feeding.{Feeding}
+use Rattle.kv_live.specs.Feeding.{Feeding, HasLearned}
 use Rattle.kv_live.proofs.Prefixes.{prefix_self, prefix_trans}
-use Rattle.kv_race.specs.Telling.{Answered, Begin, BeginAll, HasHeard}
+use Rattle.kv_race.specs.Telling.{Answered, Begin, BeginAll}
 
-pub heard_nothing : (feed : Feeding) → HasHeard feed feed
-heard_nothing feed = record { seen = refl; grows = prefix_self feed.reader.told; same = refl }
+pub heard_nothing : (feed : Feeding) → HasLearned [] feed feed
+heard_nothing feed = record { seen = refl; former = prefix_self feed.reader.told; learned = (feed.reader.told, refl); same = refl }
 
-pub heard_more : (a b c : Feeding) → HasHeard a b → HasHeard b c → HasHeard a c
+-- what one receipt told was told
+pub heard_one : (told : List Act) (before after : Feeding) → HasLearned told before after → HasLearned [] before after
+heard_one told before after one = record { seen = one.seen; former = one.former; learned = (after.reader.told, refl); same = one.same }
+
+pub heard_more : (a b c : Feeding) → HasLearned [] a b → HasLearned [] b c → HasLearned [] a c
 heard_more a b c p q = record {
   seen = q.seen ∙ p.seen;
-  grows = prefix_trans a.reader.told b.reader.told c.reader.told p.grows q.grows;
+  former = prefix_trans a.reader.told b.reader.told c.reader.told p.former q.former;
+  learned = (c.reader.told, refl);
   same = q.same ∙ ap (λ (f : Feeding). let g : Feeding = record f { reader = c.reader } in g) p.same;
 }
 

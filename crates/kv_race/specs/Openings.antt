@@ -10,7 +10,8 @@ use Rattle.kv_live.specs.Feeding.{Feeding}
 -- a race has 1 to 16 workers and at most 32 watches
 abbrev pub for_race : ℕ → ℕ → Configuration → Result Configuration KvError
 for_race workers watches config =
-    if nat_le 1 workers && nat_le workers 16 then (if nat_le watches 32 then Ok config else Err NoReader) else Err BadConfig
+    if nat_le 1 workers && nat_le workers 16 then (if nat_le watches 32 then Ok config else Err NoReader) else
+    Err BadConfig
 
 abbrev pub then_race : ℕ → ℕ → Result Configuration KvError → Result Configuration KvError
 then_race workers watches (Ok config) = for_race workers watches config

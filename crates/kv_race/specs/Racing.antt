@@ -17,7 +17,12 @@ use Rattle.kv_race.specs.Watching.{reply_to}
 
 -- what a request writes at a revision
 abbrev pub written_by : Asked → ℕ → Write
-written_by request revision = record { key = key_of request; op = op_of request; value = value_of request; revision = revision }
+written_by request revision = record {
+  key = key_of request;
+  op = op_of request;
+  value = value_of request;
+  revision = revision;
+}
 
 -- the accepted write of a revision, whatever was compacted since
 abbrev pub accepted_at : ℕ → List Act → Option Write
@@ -33,7 +38,8 @@ shown_alone filters options w = all_shown options (matching filters (w ∷ []))
 
 -- where a request was answered by a revision, the items of that revision are what the watch shows of the request's own write: one entry or none, and nothing else
 abbrev pub IsSeen : List (List ℕ) → Options → List Item → Asked → Result ℕ KvError → Type 0
-IsSeen filters options items request (Ok revision) = filter (is_at revision) items ≡ shown_alone filters options (written_by request revision)
+IsSeen filters options items request (Ok revision) = filter (is_at revision) items ≡ shown_alone filters options
+    (written_by request revision)
 IsSeen filters options items request (Err error) = ⊤
 
 -- where a request was answered by a revision, the write of that revision is the request's own; a refusal is one that the rules give after some lawful acts, or memory ran out
@@ -54,12 +60,14 @@ abbrev pub AreNumbered : List (List (Result ℕ KvError)) → ℕ → Type 0
 AreNumbered replies writes = IsPermutation (revisions_in replies) (range_with_len 1 writes)
 
 -- what a watch saw, which began on the empty bucket: all that it is given by these acts; and of each reply's write just what it shows of it
-pub record IsWatched (config : Configuration) (acts : List Act) (scripts : List (List Asked)) (replies : List (List (Result ℕ KvError))) (watch : List (List ℕ) × Options) (seen : List Answer) : Type 0 where
+pub record IsWatched (config : Configuration) (acts : List Act) (scripts : List (List Asked))
+    (replies : List (List (Result ℕ KvError))) (watch : List (List ℕ) × Options) (seen : List Answer) : Type 0 where
   pub all : seen ≡ map reply_to (given config.history [] acts watch.0 watch.1)
   pub once : EachReply (IsSeen watch.0 watch.1 (given config.history [] acts watch.0 watch.1)) scripts replies
 
 -- a race: one reply for each request, one list of items for each watch, and one list of acts. The last version stands for it. Its writes are those of the replies, each once and no other, and each watch saw all that it is given by it
-pub record IsRaced (config : Configuration) (scripts : List (List Asked)) (watches : List (List (List ℕ) × Options)) (replies : List (List (Result ℕ KvError))) (seen : List (List Answer)) (version : Stored) : Type 0 where
+pub record IsRaced (config : Configuration) (scripts : List (List Asked)) (watches : List (List (List ℕ) × Options))
+    (replies : List (List (Result ℕ KvError))) (seen : List (List Answer)) (version : Stored) : Type 0 where
   pub same_config : version.config ≡ config
   pub acts : List Act
   pub stands : StandsFor acts version

@@ -37,29 +37,27 @@ pub record IsFollowed (h : ℕ) (before after : Feeding) (seen : List Reply) : T
   pub options : after.options ≡ before.options
   pub written : before.handed ≡ 0 → Are seen (take after.handed (given_by h after))
 
--- more was told to the reader of a feed, and nothing else has changed
-pub record HasHeard (before after : Feeding) : Type 0 where
-  pub seen : after.reader.seen ≡ before.reader.seen
-  pub grows : IsPrefix before.reader.told after.reader.told
-  pub same : after ≡ record before { reader = after.reader }
-
 -- the acts begin with those that all receipts tell
 abbrev pub BeginAll : List Act → List (List Answered) → Type 0
 BeginAll acts answers = All (λ some. Begin acts some) answers
 
 -- a version stands for acts that begin with those that all receipts tell
-pub record IsShown (config : Configuration) (answers : List (List Answered)) (acts : List Act) (version : Stored) : Type 0 where
+pub record IsShown (config : Configuration) (answers : List (List Answered)) (acts : List Act)
+    (version : Stored) : Type 0 where
   pub same_config : version.config ≡ config
   pub stands : StandsFor acts version
   pub told : BeginAll acts answers
 
 -- a watch has ended with a version: where all that it had handed out was written down, all that it is given by the version's acts is now
-pub record IsEnded (config : Configuration) (answers : List (List Answered)) (feed : Feeding) (before : List Reply) (acts : List Act) (version : Stored) (seen : List Reply) : Type 0 where
+pub record IsEnded (config : Configuration) (answers : List (List Answered)) (feed : Feeding) (before : List Reply)
+    (acts : List Act) (version : Stored) (seen : List Reply) : Type 0 where
   pub shown : IsShown config answers acts version
-  pub all : Are before (take feed.handed (given_by config.history feed)) → Are seen (given config.history feed.began acts feed.filters feed.options)
+  pub all : Are before (take feed.handed (given_by config.history feed)) →
+      Are seen (given config.history feed.began acts feed.filters feed.options)
 
 -- the last version: each of these has seen its acts, and nothing else
-pub record HasLast (config : Configuration) (answers : List (List Answered)) (each : List (List Act)) (version : Stored) : Type 0 where
+pub record HasLast (config : Configuration) (answers : List (List Answered)) (each : List (List Act))
+    (version : Stored) : Type 0 where
   pub acts : List Act
   pub shown : IsShown config answers acts version
   pub same : All (λ seen. seen ≡ acts) each

@@ -29,7 +29,8 @@ Are replies items = map answer_of replies ≡ map reply_to items
 
 -- what was written down are all items that were handed out, if it was so before
 abbrev pub WritesDown : List Item → List Reply → List Item → List Reply → Type 0
-WritesDown handed_before seen_before handed_after seen_after = Are seen_before handed_before → Are seen_after handed_after
+WritesDown handed_before seen_before handed_after seen_after = Are seen_before handed_before →
+    Are seen_after handed_after
 
 -- one more item was handed out, and its copy is the reply; without one nothing was handed out, and nothing is left
 abbrev pub HandsOut : List Item → ℕ → Option Reply → List Item → ℕ → Type 0

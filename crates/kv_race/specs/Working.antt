@@ -9,4 +9,5 @@ module _ {D T : Type 0} (may_answer : D → Asked → Result (ℕ × T) KvError 
   Works desk [] [] left = left ≡ desk
   Works desk [] (answer ∷ answers) left = ⊥
   Works desk (request ∷ requests) [] left = ⊥
-  Works desk (request ∷ requests) (answer ∷ answers) left = (next : D) × (may_answer desk request answer next × Works next requests answers left)
+  Works desk (request ∷ requests) (answer ∷ answers) left = (next : D) ×
+      (may_answer desk request answer next × Works next requests answers left)

@@ -8,7 +8,7 @@ use crate::ending::{Answers, Ended, hear_all};
 use crate::feeding::refresh;
 use crate::opening::open_feed;
 use kv_keys::{Filters, KvError};
-use kv_live::{LiveName, Reader};
+use kv_live::{Feed, LiveName, Reader};
 use kv_model::{Options, Start};
 use kv_store::Version;
 use std::alloc::Global;
@@ -40,6 +40,16 @@ fn all_agree<N: LiveName>(reader: &Reader<N>, ended: &[Ended<N>]) -> bool
     true
 }
 
+// The version that a feed goes on to once it has taken in all receipts.
+fn last_shown<N: LiveName>(feed: &mut Feed<N>, answers: &[Answers<N>]) -> Result<Version, KvError>
+    ensures ok { IfOk result (HasLast N.opening.config (map (λ some. some.items) answers.now) []) }
+    ensures err { IfErr result IsUnread }
+{
+    hear_all(feed, answers);
+    refresh(feed)?;
+    feed.version()
+}
+
 // The version that a reader shows once it has taken in all receipts.
 fn version_of<N: LiveName>(
     alloc: Global,
@@ -54,9 +64,7 @@ fn version_of<N: LiveName>(
     };
     let filters = Filters::parse(alloc, ">")?;
     let mut feed = open_feed(reader, &filters, LATEST)?;
-    hear_all(&mut feed, answers);
-    refresh(&mut feed)?;
-    feed.version()
+    last_shown(&mut feed, answers)
 }
 
 /// The version that all watches have gone on to. They always agree on it. Where there are none it is the one that the
@@ -67,7 +75,8 @@ pub(crate) fn last_of<N: LiveName>(
     spare: Option<Reader<N>>,
     answers: &[Answers<N>],
 ) -> Result<Version, KvError>
-    requires { All (λ end. IsShown N.opening.config (map (λ some. some.items) answers.now) end.reader.seen end.last) ended.now }
+    requires { All (λ end. IsShown N.opening.config (map (λ some. some.items) answers.now) end.reader.seen end.last)
+        ended.now }
     ensures ok { IfOk result
         (HasLast N.opening.config (map (λ some. some.items) answers.now) (map (λ end. end.reader.seen) ended.now)) }
     ensures err { IfErr result IsUnread }

@@ -1,11 +1,12 @@
 //! The end of a race, when all its threads have ended.
 
-ghost use Rattle.std.specs.Prelude.{◌≡◌, IfOk, IfErr, map};
+ghost use Rattle.std.specs.Prelude.{◌≡◌, [], IfOk, IfErr, map};
 ghost use Rattle.kv_model.specs.Acts.{IsPrefix};
+ghost use Rattle.kv_live.specs.Feeding.{HasLearned};
 ghost use Rattle.kv_live.specs.Known.{IsUnread};
-ghost use Rattle.kv_race.specs.Telling.{Begin, BeginAll, HasHeard, IsEnded};
+ghost use Rattle.kv_race.specs.Telling.{Begin, BeginAll, IsEnded};
 
-use crate::feeding::refresh;
+use crate::feeding::{is_within, refresh};
 use crate::threads::Watched;
 use crate::watcher::collect;
 use kv_keys::KvError;
@@ -17,9 +18,9 @@ use std::alloc::Global;
 pub(crate) type Answers<N> = Vec<Result<(u64, Receipt<N>), KvError>>;
 
 // Takes in the receipt of an answer, if it has one.
-#[tactic(auto, using(crate::proofs::Hearing::heard_nothing))]
+#[tactic(auto, using(crate::proofs::Hearing::heard_nothing, crate::proofs::Hearing::heard_one))]
 fn hear_one<N: LiveName>(feed: &mut Feed<N>, answer: &Result<(u64, Receipt<N>), KvError>)
-    ensures heard { HasHeard feed.old feed.new }
+    ensures heard { HasLearned [] feed.old feed.new }
     ensures told { IfOk answer.now (λ told. IsPrefix told.1 feed.new.reader.told) }
 {
     if let Ok((_, receipt)) = answer {
@@ -30,7 +31,7 @@ fn hear_one<N: LiveName>(feed: &mut Feed<N>, answer: &Result<(u64, Receipt<N>), 
 // Takes in the receipts of a worker.
 #[tactic(auto, using(crate::proofs::Hearing::heard_nothing, crate::proofs::Hearing::heard_more, crate::proofs::Hearing::begin_next))]
 fn hear<N: LiveName>(feed: &mut Feed<N>, answers: &Answers<N>)
-    ensures heard { HasHeard feed.old feed.new }
+    ensures heard { HasLearned [] feed.old feed.new }
     ensures told { Begin feed.new.reader.told answers.now.items }
 {
     for n in 0..answers.len() {
@@ -41,7 +42,7 @@ fn hear<N: LiveName>(feed: &mut Feed<N>, answers: &Answers<N>)
 /// Takes in the receipts of all workers.
 #[tactic(auto, using(crate::proofs::Hearing::heard_nothing, crate::proofs::Hearing::heard_more, crate::proofs::Hearing::begin_all_next))]
 pub(crate) fn hear_all<N: LiveName>(feed: &mut Feed<N>, answers: &[Answers<N>])
-    ensures heard { HasHeard feed.old feed.new }
+    ensures heard { HasLearned [] feed.old feed.new }
     ensures told { BeginAll feed.new.reader.told (map (λ some. some.items) answers.now) }
 {
     for n in 0..answers.len() {
@@ -57,6 +58,24 @@ pub(crate) struct Ended<N: LiveName> {
     pub(crate) seen: Vec<Reply>,
 }
 
+// Takes in all receipts, goes on once more, and hands out all that is left; the version is the one that it went on to.
+fn drain<N: LiveName>(
+    alloc: Global,
+    feed: &mut Feed<N>,
+    seen: &mut Vec<Reply>,
+    answers: &[Answers<N>],
+) -> Result<Version, KvError>
+    ensures ok { IfOk result (λ last. IsEnded N.opening.config (map (λ some. some.items) answers.now)
+        feed.old seen.old.items feed.new.reader.seen last seen.new.items) }
+    ensures err { IfErr result IsUnread }
+{
+    hear_all(feed, answers);
+    is_within(feed);
+    refresh(feed)?;
+    collect(alloc, feed, seen)?;
+    feed.version()
+}
+
 /// Ends a watch: it takes in all receipts, goes on once more, and hands out all that is left.
 pub(crate) fn end_watch<N: LiveName>(
     alloc: Global,
@@ -65,15 +84,12 @@ pub(crate) fn end_watch<N: LiveName>(
 ) -> Result<Ended<N>, KvError>
     ensures ok { IfOk result
         (λ ended. IsEnded N.opening.config (map
-        (λ some. some.items) answers.now) watched.feed watched.seen.items ended.reader.seen ended.last ended.seen.items) }
+        (λ some. some.items) answers.now) watched.feed watched.seen.items ended.reader.seen ended.last
+        ended.seen.items) }
     ensures err { IfErr result IsUnread }
 {
     let Watched { mut feed, mut seen } = watched;
-    hear_all(&mut feed, answers);
-    let _ = feed.handed();
-    refresh(&mut feed)?;
-    collect(alloc, &mut feed, &mut seen)?;
-    let last = feed.version()?;
+    let last = drain(alloc, &mut feed, &mut seen, answers)?;
     let (reader, _) = feed.stop();
     Ok(Ended { reader, last, seen })
 }

@@ -1,6 +1,7 @@
 //! What the watchers of a race follow: feeds, which take no lock.
 
-ghost use Rattle.std.specs.Prelude.{◌≡◌, ◌-◌, IfOk, IfErr, length, take};
+ghost use Rattle.std.specs.Prelude.{◌≡◌, ◌≤◌, ◌-◌, IfOk, IfErr, length, take};
+ghost use Rattle.kv_model.specs.Acts.{IsPrefix};
 ghost use Rattle.std.specs.Option.{option_map};
 ghost use Rattle.kv_keys.specs.declared.error.KvError.TheVariants.{OutOfMemory};
 ghost use Rattle.kv_watch.specs.Taking.{item_taken};
@@ -42,6 +43,14 @@ pub(crate) fn refresh<N: LiveName>(feed: &mut Feed<N>) -> Result<(), KvError>
     }
 }
 
+// It does nothing: who calls it knows that the feed has handed out no more than it is given.
+pub(crate) fn is_within<N: LiveName>(feed: &Feed<N>)
+    ensures within { feed.now.handed ≤ length (given_by N.opening.config.history feed.now) }
+    ensures prefix { IsPrefix feed.now.began feed.now.acts }
+{
+    feed.handed();
+}
+
 impl<N: LiveName> Follows for Feed<N> {
     ghost watch = { λ feed. record { began = feed.began; filters = feed.filters; options = feed.options } };
 
@@ -53,13 +62,13 @@ impl<N: LiveName> Follows for Feed<N> {
 
     #[tactic(auto, using(crate::proofs::Fed::went_on, crate::proofs::Fed::stayed))]
     fn go_on(&mut self) -> Result<(), KvError> {
-        let _ = self.handed();
+        is_within(self);
         refresh(self)
     }
 
     #[tactic(auto, using(crate::proofs::Fed::handed_on))]
     fn hand_out(&mut self, alloc: Global) -> Result<Option<Reply>, KvError> {
-        let _ = self.handed();
+        is_within(self);
         let taken = self.peek();
         let peeked = taken.event();
         let reply = copy_of(alloc, &taken)?;

@@ -13,7 +13,8 @@ ghost use Rattle.kv_model.specs.declared.options.Options.{Options};
 /// Whoever goes on to lawful acts that begin with those of a receipt is given, on a watch from the empty bucket,
 /// exactly what it shows of the request's own write at the revision that was answered: one entry or none.
 pub fn told_write_is_seen_once()
-    ensures { (config : Configuration) (request : Asked) (revision : ℕ) (before told acts : List Act) (filters : List (List ℕ)) (options : Options) →
+    ensures { (config : Configuration) (request : Asked) (revision : ℕ) (before told acts : List Act)
+        (filters : List (List ℕ)) (options : Options) →
         PublishesWrite config request revision before told → IsPrefix told acts → IsLawful config acts →
         filter (is_at revision) (given config.history [] acts filters options)
         ≡ shown_alone filters options (written_by request revision) }

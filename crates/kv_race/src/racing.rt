@@ -75,7 +75,8 @@ fn end_watches<N: LiveName>(
     ensures ok { IfOk result
         (λ ended. AllZip
         (λ one end. IsEnded N.opening.config (map
-        (λ some. some.items) answers.now) one.feed one.seen.items end.reader.seen end.last end.seen.items) watched.items ended.items) }
+        (λ some. some.items) answers.now) one.feed one.seen.items end.reader.seen end.last end.seen.items)
+        watched.items ended.items) }
     ensures err { IfErr result IsUnread }
 {
     let mut all = Vec::new(alloc);
@@ -105,7 +106,8 @@ fn report_of<N: LiveName>(
     ended: Vec<Ended<N>>,
     spare: Option<Reader<N>>,
 ) -> Result<Report, KvError>
-    requires { All (λ end. IsShown N.opening.config (map (λ some. some.items) answers.now) end.reader.seen end.last) ended.items }
+    requires { All (λ end. IsShown N.opening.config (map (λ some. some.items) answers.now) end.reader.seen end.last)
+        ended.items }
     ensures last { IfOk result
         (λ report. HasLast N.opening.config (map
         (λ some. some.items) answers.now) (map (λ end. end.reader.seen) ended.items) report.last) }

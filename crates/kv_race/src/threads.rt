@@ -36,7 +36,8 @@ pub(crate) struct Watched<N: LiveName> {
 struct Script<N: LiveName>(Snapshot<Vec<Request>>, PhantomData<N>);
 
 impl<N: LiveName> Promise<Worked<N>> for Script<N> {
-    ghost kept_by = { λ p worked. IfOk worked (λ answers. AllZip (IsTold N.opening.config) (map asked p.0.value.items) answers.items) };
+    ghost kept_by = { λ p worked. IfOk worked (λ answers. AllZip (IsTold N.opening.config)
+        (map asked p.0.value.items) answers.items) };
 }
 
 // What this feed hands out is seen.
@@ -90,10 +91,12 @@ pub(crate) fn run_all<N: LiveName + Send + Sync, R: Threads + Wait + Sync, G: Ga
     ensures workers { IfOk result
         (λ done. AllZip
         (λ script worked. IfOk worked
-        (λ answers. AllZip (IsTold N.opening.config) (map asked script.items) answers.items)) scripts.now done.0.items) }
+        (λ answers. AllZip (IsTold N.opening.config) (map asked script.items) answers.items)) scripts.now
+        done.0.items) }
     ensures watchers { IfOk result
         (λ done. AllZip
-        (λ feed watched. IsFollowed N.opening.config.history feed watched.feed watched.seen.items) feeds.items done.1.items) }
+        (λ feed watched. IsFollowed N.opening.config.history feed watched.feed watched.seen.items) feeds.items
+        done.1.items) }
     ensures err { IfErr result (λ e. e ≡ OutOfMemory) }
 {
     thread::scope(
@@ -104,10 +107,12 @@ pub(crate) fn run_all<N: LiveName + Send + Sync, R: Threads + Wait + Sync, G: Ga
             ensures workers { IfOk result
                 (λ done. AllZip
                 (λ script worked. IfOk worked
-                (λ answers. AllZip (IsTold N.opening.config) (map asked script.items) answers.items)) scripts.entry.now done.0.items) }
+                (λ answers. AllZip (IsTold N.opening.config) (map asked script.items) answers.items))
+                scripts.entry.now done.0.items) }
             ensures watchers { IfOk result
                 (λ done. AllZip
-                (λ feed watched. IsFollowed N.opening.config.history feed watched.feed watched.seen.items) feeds.items done.1.items) }
+                (λ feed watched. IsFollowed N.opening.config.history feed watched.feed watched.seen.items)
+                feeds.items done.1.items) }
             ensures err { IfErr result (λ e. e ≡ OutOfMemory) }
         {
             let mut workers = Vec::new(alloc);

@@ -1,11 +1,14 @@
 -- What the options of a command line say.
-use Rattle.std.proofs.Common.{◌≡◌, ◌^◌, ◌&&◌, ℕ, Bool, true, false, List, [], ◌∷◌, Option, Some, None, option_and_then, Result, Ok, Err, refl, ap, nat_lt, length, lt-ltb, ltb-true, option_map}
+use Rattle.std.proofs.Common.{◌≡◌, ◌^◌, ◌&&◌, ℕ, Bool, true, false, List, [], ◌∷◌, Option, Some, None, option_and_then, Result, Ok, Err, refl, ap, sym, codes, nat_lt, length, lt-ltb, ltb-true, option_map}
 use Rattle.std.specs.Borrow.{Bor}
 use Rattle.std.specs.Char.{digit_value}
 use Rattle.std.specs.List.{list_all}
 use Rattle.std.specs.Option.{option_map_or, unwrap_or}
 use Rattle.std.specs.Result.{result_unwrap_or}
-use Rattle.std.specs.Str.Parse.{AllDigits, ParsesUnsigned, digits_value, without_leading_plus}
+use Rattle.std.specs.Str.Parse.{AllDigits, ParsesBool, ParsesUnsigned, digits_value, without_leading_plus}
+use Rattle.std.specs.Str.{bytes_eq}
+use Rattle.std.proofs.lemmas.Bool.{false_from_ne_true}
+use Rattle.std.proofs.lemmas.Slice.Eq.{bytes_eq-Decides}
 use Rattle.clap.proofs.WalkLemmas.{both}
 use Rattle.clap.specs.Faults.{is_simple_and_free}
 use Rattle.clap.specs.Matches.{ReadsOne}
@@ -89,3 +92,21 @@ pub number_found : {E : Type 0} {gives : List ℕ → Result ℕ E → Type 0} (
     → found ≡ option_and_then number_of given
 number_found {E} {gives} None found none some parses = none refl
 number_found {E} {gives} (Some text) found none some parses = text_found {E = E} {gives = gives} text found (some text refl) parses
+
+abbrev is_true : Text → Bool
+is_true text = bytes_eq text (codes "true")
+
+-- a flag that is read as one of its texts, or not read
+flag_read : {E : Type 0} {gives : List ℕ → Result Bool E → Type 0} (text : Text) (found : Option Bool) → ReadsOne gives text found
+    → ((text : Text) (r : Result Bool E) → gives text r → ParsesBool text r) → unwrap_or found false ≡ is_true text
+flag_read {E} {gives} text (Some true) read parses = sym ((bytes_eq-Decides text (codes "true")).1 (parses text (Ok true) read))
+flag_read {E} {gives} text (Some false) read parses = rw (parses text (Ok false) read) refl
+flag_read {E} {gives} text None read parses =
+    sym (false_from_ne_true (is_true text) (λ is. (parses text (Err read.0) read.1).0 ((bytes_eq-Decides text (codes "true")).0 is)))
+
+-- an option with no value, as it is read
+pub flag_given : {E : Type 0} {gives : List ℕ → Result Bool E → Type 0} (given : Option Text) (found : Option Bool) → (given ≡ None → found ≡ None)
+    → ((text : Text) → given ≡ Some text → ReadsOne gives text found) → ((text : Text) (r : Result Bool E) → gives text r → ParsesBool text r)
+    → unwrap_or found false ≡ option_map_or is_true given false
+flag_given {E} {gives} None found none some parses = ap (λ o. unwrap_or o false) (none refl)
+flag_given {E} {gives} (Some text) found none some parses = flag_read {E = E} {gives = gives} text found (some text refl) parses

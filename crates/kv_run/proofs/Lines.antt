@@ -4,23 +4,24 @@ use Rattle.std.specs.Prelude.{OnOk}
 use Rattle.kv_keys.specs.declared.error.KvError.{KvError}
 use Rattle.kv_keys.specs.declared.error.KvError.TheVariants.{OutOfMemory, BadBucket, BadConfig, BadKey, BadFilter, OptionsClash, ValueTooLarge, Sealed, JournalFull, KeyExists, WrongLastRevision, KeyNotFound, NoSuchWatch, TooManyWatches, NoReader, BadCommand, ReadFault, WriteFault, BadFloor, WatchBehind, Lagged}
 use Rattle.kv_script.specs.Commands.{Meaning, Fails, is_skipped, line_command}
+use Rattle.kv_script.specs.declared.form.Form.{Form}
 use Rattle.kv_run.specs.Planning.{Planned, add_read, after_command, refuse, takes_part}
 
 -- a skipped line adds nothing
-pub skipped_adds : (plan : Planned) (line : List ℕ) → is_skipped line ≡ true → plan ≡ after_command plan line
+pub skipped_adds : (form : Form) (plan : Planned) (line : List ℕ) → is_skipped line ≡ true → plan ≡ after_command form plan line
 unfolding after_command
-skipped_adds plan line skips = rw skips refl
+skipped_adds form plan line skips = rw skips refl
 
 -- a line that takes no part is refused
-pub other_adds : (plan : Planned) (line : List ℕ) → is_skipped line ≡ false → takes_part line ≡ false → refuse plan BadCommand ≡ after_command plan line
+pub other_adds : (form : Form) (plan : Planned) (line : List ℕ) → is_skipped line ≡ false → takes_part line ≡ false → refuse plan BadCommand ≡ after_command form plan line
 unfolding after_command
-other_adds plan line reads others = rw (reads, others) refl
+other_adds form plan line reads others = rw (reads, others) refl
 
 -- another line adds what it asks for
-pub read_adds : (plan : Planned) (line : List ℕ) (outcome : Result Meaning KvError) → is_skipped line ≡ false → takes_part line ≡ true → line_command line ≡ outcome
-    → add_read plan outcome ≡ after_command plan line
+pub read_adds : (form : Form) (plan : Planned) (line : List ℕ) (outcome : Result Meaning KvError) → is_skipped line ≡ false → takes_part line ≡ true → line_command form line ≡ outcome
+    → add_read plan outcome ≡ after_command form plan line
 unfolding after_command
-read_adds plan line outcome reads part is = rw (reads, part, is) refl
+read_adds form plan line outcome reads part is = rw (reads, part, is) refl
 
 -- a refusal for its own cause is that of the grammar
 pub refused_by : (error : KvError) (outcome : Result Meaning KvError) → Fails error outcome → error ≢ OutOfMemory → outcome ≡ Err error

@@ -7,20 +7,21 @@ use Rattle.std.proofs.KnownBytes.{Consumes-trans}
 use Rattle.std.proofs.lemmas.Bool.{cases_Bool, ltb-true}
 use Rattle.kv_keys.specs.declared.error.KvError.TheVariants.{BadCommand}
 use Rattle.kv_script.specs.Commands.{is_skipped}
-use Rattle.kv_run.specs.Planning.{Planned, after_command, after_line, after_lines, nothing, refuse, takes_part}
-use Rattle.kv_run.specs.Lines.{lines_of}
-use Rattle.kv_run.specs.Races.{no_text, plan_of}
-use Rattle.kv_run.specs.inside.Reading.{Reading, beginning, step, after_bytes, line_ended}
-use Rattle.kv_run.specs.declared.scripts.lines.TheConstants.{KEPT_BYTES}
-use Rattle.kv_run.proofs.ByteByByte.{onto, onto-onto_first, lines_of-onto, lines_of-feed, lines_of-inside}
-use Rattle.kv_run.proofs.Texts.{long_command, skipped_more, skipped_strip, strip_length}
+use Rattle.kv_script.specs.declared.form.Form.{Form}
+use Rattle.kv_run.specs.Planning.{Planned, after_command, after_line, after_lines, nothing, planned, refuse, takes_part}
+use Rattle.kv_replay.specs.Lines.{lines_of}
+use Rattle.kv_run.specs.Races.{no_text}
+use Rattle.kv_replay.specs.inside.Reading.{Reading, beginning, step, after_bytes, line_ended}
+use Rattle.kv_replay.specs.declared.lines.TheConstants.{KEPT_BYTES}
+use Rattle.kv_replay.proofs.ByteByByte.{onto, onto-onto_first, lines_of-onto, lines_of-feed, lines_of-inside}
+use Rattle.kv_replay.proofs.Texts.{long_command, skipped_more, skipped_strip, strip_length}
 
 -- of a line that is too long only the first byte counts
-long_adds : (plan : Planned) (line : List ℕ) → KEPT_BYTES < length line → after_line plan line ≡ cond (is_skipped line) plan (refuse plan BadCommand)
+long_adds : (form : Form) (plan : Planned) (line : List ℕ) → KEPT_BYTES < length line → after_line form plan line ≡ cond (is_skipped line) plan (refuse plan BadCommand)
 unfolding after_line after_command
-long_adds plan line h =
+long_adds form plan line h =
     let stripped : 1400000 < length (strip_last 13 line) = omega (arith, strip_length line) in
-    rw (skipped_strip line (omega arith), long_command (strip_last 13 line) stripped)
+    rw (skipped_strip line (omega arith), long_command form (strip_last 13 line) stripped)
     (ap (cond (is_skipped line) plan) (either (takes_part (strip_last 13 line))))
   where
     either : (part : Bool) → cond part (refuse plan BadCommand) (refuse plan BadCommand) ≡ refuse plan BadCommand
@@ -28,77 +29,78 @@ long_adds plan line h =
     either false = refl
 
 -- what follows a line that is too long changes nothing
-long_same : (plan : Planned) (line more : List ℕ) → KEPT_BYTES < length line → after_line plan (line ++ more) ≡ after_line plan line
-long_same plan line more h =
-    long_adds plan (line ++ more) (omega (arith, length-append line more))
+long_same : (form : Form) (plan : Planned) (line more : List ℕ) → KEPT_BYTES < length line → after_line form plan (line ++ more) ≡ after_line form plan line
+long_same form plan line more h =
+    long_adds form plan (line ++ more) (omega (arith, length-append line more))
     ∙ ap (λ skips. cond skips plan (refuse plan BadCommand)) (skipped_more line more (omega arith))
-    ∙ sym (long_adds plan line h)
+    ∙ sym (long_adds form plan line h)
 
-abbrev After : Reading Planned → List ℕ → Reading Planned
-After = after_bytes KEPT_BYTES no_text after_line
+abbrev After : Form → Reading Planned → List ℕ → Reading Planned
+After form = after_bytes KEPT_BYTES no_text (after_line form)
 
-abbrev Step : Reading Planned → ℕ → Reading Planned
-Step = step KEPT_BYTES no_text after_line
+abbrev Step : Form → Reading Planned → ℕ → Reading Planned
+Step form = step KEPT_BYTES no_text (after_line form)
 
-abbrev LineEnded : Reading Planned → Reading Planned
-LineEnded = line_ended KEPT_BYTES no_text after_line
+abbrev LineEnded : Form → Reading Planned → Reading Planned
+LineEnded form = line_ended KEPT_BYTES no_text (after_line form)
 
 abbrev grown : Reading Planned → ℕ → Reading Planned
 grown r byte = record { state = r.state; line = r.line ++ byte ∷ [] }
 
-step-feed : (r : Reading Planned) (byte : ℕ) → (byte == 10) ≡ true → Step r byte ≡ LineEnded r
-step-feed r byte h = rw h refl
+step-feed : (form : Form) (r : Reading Planned) (byte : ℕ) → (byte == 10) ≡ true → Step form r byte ≡ LineEnded form r
+step-feed form r byte h = rw h refl
 
-step-long : (r : Reading Planned) (byte : ℕ) → (byte == 10) ≡ false → nat_lt KEPT_BYTES (length r.line) ≡ true → Step r byte ≡ r
-step-long r byte h long = rw (h, long) refl
+step-long : (form : Form) (r : Reading Planned) (byte : ℕ) → (byte == 10) ≡ false → nat_lt KEPT_BYTES (length r.line) ≡ true → Step form r byte ≡ r
+step-long form r byte h long = rw (h, long) refl
 
-step-short : (r : Reading Planned) (byte : ℕ) → (byte == 10) ≡ false → nat_lt KEPT_BYTES (length r.line) ≡ false → Step r byte ≡ grown r byte
-step-short r byte h short = rw (h, short) refl
+step-short : (form : Form) (r : Reading Planned) (byte : ℕ) → (byte == 10) ≡ false → nat_lt KEPT_BYTES (length r.line) ≡ false → Step form r byte ≡ grown r byte
+step-short form r byte h short = rw (h, short) refl
 
-long_skip : (plan : Planned) (line : List ℕ) (byte : ℕ) (lines : List (List ℕ)) → KEPT_BYTES < length line
-    → after_lines plan (onto line (onto_first byte lines)) ≡ after_lines plan (onto line lines)
-long_skip plan line byte [] h = long_same plan line (byte ∷ []) h
-long_skip plan line byte (first ∷ lines) h =
-    ap (λ next. after_lines next lines) (long_same plan line (byte ∷ first) h ∙ sym (long_same plan line first h))
+long_skip : (form : Form) (plan : Planned) (line : List ℕ) (byte : ℕ) (lines : List (List ℕ)) → KEPT_BYTES < length line
+    → after_lines form plan (onto line (onto_first byte lines)) ≡ after_lines form plan (onto line lines)
+long_skip form plan line byte [] h = long_same form plan line (byte ∷ []) h
+long_skip form plan line byte (first ∷ lines) h =
+    ap (λ next. after_lines form next lines) (long_same form plan line (byte ∷ first) h ∙ sym (long_same form plan line first h))
 
 -- the plan behind all the lines, where one has begun
-abbrev last : Reading Planned → Planned
-last r = after_line r.state r.line
+abbrev last : Form → Reading Planned → Planned
+last form r = after_line form r.state r.line
 
-plan_of_bytes : (r : Reading Planned) (bytes : List ℕ) → after_lines r.state (onto r.line (lines_of bytes)) ≡ last (After r bytes)
-plan_of_bytes r [] = ap (after_line r.state) (append-nil r.line)
-plan_of_bytes r (byte ∷ bytes) = elim (cases_Bool (byte == 10)) [
+plan_of_bytes : (form : Form) (r : Reading Planned) (bytes : List ℕ) → after_lines form r.state (onto r.line (lines_of bytes)) ≡ last form (After form r bytes)
+plan_of_bytes form r [] = ap (after_line form r.state) (append-nil r.line)
+plan_of_bytes form r (byte ∷ bytes) = elim (cases_Bool (byte == 10)) [
   | inl feed ↦
-      ap (λ lines. after_lines r.state (onto r.line lines)) (lines_of-feed byte bytes feed)
-      ∙ ap (λ line. after_lines (after_line r.state line) (lines_of bytes)) (append-nil r.line)
-      ∙ ap (after_lines (after_line r.state r.line)) (sym (lines_of-onto bytes))
-      ∙ plan_of_bytes (LineEnded r) bytes
-      ∙ ap (λ next. last (After next bytes)) (sym (step-feed r byte feed))
+      ap (λ lines. after_lines form r.state (onto r.line lines)) (lines_of-feed byte bytes feed)
+      ∙ ap (λ line. after_lines form (after_line form r.state line) (lines_of bytes)) (append-nil r.line)
+      ∙ ap (after_lines form (after_line form r.state r.line)) (sym (lines_of-onto bytes))
+      ∙ plan_of_bytes form (LineEnded form r) bytes
+      ∙ ap (λ next. last form (After form next bytes)) (sym (step-feed form r byte feed))
   | inr inside ↦
-      ap (λ lines. after_lines r.state (onto r.line lines)) (lines_of-inside byte bytes inside)
+      ap (λ lines. after_lines form r.state (onto r.line lines)) (lines_of-inside byte bytes inside)
       ∙ elim (cases_Bool (nat_lt KEPT_BYTES (length r.line))) [
         | inl long ↦
-            long_skip r.state r.line byte (lines_of bytes) (ltb-true KEPT_BYTES (length r.line) long) ∙ plan_of_bytes r bytes
-            ∙ ap (λ next. last (After next bytes)) (sym (step-long r byte inside long))
+            long_skip form r.state r.line byte (lines_of bytes) (ltb-true KEPT_BYTES (length r.line) long) ∙ plan_of_bytes form r bytes
+            ∙ ap (λ next. last form (After form next bytes)) (sym (step-long form r byte inside long))
         | inr short ↦
-            ap (after_lines r.state) (onto-onto_first r.line byte (lines_of bytes)) ∙ plan_of_bytes (grown r byte) bytes
-            ∙ ap (λ next. last (After next bytes)) (sym (step-short r byte inside short))
+            ap (after_lines form r.state) (onto-onto_first r.line byte (lines_of bytes)) ∙ plan_of_bytes form (grown r byte) bytes
+            ∙ ap (λ next. last form (After form next bytes)) (sym (step-short form r byte inside short))
       ]
 ]
 
 -- the plan of a whole script
-pub plan_of-read : (input : List ℕ) → last (After (beginning nothing) input) ≡ plan_of input
-plan_of-read input = sym (plan_of_bytes (beginning nothing) input) ∙ ap (after_lines nothing) (lines_of-onto input)
+pub plan_of-read : (form : Form) (most : ℕ) (input : List ℕ) → last form (After form (beginning (nothing most)) input) ≡ planned form most (lines_of input)
+plan_of-read form most input = sym (plan_of_bytes form (beginning (nothing most)) input) ∙ ap (after_lines form (nothing most)) (lines_of-onto input)
 
 -- bytes that come in two parts
-pub plan-append : (r : Reading Planned) (xs ys : List ℕ) → After r (xs ++ ys) ≡ After (After r xs) ys
-plan-append r [] ys = refl
-plan-append r (x ∷ xs) ys = plan-append (Step r x) xs ys
+pub plan-append : (form : Form) (r : Reading Planned) (xs ys : List ℕ) → After form r (xs ++ ys) ≡ After form (After form r xs) ys
+plan-append form r [] ys = refl
+plan-append form r (x ∷ xs) ys = plan-append form (Step form r x) xs ys
 
 -- at the end nothing more was read
 pub read_on : (unread left left' : Option (List ℕ)) (input : List ℕ) → Consumes unread left input → Consumes left left' [] → Consumes unread left' input
 read_on unread left left' input read nothing_more = subst (Consumes unread left') (append-nil input) (Consumes-trans unread left left' input [] read nothing_more)
 
 -- some bytes more were taken
-pub plan_on : (notes later : Reading Planned) (input bytes : List ℕ) → notes ≡ After (beginning nothing) input → later ≡ After notes bytes → later ≡ After (beginning nothing) (input ++ bytes)
-plan_on notes later input bytes is more = more ∙ ap (λ r. After r bytes) is ∙ sym (plan-append (beginning nothing) input bytes)
+pub plan_on : (form : Form) (most : ℕ) (notes later : Reading Planned) (input bytes : List ℕ) → notes ≡ After form (beginning (nothing most)) input → later ≡ After form notes bytes
+    → later ≡ After form (beginning (nothing most)) (input ++ bytes)
+plan_on form most notes later input bytes is more = more ∙ ap (λ r. After form r bytes) is ∙ sym (plan-append form (beginning (nothing most)) input bytes)

@@ -9,7 +9,8 @@ use Rattle.clap.specs.declared.error.kind.ErrorKind.TheVariants.{OutOfMemory as 
 use Rattle.kv_keys.specs.declared.error.KvError.{KvError}
 use Rattle.kv_keys.specs.declared.error.KvError.TheVariants.{OutOfMemory, ReadFault, WriteFault}
 use Rattle.kv_model.specs.Configuration.{Configuration}
-use Rattle.kv_run.specs.Faults.{IsBadConfiguration}
+use Rattle.kv_script.specs.declared.form.Form.{Form}
+use Rattle.kv_replay.specs.Faults.{IsBadConfiguration}
 use Rattle.kv_run.specs.Programs.{EndsBy, IsRefusedBy, RanAs, status_of}
 use Rattle.kv_run.proofs.Statuses.{run_refused, status_two}
 
@@ -27,10 +28,10 @@ failed e = Err e
 same_error : (e d : KvError) → IsErrOf (failed e) d → e ≡ d
 same_error e d h = cc
 
-module _ (kinds : Kinds) (race : Option ℕ) (config : Configuration) (unread left held holds : Option (List ℕ)) (e : KvError) (Same : Type 0)
-    (ended : RanAs race config unread left held holds (failed e) ⊎ (IsErrOf (failed e) OutOfMemory × Same)) (fine : kinds ≡ []) where
+module _ (kinds : Kinds) (form : Form) (race : Option ℕ) (config : Configuration) (unread left held holds : Option (List ℕ)) (e : KvError) (Same : Type 0)
+    (ended : RanAs form race config unread left held holds (failed e) ⊎ (IsErrOf (failed e) OutOfMemory × Same)) (fine : kinds ≡ []) where
   pub ends_by : (ReaderFailed WriterFailed : Type 0) → (Same → (left ≡ unread) × (holds ≡ held)) → (IsErrOf (failed e) ReadFault → ReaderFailed) → (IsErrOf (failed e) WriteFault → WriterFailed)
-      → status_of e ≡ 1 → EndsBy kinds race config unread left held holds ReaderFailed WriterFailed e
+      → status_of e ≡ 1 → EndsBy kinds form race config unread left held holds ReaderFailed WriterFailed e
   ends_by ReaderFailed WriterFailed kept read_fault write_fault one = elim ended [
     | inl ran ↦ inl (fine, ((ran, one), (λ is. read_fault (ap Err is), λ is. write_fault (ap Err is))))
     | inr lacks ↦ inr (inr (same_error e OutOfMemory lacks.0, kept lacks.1))
@@ -38,6 +39,6 @@ module _ (kinds : Kinds) (race : Option ℕ) (config : Configuration) (unread le
 
   pub refused_by : status_of e ≡ 2 → IsRefusedBy kinds race config e
   refused_by two = elim ended [
-    | inl ran ↦ (fine, run_refused race config unread left held holds e ran two)
+    | inl ran ↦ (fine, run_refused form race config unread left held holds e ran two)
     | inr lacks ↦ absurd (subst IsBadConfiguration (same_error e OutOfMemory lacks.0) (status_two e two))
   ]

@@ -9,32 +9,33 @@ use Rattle.kv_keys.specs.declared.error.KvError.{KvError}
 use Rattle.kv_keys.specs.declared.error.KvError.TheVariants.{OutOfMemory, BadBucket, BadConfig, BadKey, BadFilter, OptionsClash, ValueTooLarge, Sealed, JournalFull, KeyExists, WrongLastRevision, KeyNotFound, NoSuchWatch, TooManyWatches, NoReader, BadCommand, ReadFault, WriteFault, BadFloor, WatchBehind, Lagged}
 use Rattle.kv_model.specs.Answers.{Answer}
 use Rattle.kv_race.specs.Racing.{IsRaced}
-use Rattle.kv_run.specs.Faults.{IsWriteOrMemory}
+use Rattle.kv_replay.specs.Faults.{IsWriteOrMemory}
 use Rattle.kv_model.specs.Requests.{Asked}
 use Rattle.kv_store.specs.Stored.{Stored}
 use Rattle.kv_model.specs.declared.options.Options.{Options}
 use Rattle.kv_race.specs.Openings.{may_race, then_race, RefusesRace}
+use Rattle.kv_script.specs.declared.form.Form.{Form}
 use Rattle.kv_run.specs.Dealing.{dealt}
 use Rattle.kv_run.specs.Planning.{Planned}
 use Rattle.kv_run.specs.Reporting.{report_text}
 use Rattle.kv_run.specs.Races.{EndsRace, IsTextOf, Races, RanRace, StaysSilent, StopsRace, plan_of}
-use Rattle.kv_run.specs.inside.Written.{Puts}
-use Rattle.kv_run.proofs.Ending.{by_cause, error_of}
-use Rattle.kv_run.proofs.Progress.{starts}
+use Rattle.kv_replay.specs.inside.Written.{Puts}
+use Rattle.kv_replay.proofs.Ending.{by_cause, error_of}
+use Rattle.kv_replay.proofs.Progress.{starts}
 use Rattle.kv_model.specs.Configuration.{Configuration, configure}
 
-module _ (config : Configuration) (workers : ℕ) (unread left held holds : Option (List ℕ)) where
+module _ (form : Form) (config : Configuration) (workers : ℕ) (unread left held holds : Option (List ℕ)) where
   -- it ended early
-  pub ran_early : (result : Result ⊤ KvError) → IsErr result → StopsRace config workers unread left held holds → (IsErrOf result ReadFault → StaysSilent config workers unread left held holds)
-      → IfErr result (λ e. EndsRace e (may_race config workers 0)) → RanRace config workers unread left held holds result
+  pub ran_early : (result : Result ⊤ KvError) → IsErr result → StopsRace form config workers unread left held holds → (IsErrOf result ReadFault → StaysSilent form config workers unread left held holds)
+      → IfErr result (λ e. EndsRace e (may_race config workers 0)) → RanRace form config workers unread left held holds result
   ran_early (Ok done) bad stop silent fault = absurd (true≢false (sym bad))
   ran_early (Err e) bad stop silent fault = record { ok = tt; read_fault = silent; early = stop; legal = tt; fault = fault }
 
   -- a beginning of the answers to the refused lines was written
-  pub stopped_in_refused : (input : List ℕ) (n : ℕ) (shown : List ℕ) → shown ≡ (plan_of input).refused → Consumes unread left input → IsAtEnd left → Appends held holds (take n shown)
-      → StopsRace config workers unread left held holds
+  pub stopped_in_refused : (input : List ℕ) (n : ℕ) (shown : List ℕ) → shown ≡ (plan_of form config input).refused → Consumes unread left input → IsAtEnd left → Appends held holds (take n shown)
+      → StopsRace form config workers unread left held holds
   stopped_in_refused input n shown is read complete written =
-      let all = (plan_of input).refused in
+      let all = (plan_of form config input).refused in
       record {
         input = input;
         read = read;
@@ -45,10 +46,10 @@ module _ (config : Configuration) (workers : ℕ) (unread left held holds : Opti
       }
 
   -- all of them were
-  pub stopped_behind_refused : (input shown : List ℕ) → shown ≡ (plan_of input).refused → Consumes unread left input → IsAtEnd left → Appends held holds shown
-      → StopsRace config workers unread left held holds
+  pub stopped_behind_refused : (input shown : List ℕ) → shown ≡ (plan_of form config input).refused → Consumes unread left input → IsAtEnd left → Appends held holds shown
+      → StopsRace form config workers unread left held holds
   stopped_behind_refused input shown is read complete written =
-      let all = (plan_of input).refused in
+      let all = (plan_of form config input).refused in
       record {
         input = input;
         read = read;
@@ -58,23 +59,23 @@ module _ (config : Configuration) (workers : ℕ) (unread left held holds : Opti
         written = subst (Appends held holds) is written;
       }
 
-  module _ (mid : Option (List ℕ)) (input shown report : List ℕ) (is : shown ≡ (plan_of input).refused) (read : Consumes unread left input) (complete : IsAtEnd left)
-      (first : Appends held mid shown) (answers : IsTextOf config workers (plan_of input) ((plan_of input).refused ++ report)) where
+  module _ (mid : Option (List ℕ)) (input shown report : List ℕ) (is : shown ≡ (plan_of form config input).refused) (read : Consumes unread left input) (complete : IsAtEnd left)
+      (first : Appends held mid shown) (answers : IsTextOf form config workers (plan_of form config input) ((plan_of form config input).refused ++ report)) where
     -- the report was written too
-    pub raced : Appends mid holds report → Races config workers unread left held holds
+    pub raced : Appends mid holds report → Races form config workers unread left held holds
     raced second = record {
       input = input;
       read = read;
       complete = complete;
-      text = (plan_of input).refused ++ report;
+      text = (plan_of form config input).refused ++ report;
       answers = answers;
-      written = Appends-trans held mid holds (plan_of input).refused report (subst (Appends held mid) is first) second;
+      written = Appends-trans held mid holds (plan_of form config input).refused report (subst (Appends held mid) is first) second;
     }
 
     -- or a beginning of it
-    pub stopped_in_report : Puts report mid holds → StopsRace config workers unread left held holds
+    pub stopped_in_report : Puts report mid holds → StopsRace form config workers unread left held holds
     stopped_in_report puts =
-        let all = (plan_of input).refused in
+        let all = (plan_of form config input).refused in
         record {
           input = input;
           read = read;
@@ -85,18 +86,18 @@ module _ (config : Configuration) (workers : ℕ) (unread left held holds : Opti
         }
 
 -- nothing was written
-pub stopped_silent : (config : Configuration) (workers : ℕ) (unread left held : Option (List ℕ)) (input : List ℕ) → Consumes unread left input → StopsRace config workers unread left held held
-stopped_silent config workers unread left held input read = record {
+pub stopped_silent : (form : Form) (config : Configuration) (workers : ℕ) (unread left held : Option (List ℕ)) (input : List ℕ) → Consumes unread left input → StopsRace form config workers unread left held held
+stopped_silent form config workers unread left held input read = record {
   input = input;
   read = read;
   text = [];
   complete = inl refl;
-  begins = inl (starts (plan_of input).refused [] (plan_of input).refused refl);
+  begins = inl (starts (plan_of form config input).refused [] (plan_of form config input).refused refl);
   written = Appends-nil held;
 }
 
-pub silent : (config : Configuration) (workers : ℕ) (unread left held : Option (List ℕ)) (input : List ℕ) → Consumes unread left input → StaysSilent config workers unread left held held
-silent config workers unread left held input read = record { input = input; read = read; written = Appends-nil held }
+pub silent : (form : Form) (config : Configuration) (workers : ℕ) (unread left held : Option (List ℕ)) (input : List ℕ) → Consumes unread left input → StaysSilent form config workers unread left held held
+silent form config workers unread left held input read = record { input = input; read = read; written = Appends-nil held }
 
 -- the refusal of what the rules refuse
 err_ends : (e d : KvError) → Refuses {X = Configuration} e (Err d) → EndsRace {X = Configuration} d (Err d) → EndsRace {X = Configuration} e (Err d)
@@ -194,6 +195,6 @@ raced_same config scripts same_scripts watches same_watches replies seen version
     subst (λ (all : List (List (List ℕ) × Options)). IsRaced config same_scripts all replies seen version) w
     (subst (λ (all : List (List Asked)). IsRaced config all watches replies seen version) s raced)
 
-pub text_of : (config : Configuration) (workers : ℕ) (plan : Planned) (replies : List (List (Result ℕ KvError))) (seen : List (List Answer)) (version : Stored)
-    → IsRaced config (dealt workers plan.requests) plan.watches replies seen version → IsTextOf config workers plan (plan.refused ++ report_text replies seen)
-text_of config workers plan replies seen version raced = record { replies = replies; seen = seen; version = version; raced = raced; is = refl }
+pub text_of : (form : Form) (config : Configuration) (workers : ℕ) (plan : Planned) (replies : List (List (Result ℕ KvError))) (seen : List (List Answer)) (version : Stored)
+    → IsRaced config (dealt workers plan.requests) plan.watches replies seen version → IsTextOf form config workers plan (plan.refused ++ report_text form replies seen)
+text_of form config workers plan replies seen version raced = record { replies = replies; seen = seen; version = version; raced = raced; is = refl }

@@ -4,7 +4,7 @@ use Rattle.std.specs.Io.KnownBytes.{Appends}
 use Rattle.std.proofs.KnownBytes.{Appends-nil, Appends-trans}
 use Rattle.std.proofs.lemmas.List.{drop_more}
 use Rattle.kv_run.specs.Reporting.{numbered}
-use Rattle.kv_run.specs.inside.Written.{Puts}
+use Rattle.kv_replay.specs.inside.Written.{Puts}
 
 -- the texts of the first n lists were written, and the others are left
 pub record Told {X : Type 0} (text : ℕ → List X → List ℕ) (lists : List (List X)) (held holds : Option (List ℕ)) (n : ℕ) : Type 0 where

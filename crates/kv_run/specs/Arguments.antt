@@ -1,5 +1,5 @@
 -- What the words of a command line ask for: the program's name, and then options with their values.
-use Rattle.std.specs.Prelude.{ℕ, ◌^◌, ◌&&◌, nat_lt, true, if◌then◌else◌, List, [], ◌∷◌, length, Option, Some, None, option_and_then, codes, unwrap_or}
+use Rattle.std.specs.Prelude.{ℕ, ◌^◌, ◌&&◌, nat_lt, Bool, true, false, if◌then◌else◌, List, [], ◌∷◌, length, Option, Some, None, option_and_then, codes, bytes_eq, unwrap_or}
 use Rattle.std.specs.Char.{digit_value}
 use Rattle.std.specs.List.{list_all}
 use Rattle.std.specs.Option.{option_map_or}
@@ -8,9 +8,11 @@ use Rattle.clap.specs.Faults.{fault_of}
 use Rattle.clap.specs.Kinds.{Kinds}
 use Rattle.clap.specs.Walk.{Rule, Row, Text, first_of, one_of}
 use Rattle.clap.specs.Simple.{App, matches_of, new_app, new_rule, on_top, with_rule}
-use Rattle.clap.specs.declared.builder.action.ArgAction.TheVariants.{Set}
+use Rattle.clap.specs.declared.builder.action.ArgAction.TheVariants.{Set, SetTrue}
 use Rattle.clap.specs.declared.builder.value_parser.ValueParser.TheVariants as parsers
 use Rattle.kv_model.specs.Configuration.{Configuration}
+use Rattle.kv_script.specs.declared.form.Form.{Form}
+use Rattle.kv_script.specs.declared.form.Form.TheVariants as forms
 
 -- an option with a value, which is this one where none is given
 abbrev pub text_option : Text → Text → Rule
@@ -25,7 +27,16 @@ number_option name default =
 -- how many workers race, which has no value where none is given
 abbrev pub race_option : Rule
 race_option =
-    record (new_rule (codes "race")) { long = Some (codes "race"); action = Some Set; value_names = 1; parser = Some (parsers.Unsigned 1 16) }
+    record (new_rule (codes "race")) {
+      long = Some (codes "race");
+      action = Some Set;
+      value_names = 1;
+      parser = Some (parsers.Unsigned 1 16);
+    }
+
+-- an option with no value: that values stand as text
+abbrev pub form_option : Rule
+form_option = record (new_rule (codes "text")) { long = Some (codes "text"); action = Some SetTrue }
 
 -- a program that tells its version
 abbrev pub versioned : App → App
@@ -34,13 +45,14 @@ versioned app = on_top (λ shape. record shape { has_version = true }) app
 -- the program, and its options
 abbrev pub program_app : App
 program_app =
-    with_rule (with_rule (with_rule (with_rule (with_rule (with_rule (versioned (new_app (codes "kvbucket")))
+    with_rule (with_rule (with_rule (with_rule (with_rule (with_rule (with_rule (versioned (new_app (codes "kvbucket")))
     (text_option (codes "bucket") (codes "kv")))
     (number_option (codes "history") (codes "1")))
     (number_option (codes "value-limit") (codes "1048576")))
     (number_option (codes "write-limit") (codes "1000000")))
     (number_option (codes "revision-limit") (codes "4294967295")))
-    race_option
+    race_option)
+    form_option
 
 -- why the words are refused, if they are; to ask for help is among the reasons
 abbrev pub faults_of : List Text → Kinds
@@ -50,14 +62,16 @@ faults_of words = fault_of program_app words
 abbrev pub number_or : ℕ → Text → ℕ
 number_or default text =
     let digits = without_leading_plus text in
-    if nat_lt 0 (length digits) && list_all (λ d. nat_lt (digit_value d) 10) digits && nat_lt (digits_value 10 digits) (2 ^ 64)
+    if nat_lt 0 (length digits) && list_all (λ d. nat_lt (digit_value d) 10) digits && nat_lt
+    (digits_value 10 digits) (2 ^ 64)
     then digits_value 10 digits else default
 
 -- the same, of which another text has none
 abbrev pub number_of : Text → Option ℕ
 number_of text =
     let digits = without_leading_plus text in
-    if nat_lt 0 (length digits) && list_all (λ d. nat_lt (digit_value d) 10) digits && nat_lt (digits_value 10 digits) (2 ^ 64)
+    if nat_lt 0 (length digits) && list_all (λ d. nat_lt (digit_value d) 10) digits && nat_lt
+    (digits_value 10 digits) (2 ^ 64)
     then Some (digits_value 10 digits) else None
 
 -- what the options say, by what was given for each, or else is its default
@@ -84,18 +98,37 @@ config_of words = config_in (matches_of program_app words)
 abbrev pub race_of : List Text → Option ℕ
 race_of words = option_and_then number_of (one_of (codes "race") (matches_of program_app words))
 
--- what the words ask for: a configuration, and perhaps a race of so many workers
+-- an option with no value is given where it reads as `true`
+abbrev pub is_given : Text → List Row → Bool
+is_given name rows = option_map_or (λ text. bytes_eq text (codes "true")) (one_of name rows) false
+
+abbrev pub form_asked : Bool → Form
+form_asked true = forms.Text
+form_asked false = forms.Base64
+
+-- how values stand: as text where the words ask for it, else in base64
+abbrev pub form_of : List Text → Form
+form_of words = form_asked (is_given (codes "text") (matches_of program_app words))
+
+-- what the words ask for: a configuration, perhaps a race of so many workers, and how values stand
 pub record Wanted : Type 0 where
   pub config : Configuration
   pub race : Option ℕ
+  pub form : Form
 
 abbrev pub wanted_of : List Text → Wanted
-wanted_of words = record { config = config_of words; race = race_of words }
+wanted_of words = record { config = config_of words; race = race_of words; form = form_of words }
 
--- a configuration alone, with no race
+-- a configuration alone, with no race, and values in base64
 abbrev pub alone : Configuration → Wanted
-alone config = record { config = config; race = None }
+alone config = record { config = config; race = None; form = forms.Base64 }
 
 -- the configuration where no option is given
 abbrev pub defaults : Configuration
-defaults = record { bucket = codes "kv"; history = 1; value_limit = 1048576; write_limit = 1000000; revision_limit = 4294967295 }
+defaults = record {
+  bucket = codes "kv";
+  history = 1;
+  value_limit = 1048576;
+  write_limit = 1000000;
+  revision_limit = 4294967295;
+}

@@ -6,7 +6,8 @@ use Rattle.std.specs.List.{range_with_len}
 abbrev pub dealt_to : {X : Type 0} → ℕ → ℕ → ℕ → List X → List X
 dealt_to {X} workers worker place [] = []
 dealt_to {X} workers worker place (x ∷ xs) =
-    if (place % workers) == worker then x ∷ dealt_to workers worker (place + 1) xs else dealt_to workers worker (place + 1) xs
+    if (place % workers) == worker then x ∷ dealt_to workers worker (place + 1) xs else
+    dealt_to workers worker (place + 1) xs
 
 -- what each worker is dealt, worker by worker from 0
 abbrev pub dealt : {X : Type 0} → ℕ → List X → List (List X)

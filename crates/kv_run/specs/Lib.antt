@@ -1,15 +1,6 @@
 pub mod Arguments
-pub mod Bounds
 pub mod Dealing
-pub mod Failures
-pub mod Faults
-pub mod Lines
-pub mod Outcome
 pub mod Planning
 pub mod Programs
 pub mod Races
-pub mod Replaying
 pub mod Reporting
-pub mod Steps
-pub mod Text
-pub mod inside

@@ -8,8 +8,9 @@ use Rattle.kv_keys.specs.Refusals.{name_of}
 use Rattle.kv_keys.specs.declared.error.KvError.{KvError}
 use Rattle.kv_keys.specs.declared.error.KvError.TheVariants.{OutOfMemory, BadBucket, BadConfig, ReadFault, WriteFault}
 use Rattle.kv_race.specs.Openings.{may_race}
+use Rattle.kv_script.specs.declared.form.Form.{Form}
 use Rattle.kv_run.specs.Races.{RanRace}
-use Rattle.kv_run.specs.Replaying.{Ran}
+use Rattle.kv_replay.specs.Replaying.{Ran}
 use Rattle.kv_run.specs.declared.help.TheConstants.{HELP, VERSION}
 use Rattle.kv_model.specs.Configuration.{Configuration, configure}
 
@@ -28,14 +29,17 @@ checked (Some workers) config = may_race config workers 0
 abbrev pub fault_text : KvError → List ℕ
 fault_text error = codes "kvbucket: " ++ name_of error ++ 10 ∷ []
 
--- a whole run, of a script or of a race over it
-abbrev pub RanAs : Option ℕ → Configuration → (unread left held holds : Option (List ℕ)) → Result ⊤ KvError → Type 0
-RanAs None config unread left held holds result = Ran config unread left held holds result
-RanAs (Some workers) config unread left held holds result = RanRace config workers unread left held holds result
+-- a whole run, of a script or of a race over it, where values stand in this form
+abbrev pub RanAs : Form → Option ℕ → Configuration → (unread left held holds : Option (List ℕ)) → Result ⊤ KvError →
+    Type 0
+RanAs form None config unread left held holds result = Ran form config unread left held holds result
+RanAs form (Some workers) config unread left held holds result = RanRace form config workers unread left held holds
+    result
 
 -- the words ask for help or for the version: this is the text
 abbrev pub Shows : Kinds → List ℕ → Type 0
-Shows kinds text = (IsAmong DisplayHelp kinds × (text ≡ HELP.now)) ⊎ (IsAmong DisplayVersion kinds × (text ≡ VERSION.now))
+Shows kinds text = (IsAmong DisplayHelp kinds × (text ≡ HELP.now)) ⊎
+    (IsAmong DisplayVersion kinds × (text ≡ VERSION.now))
 
 -- something is wrong with the words
 abbrev pub AreWrong : Kinds → Type 0
@@ -47,18 +51,20 @@ IsShown kinds held holds = (text : List ℕ) × (Shows kinds text × Appends hel
 
 -- the writer failed, and a beginning of such a text was shown
 abbrev pub ShowingEnds : Kinds → (held holds : Option (List ℕ)) → KvError → Type 0
-ShowingEnds kinds held holds error = (error ≡ WriteFault) × ((text : List ℕ) × (Shows kinds text × ((n : ℕ) × Appends held holds (take n text))))
+ShowingEnds kinds held holds error = (error ≡ WriteFault) ×
+    ((text : List ℕ) × (Shows kinds text × ((n : ℕ) × Appends held holds (take n text))))
 
-module _ (kinds : Kinds) (race : Option ℕ) (config : Configuration) (unread left held holds : Option (List ℕ)) where
+module _ (kinds : Kinds) (form : Form) (race : Option ℕ) (config : Configuration)
+    (unread left held holds : Option (List ℕ)) where
   -- the script was run to its end, under a configuration that is legal
   abbrev pub IsRun : Type 0
-  IsRun = (kinds ≡ []) × RanAs race config unread left held holds (Ok tt)
+  IsRun = (kinds ≡ []) × RanAs form race config unread left held holds (Ok tt)
 
   module _ (ReaderFailed WriterFailed : Type 0) where
     -- the run ended by this refusal, and did what that says; of a fault of a device that device is the cause
     abbrev pub RunEnds : KvError → Type 0
     RunEnds error =
-        (kinds ≡ []) × ((RanAs race config unread left held holds (Err error) × (status_of error ≡ 1))
+        (kinds ≡ []) × ((RanAs form race config unread left held holds (Err error) × (status_of error ≡ 1))
         × ((error ≡ ReadFault → ReaderFailed) × (error ≡ WriteFault → WriterFailed)))
 
     -- why it ended early: the run ended, the writer failed while a text was shown, or memory ran out before anything was read or written

@@ -5,12 +5,13 @@ ghost use Rattle.clap.specs.Kinds.{HasKind};
 ghost use Rattle.clap.specs.Simple.{app_of};
 ghost use Rattle.clap.specs.Walk.{rule_of};
 ghost use Rattle.kv_keys.specs.declared.error.KvError.TheVariants.{OutOfMemory};
-ghost use Rattle.kv_run.specs.Arguments.{faults_of, number_option, program_app, race_option, text_option, wanted_of};
+ghost use Rattle.kv_run.specs.Arguments.{faults_of, form_asked, form_option, number_option, program_app, race_option, text_option, wanted_of};
 
 use crate::help::VERSION;
 use clap::{Arg, ArgAction, Command, Error, value_parser};
 use kv_keys::KvError;
 use kv_model::Config;
+use kv_script::Form;
 use std::alloc::{AllocError, Global};
 use std::marker::Model;
 
@@ -23,6 +24,7 @@ pub(crate) struct Arguments<'a> {
     write_limit: u64,
     revision_limit: u64,
     race: Option<u64>,
+    form: Form,
 }
 
 /// An option that takes a text.
@@ -57,6 +59,23 @@ fn race<'a>(alloc: Global) -> Arg<'a>
         .value_parser(value_parser!(u64).range(1..=16))
 }
 
+/// The option for values as text.
+fn form<'a>(alloc: Global) -> Arg<'a>
+    ensures rule { rule_of result ≡ form_option }
+    ensures local { result.global ≡ false }
+{
+    Arg::new(alloc, "text")
+        .long("text")
+        .action(ArgAction::SetTrue)
+}
+
+/// How values stand.
+fn form_asked(as_text: bool) -> Form
+    ensures { result ≡ form_asked as_text }
+{
+    if as_text { Form::Text } else { Form::Base64 }
+}
+
 /// The program, with its options. Its help and its version are texts of their own, so clap's are not asked for.
 fn command<'a>(alloc: Global) -> Result<Command<'a>, AllocError>
     ensures { IfOk result (λ command. app_of command ≡ program_app) }
@@ -68,7 +87,8 @@ fn command<'a>(alloc: Global) -> Result<Command<'a>, AllocError>
         .arg(number(alloc, "value-limit", "1048576"))?
         .arg(number(alloc, "write-limit", "1000000"))?
         .arg(number(alloc, "revision-limit", "4294967295"))?
-        .arg(race(alloc))
+        .arg(race(alloc))?
+        .arg(form(alloc))
 }
 
 impl<'a> Model for Arguments<'a> {
@@ -85,6 +105,7 @@ impl<'a> Model for Arguments<'a> {
         revision_limit = a.revision_limit;
       };
       race = a.race;
+      form = a.form;
     } };
 }
 
@@ -106,6 +127,7 @@ impl<'a> Arguments<'a> {
                 .get_one::<u64>("revision-limit")
                 .unwrap_or(4_294_967_295),
             race: matches.get_one::<u64>("race"),
+            form: form_asked(matches.get_one::<bool>("text").unwrap_or(false)),
         })
     }
 
@@ -114,6 +136,13 @@ impl<'a> Arguments<'a> {
         ensures { result ≡ self.now.race }
     {
         self.race
+    }
+
+    /// How values stand in the lines and in the answers.
+    pub(crate) fn form(&self) -> Form
+        ensures { result ≡ self.now.form }
+    {
+        self.form
     }
 
     /// The configuration that they ask for. It is not checked here.

@@ -15,10 +15,12 @@ Options:
       --revision-limit N    the last revision, 1 to 4294967295 [4294967295]
       --race N              read the whole script first, deal its writes to N workers that write at once, 1 to 16,
                             and show each watch from its beginning
+      --text                values are text: in a line all that stands behind the space, in an answer a JSON string
   -h, --help                show this
   -V, --version             show the version, and the kit that proved it
 
-Commands: K is a key, B a value in base64, or - for the empty one, R a revision, F a filter.
+Commands: K is a key, B a value in base64, or - for the empty one, R a revision, F a filter. With --text, B is the rest
+of the line as it stands.
   put K B                   put app.port ODA4MA==        write a value
   create K B                create app.name YQ==         write a value where there is none
   update K R B              update app.port 1 OTA5MA==   write a value where R is the last revision of the key
@@ -39,6 +41,7 @@ Commands: K is a key, B a value in base64, or - for the empty one, R a revision,
 Empty lines and lines that begin with # are skipped. A refused line is answered, and the script goes on.
 
 Example: printf 'put a MQ==\\nget a\\n' | kvbucket
+As text: printf 'put greeting hello, you\\nget greeting\\n' | kvbucket --text
 Each command is shown with its answer in docs/script.md.
 ";
 

@@ -1,9 +1,12 @@
 //! Laws of the arguments.
 
-ghost use Rattle.std.specs.Prelude.{◌≡◌, ◌++◌, ℕ, List, [], ◌∷◌, codes};
+ghost use Rattle.std.specs.Prelude.{◌≡◌, ◌++◌, ℕ, List, [], ◌∷◌, None, codes};
 ghost use Rattle.kv_run.specs.Arguments.{alone, defaults, faults_of, number_of, number_or, wanted_of};
 
-/// With no options the configuration is the one that is named `kv`, there is no race, and the words are fine.
+use kv_script::Form;
+
+/// With no options the configuration is the one that is named `kv`, there is no race, values stand in base64, and the
+/// words are fine.
 pub fn no_option_leaves_the_defaults()
     ensures wanted { (program : List ℕ) → wanted_of (program ∷ []) ≡ alone defaults }
     ensures fine { (program : List ℕ) → faults_of (program ∷ []) ≡ [] }
@@ -26,5 +29,9 @@ pub fn each_option_sets_its_part()
         wanted_of (program ∷ (codes "--revision-limit=" ++ value) ∷ [])
         ≡ alone (record defaults { revision_limit = number_or 4294967295 value }) }
     ensures race { (program value : List ℕ) →
-        wanted_of (program ∷ (codes "--race=" ++ value) ∷ []) ≡ record { config = defaults; race = number_of value } }
+        wanted_of (program ∷ (codes "--race=" ++ value) ∷ [])
+        ≡ record { config = defaults; race = number_of value; form = Form.Base64 } }
+    ensures text { (program : List ℕ) →
+        wanted_of (program ∷ codes "--text" ∷ [])
+        ≡ record { config = defaults; race = None; form = Form.Text } }
 {}

@@ -4,20 +4,18 @@ ghost use Rattle.std.specs.Prelude.{◌≡◌, ◌≤◌, ◌+◌, ◌⊎◌, �
 ghost use Rattle.std.specs.Io.KnownBytes.{Appends};
 ghost use Rattle.clap.specs.Kinds.{HasKind, Kinds};
 ghost use Rattle.kv_keys.specs.declared.error.KvError.TheVariants.{OutOfMemory};
-ghost use Rattle.kv_run.specs.Arguments.{config_of, faults_of, race_of};
-ghost use Rattle.kv_run.specs.Faults.{IsBadConfiguration};
+ghost use Rattle.kv_run.specs.Arguments.{config_of, faults_of, form_of, race_of};
+ghost use Rattle.kv_replay.specs.Faults.{IsBadConfiguration};
 ghost use Rattle.kv_run.specs.Programs.{fault_text, status_of, AreWrong, EndsBy, IsRefusedBy, IsRun, IsShown, RanAs, ShowingEnds};
-ghost use Rattle.kv_run.specs.declared.scripts.streams.TheConstants.{READ_CALLS};
+ghost use Rattle.kv_replay.specs.declared.streams.TheConstants.{READ_CALLS};
 
 use crate::arguments::Arguments;
 use crate::help::{HELP, VERSION};
 use crate::races::over_scripts::replay_race;
-use crate::scripts::input::Input;
-use crate::scripts::output::Output;
-use crate::scripts::streams::replay;
 use clap::Error;
 use clap::error::ErrorKind;
 use kv_keys::KvError;
+use kv_replay::{Input, Output, replay};
 use std::alloc::Global;
 use std::sync::Wait;
 use std::thread::Threads;
@@ -30,7 +28,7 @@ fn run<T: Threads + Wait + Sync, R: Input, W: Output>(
     reader: &mut R,
     writer: &mut W,
 ) -> Result<(), KvError>
-    ensures ran { RanAs arguments.now.race arguments.now.config
+    ensures ran { RanAs arguments.now.form arguments.now.race arguments.now.config
         (R.left reader.old) (R.left reader.new) (W.held writer.old) (W.held writer.new) result
         ⊎ (IsErrOf result OutOfMemory × ((reader.new ≡ reader.old) × (writer.new ≡ writer.old))) }
     ensures read_fault { IsErrOf result KvError.ReadFault →
@@ -39,9 +37,10 @@ fn run<T: Threads + Wait + Sync, R: Input, W: Output>(
     ensures refused { IfErr result (λ e. IsBadConfiguration e → (reader.new ≡ reader.old) × (writer.new ≡ writer.old)) }
 {
     let config = arguments.config(alloc)?;
+    let form = arguments.form();
     match arguments.race() {
-        Some(workers) => replay_race(rt, alloc, reader, writer, &config, workers as usize),
-        None => replay(alloc, reader, writer, &config),
+        Some(workers) => replay_race(rt, alloc, reader, writer, &config, form, workers as usize),
+        None => replay(alloc, reader, writer, &config, form),
     }
 }
 
@@ -137,7 +136,8 @@ pub fn program<T: Threads + Wait + Sync, R: Input, W: Output, F: Output>(
     // All was read, and its text under the configuration of the words, which is legal, was written; or the words ask
     // for a text, which was written. Nothing is told of faults.
     ensures done { result ≡ 0 → (faults.new ≡ faults.old)
-        × (IsRun (faults_of (map string_bytes words.now)) (race_of (map string_bytes words.now))
+        × (IsRun (faults_of (map string_bytes words.now)) (form_of (map string_bytes words.now))
+        (race_of (map string_bytes words.now))
         (config_of (map string_bytes words.now))
         (R.left reader.old) (R.left reader.new) (W.held writer.old) (W.held writer.new)
         ⊎ (IsShown (faults_of (map string_bytes words.now)) (W.held writer.old) (W.held writer.new)
@@ -145,7 +145,8 @@ pub fn program<T: Threads + Wait + Sync, R: Input, W: Output, F: Output>(
     // The run ended by a refusal, which is told unless `faults` failed, and what it says of the bytes holds.
     ensures stopped { result ≡ 1 → (error : KvError) ×
         ((Appends (F.held faults.old) (F.held faults.new) (fault_text error) ⊎ F.failed_between faults.old faults.new)
-        × EndsBy (faults_of (map string_bytes words.now)) (race_of (map string_bytes words.now))
+        × EndsBy (faults_of (map string_bytes words.now)) (form_of (map string_bytes words.now))
+        (race_of (map string_bytes words.now))
         (config_of (map string_bytes words.now))
         (R.left reader.old) (R.left reader.new) (W.held writer.old) (W.held writer.new)
         (R.failed_between reader.old reader.new ⊎ (R.asked reader.new ≡ R.asked reader.old + READ_CALLS))

@@ -3,13 +3,14 @@
 
 use kv_keys::KvError;
 use kv_model::Config;
-use kv_run::{CountedReader, CountedWriter, program, replay, replay_bounded};
+use kv_run::{CountedReader, CountedWriter, Form, program, replay, replay_bounded};
 use std::alloc::{AllocError, Global};
 use std::process::Abort;
 use std::test::Fail;
 
 mod adapters;
 mod arguments;
+mod as_text;
 mod compacting;
 mod devices;
 mod failing;
@@ -63,6 +64,7 @@ fn replays_once(
         &mut CountedReader::new(&mut reader),
         &mut CountedWriter::new(&mut written),
         config,
+        Form::Base64,
     ) {
         Ok(()) => Ok(written.as_slice() == text && reader.is_empty()),
         Err(KvError::OutOfMemory) if is_front(&written, text) => Err(KvError::OutOfMemory),

@@ -2,12 +2,16 @@
 use Rattle.std.proofs.Common.{◌≡◌, ◌∷◌, [], false, Some, None, Ok, Err, codes, refl}
 use Rattle.base64.proofs.OnLiterals.{base64_on_literals}
 use Rattle.hex.proofs.OnLiterals.{hex_on_literals}
+use Rattle.std.proofs.lemmas.Str.{is_utf8-from_IsUtf8}
 use Rattle.json.specs.Print.{escape_byte}
+use Rattle.json.proofs.Printed.Utf8.{IsUtf8-are_ascii}
 use Rattle.std.specs.Fmt.{digits}
 use Rattle.kv_keys.specs.Grammar.{is_key}
 use Rattle.kv_keys.specs.declared.error.KvError.TheVariants.{BadCommand, BadFloor, Lagged, WatchBehind, WrongLastRevision}
 use Rattle.kv_model.specs.declared.write.Op.TheVariants.{Delete, Put}
-use Rattle.kv_script.specs.Commands.{Compact, Get, Take, named_command, present_words_command}
+use Rattle.kv_model.specs.Requests.{create, put, update}
+use Rattle.kv_script.specs.Commands.{Compact, Get, Take, Write, command_in, named_command, present_words_command, text_command}
+use Rattle.kv_script.specs.declared.form.Form.TheVariants.{Base64, Text}
 use Rattle.kv_script.specs.Line.{line}
 use Rattle.kv_script.specs.Text.{compacted_text, empty_text, entry_text, history_text, keys_text, marker_text, place_text, refusal_text, revision_text, sealed_text, status_text, stopped_text, taken_entry_text, told_text, watch_text, worker_refusal_text}
 use Rattle.kv_script.specs.Words.{number_of, value_of, words_of}
@@ -24,15 +28,19 @@ compacted : compacted_text 4 ≡ line (codes "{\"compacted\":4}")
 unfolding compacted_text digits escape_byte
 compacted = refl
 
-entry : entry_text (record { key = codes "a"; op = Put; revision = 1; size = 1; value = Some (codes "1") }) ≡ line (codes "{\"key\":\"a\",\"op\":\"PUT\",\"revision\":1,\"size\":1,\"value\":\"MQ==\"}")
+entry : entry_text Base64 (record { key = codes "a"; op = Put; revision = 1; size = 1; value = Some (codes "1") }) ≡ line (codes "{\"key\":\"a\",\"op\":\"PUT\",\"revision\":1,\"size\":1,\"value\":\"MQ==\"}")
 unfolding entry_text base64_on_literals digits escape_byte
 entry = refl
 
-entry_of_nothing : entry_text (record { key = codes "a"; op = Put; revision = 1; size = 0; value = Some [] }) ≡ line (codes "{\"key\":\"a\",\"op\":\"PUT\",\"revision\":1,\"size\":0,\"value\":\"\"}")
+entry_of_nothing : entry_text Base64 (record { key = codes "a"; op = Put; revision = 1; size = 0; value = Some [] }) ≡ line (codes "{\"key\":\"a\",\"op\":\"PUT\",\"revision\":1,\"size\":0,\"value\":\"\"}")
 unfolding entry_text base64_on_literals digits escape_byte
 entry_of_nothing = refl
 
-history : history_text (record { key = codes "a"; op = Delete; revision = 2; size = 0; value = None } ∷ []) ≡ line (codes "{\"entries\":[{\"key\":\"a\",\"op\":\"DEL\",\"revision\":2,\"size\":0}]}")
+entry_in_text : entry_text Text (record { key = codes "a"; op = Put; revision = 1; size = 4; value = Some (codes "1 \"\n") }) ≡ line (codes "{\"key\":\"a\",\"op\":\"PUT\",\"revision\":1,\"size\":4,\"value\":\"1 \\\"\\n\"}")
+unfolding entry_text digits escape_byte
+entry_in_text = rw (is_utf8-from_IsUtf8 _ (IsUtf8-are_ascii (codes "1 \"\n") refl)) refl
+
+history : history_text Base64 (record { key = codes "a"; op = Delete; revision = 2; size = 0; value = None } ∷ []) ≡ line (codes "{\"entries\":[{\"key\":\"a\",\"op\":\"DEL\",\"revision\":2,\"size\":0}]}")
 unfolding history_text digits escape_byte
 history = refl
 
@@ -44,7 +52,7 @@ watch : watch_text 3 ≡ line (codes "{\"watch\":3}")
 unfolding watch_text digits escape_byte
 watch = refl
 
-taken : taken_entry_text 1 (record { key = codes "a"; op = Delete; revision = 2; size = 0; value = None }) ≡ line (codes "{\"key\":\"a\",\"op\":\"DEL\",\"revision\":2,\"size\":0,\"watch\":1}")
+taken : taken_entry_text Base64 1 (record { key = codes "a"; op = Delete; revision = 2; size = 0; value = None }) ≡ line (codes "{\"key\":\"a\",\"op\":\"DEL\",\"revision\":2,\"size\":0,\"watch\":1}")
 unfolding taken_entry_text digits escape_byte
 taken = refl
 
@@ -138,3 +146,28 @@ compact_with_a_word = refl
 
 two_spaces : present_words_command (words_of (codes "get  a")) ≡ Err BadCommand
 two_spaces = refl
+
+-- lines in text
+put_line : command_in Text (words_of (codes "put a  b c ")) ≡ Ok (Write (put (codes "a") (codes " b c ")))
+unfolding text_command is_key
+put_line = refl
+
+create_line : command_in Text (words_of (codes "create a ")) ≡ Ok (Write (create (codes "a") []))
+unfolding text_command is_key
+create_line = refl
+
+update_line : command_in Text (words_of (codes "update a 7 b c")) ≡ Ok (Write (update (codes "a") (codes "b c") 7))
+unfolding text_command is_key
+update_line = refl
+
+no_value : command_in Text (words_of (codes "put a")) ≡ Err BadCommand
+unfolding text_command
+no_value = refl
+
+two_spaces_before_key : command_in Text (words_of (codes "put  a b")) ≡ Err BadCommand
+unfolding text_command
+two_spaces_before_key = refl
+
+get_line_in_text : command_in Text (words_of (codes "get a.b")) ≡ Ok (Get (codes "a.b"))
+unfolding text_command named_command is_key
+get_line_in_text = refl

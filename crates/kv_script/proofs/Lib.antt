@@ -7,4 +7,6 @@ pub mod Escapes
 pub mod Lines
 pub mod Places
 pub mod PlainBase64
+pub mod PutLines
+pub mod Spaced
 pub mod Texts

@@ -1,5 +1,8 @@
 -- The compact text of the JSON of each answer is the answer's text.
-use Rattle.std.proofs.Common.{◌≡◌, ℕ, List, [], ◌∷◌, Bool, true, false, map, codes, decimal, Option, Some, None, refl, ap}
+use Rattle.std.proofs.Common.{◌≡◌, ℕ, List, [], ◌∷◌, Bool, true, false, cond, map, codes, decimal, Option, Some, None, refl, ap}
+use Rattle.std.specs.Str.{is_utf8}
+use Rattle.base64.specs.Engines.{standard}
+use Rattle.base64.specs.GeneralPurpose.{encode_of}
 use Rattle.json.specs.Print.{quoted}
 use Rattle.serde_json.specs.Data.{boolean, string, object, item, Members, no_members}
 use Rattle.serde_json.specs.Written.{compact_text, has_float, members_have_float, items_have_float}
@@ -9,9 +12,11 @@ use Rattle.kv_keys.specs.declared.error.KvError.{KvError}
 use Rattle.kv_keys.specs.declared.error.KvError.TheVariants.{OutOfMemory, BadBucket, BadConfig, BadKey, BadFilter, OptionsClash, ValueTooLarge, Sealed, JournalFull, KeyExists, WrongLastRevision, KeyNotFound, NoSuchWatch, TooManyWatches, NoReader, BadCommand, ReadFault, WriteFault, BadFloor, WatchBehind, Lagged}
 use Rattle.kv_model.specs.declared.status.Status.{Status}
 use Rattle.kv_model.specs.Given.{Entry}
-use Rattle.kv_script.specs.inside.Fields.{number_field, value_fields, entry_fields, entry_object, entry_items, key_items, watch_field, worker_field, sealed_fields, compacted_fields, marker_fields, empty_fields, stopped_fields, status_fields, place_fields, detail_fields, refusal_fields, list_fields}
+use Rattle.kv_script.specs.inside.Fields.{number_field, base64_field, base64_fields, value_field, value_fields, entry_fields, entry_object, entry_items, key_items, watch_field, worker_field, sealed_fields, compacted_fields, marker_fields, empty_fields, stopped_fields, status_fields, place_fields, detail_fields, refusal_fields, list_fields}
+use Rattle.kv_script.specs.declared.form.Form.{Form}
+use Rattle.kv_script.specs.declared.form.Form.TheVariants.{Base64, Text}
 use Rattle.kv_script.specs.Line.{Member, object_text, array_text, line}
-use Rattle.kv_script.specs.Text.{truth_text, one, value_members, entry_members, detail_members, refusal_members, watch_members, worker_members, status_members, listed_text, place_digits, revision_text, sealed_text, entry_text, history_text, keys_text, watch_text, taken_entry_text, marker_text, empty_text, stopped_text, compacted_text, status_text, place_text, refusal_text, told_text, worker_refusal_text}
+use Rattle.kv_script.specs.Text.{truth_text, one, base64_members, value_members, entry_members, detail_members, refusal_members, watch_members, worker_members, status_members, listed_text, place_digits, revision_text, sealed_text, entry_text, history_text, keys_text, watch_text, taken_entry_text, marker_text, empty_text, stopped_text, compacted_text, status_text, place_text, refusal_text, told_text, worker_refusal_text}
 use Rattle.kv_script.proofs.Compact.{compact-object, compact-array, AreMembers, AreItems}
 
 pub revision_line : (revision : ℕ) → line (compact_text (object (number_field (codes "revision") revision no_members))) ≡ revision_text revision
@@ -61,42 +66,77 @@ pub place_line : (place : ℕ) → line (compact_text (object (place_fields plac
 unfolding serde_json_on_literals place_text
 place_line place = ap line (compact-object (place_fields place) (one (codes "place") (quoted (place_digits place))) (refl, refl, tt))
 
-value_are : (value : Option (List ℕ)) (ms : Members) (members : List Member) → AreMembers ms members → AreMembers (value_fields value ms) (value_members value members)
+value_are : (form : Form) (value : Option (List ℕ)) (ms : Members) (members : List Member) → AreMembers ms members
+    → AreMembers (value_fields form value ms) (value_members form value members)
 unfolding serde_json_on_literals
-value_are None ms members h = h
-value_are (Some value) ms members h = (refl, refl, h)
+value_are Base64 None ms members h = h
+value_are Text None ms members h = h
+value_are Base64 (Some value) ms members h = (refl, refl, h)
+value_are Text (Some value) ms members h = by_utf8 (is_utf8 value)
+  where
+    by_utf8 : (text : Bool) → AreMembers (cond text (value_field value ms) ms) (cond text ((codes "value", quoted value) ∷ members) members)
+    by_utf8 true = (refl, refl, h)
+    by_utf8 false = h
 
-entry_compact : (entry : Entry) (ms : Members) (members : List Member) → AreMembers ms members
-    → compact_text (object (entry_fields entry ms)) ≡ object_text (entry_members entry members)
+base64_are : (form : Form) (value : Option (List ℕ)) (ms : Members) (members : List Member) → AreMembers ms members
+    → AreMembers (base64_fields form value ms) (base64_members form value members)
 unfolding serde_json_on_literals
-entry_compact entry ms members h =
-    compact-object (entry_fields entry ms) (entry_members entry members)
-    (refl, refl, (refl, refl, (refl, refl, (refl, refl, value_are entry.value ms members h))))
+base64_are Base64 None ms members h = h
+base64_are Text None ms members h = h
+base64_are Base64 (Some value) ms members h = h
+base64_are Text (Some value) ms members h = by_utf8 (is_utf8 value)
+  where
+    by_utf8 : (text : Bool) → AreMembers (cond text ms (base64_field value ms)) (cond text members ((codes "base64", quoted (encode_of standard value)) ∷ members))
+    by_utf8 true = h
+    by_utf8 false = (refl, refl, h)
 
-value_no_float : (value : Option (List ℕ)) (ms : Members) → members_have_float ms ≡ false → members_have_float (value_fields value ms) ≡ false
-value_no_float None ms h = h
-value_no_float (Some value) ms h = h
+entry_compact : (form : Form) (entry : Entry) (ms : Members) (members : List Member) → AreMembers ms members
+    → compact_text (object (entry_fields form entry ms)) ≡ object_text (entry_members form entry members)
+unfolding serde_json_on_literals
+entry_compact form entry ms members h =
+    compact-object (entry_fields form entry ms) (entry_members form entry members)
+    (base64_are form entry.value _ _ (refl, refl, (refl, refl, (refl, refl, (refl, refl, value_are form entry.value ms members h)))))
 
-pub entry_no_float : (entry : Entry) (ms : Members) → members_have_float ms ≡ false → has_float (object (entry_fields entry ms)) ≡ false
-entry_no_float entry ms h = value_no_float entry.value ms h
+value_no_float : (form : Form) (value : Option (List ℕ)) (ms : Members) → members_have_float ms ≡ false → members_have_float (value_fields form value ms) ≡ false
+value_no_float Base64 None ms h = h
+value_no_float Text None ms h = h
+value_no_float Base64 (Some value) ms h = h
+value_no_float Text (Some value) ms h = by_utf8 (is_utf8 value)
+  where
+    by_utf8 : (text : Bool) → members_have_float (cond text (value_field value ms) ms) ≡ false
+    by_utf8 true = h
+    by_utf8 false = h
 
-pub entry_line : (entry : Entry) → line (compact_text (entry_object entry)) ≡ entry_text entry
+base64_no_float : (form : Form) (value : Option (List ℕ)) (ms : Members) → members_have_float ms ≡ false → members_have_float (base64_fields form value ms) ≡ false
+base64_no_float Base64 None ms h = h
+base64_no_float Text None ms h = h
+base64_no_float Base64 (Some value) ms h = h
+base64_no_float Text (Some value) ms h = by_utf8 (is_utf8 value)
+  where
+    by_utf8 : (text : Bool) → members_have_float (cond text ms (base64_field value ms)) ≡ false
+    by_utf8 true = h
+    by_utf8 false = h
+
+pub entry_no_float : (form : Form) (entry : Entry) (ms : Members) → members_have_float ms ≡ false → has_float (object (entry_fields form entry ms)) ≡ false
+entry_no_float form entry ms h = base64_no_float form entry.value _ (value_no_float form entry.value ms h)
+
+pub entry_line : (form : Form) (entry : Entry) → line (compact_text (entry_object form entry)) ≡ entry_text form entry
 unfolding entry_text
-entry_line entry = ap line (entry_compact entry no_members [] tt)
+entry_line form entry = ap line (entry_compact form entry no_members [] tt)
 
-pub taken_entry_line : (watch : ℕ) (entry : Entry) → line (compact_text (object (entry_fields entry (watch_field watch)))) ≡ taken_entry_text watch entry
+pub taken_entry_line : (form : Form) (watch : ℕ) (entry : Entry) → line (compact_text (object (entry_fields form entry (watch_field watch)))) ≡ taken_entry_text form watch entry
 unfolding serde_json_on_literals taken_entry_text
-taken_entry_line watch entry = ap line (entry_compact entry (watch_field watch) (watch_members watch) (refl, refl, tt))
+taken_entry_line form watch entry = ap line (entry_compact form entry (watch_field watch) (watch_members watch) (refl, refl, tt))
 
-entries_are : (entries : List Entry) → AreItems (entry_items entries) (map listed_text entries)
-entries_are [] = tt
-entries_are (entry ∷ entries) = (entry_compact entry no_members [] tt, entries_are entries)
+entries_are : (form : Form) (entries : List Entry) → AreItems (entry_items form entries) (map (listed_text form) entries)
+entries_are form [] = tt
+entries_are form (entry ∷ entries) = (entry_compact form entry no_members [] tt, entries_are form entries)
 
-pub history_line : (entries : List Entry) → line (compact_text (object (list_fields (codes "entries") (entry_items entries)))) ≡ history_text entries
+pub history_line : (form : Form) (entries : List Entry) → line (compact_text (object (list_fields (codes "entries") (entry_items form entries)))) ≡ history_text form entries
 unfolding serde_json_on_literals history_text
-history_line entries =
-    ap line (compact-object (list_fields (codes "entries") (entry_items entries)) (one (codes "entries") (array_text (map listed_text entries)))
-    (refl, compact-array (entry_items entries) (map listed_text entries) (entries_are entries), tt))
+history_line form entries =
+    ap line (compact-object (list_fields (codes "entries") (entry_items form entries)) (one (codes "entries") (array_text (map (listed_text form) entries)))
+    (refl, compact-array (entry_items form entries) (map (listed_text form) entries) (entries_are form entries), tt))
 
 keys_are : (keys : List (List ℕ)) → AreItems (key_items keys) (map quoted keys)
 keys_are [] = tt
@@ -108,23 +148,23 @@ keys_line keys =
     ap line (compact-object (list_fields (codes "keys") (key_items keys)) (one (codes "keys") (array_text (map quoted keys)))
     (refl, compact-array (key_items keys) (map quoted keys) (keys_are keys), tt))
 
-items_no_float : (entries : List Entry) → items_have_float (entry_items entries) ≡ false
-items_no_float [] = refl
-items_no_float (entry ∷ entries) = rw (entry_no_float entry no_members refl) (items_no_float entries)
+items_no_float : (form : Form) (entries : List Entry) → items_have_float (entry_items form entries) ≡ false
+items_no_float form [] = refl
+items_no_float form (entry ∷ entries) = rw (entry_no_float form entry no_members refl) (items_no_float form entries)
 
 keys_no_float : (keys : List (List ℕ)) → items_have_float (key_items keys) ≡ false
 keys_no_float [] = refl
 keys_no_float (key ∷ keys) = keys_no_float keys
 
-pub history_no_float : (entries : List Entry) → has_float (object (list_fields (codes "entries") (entry_items entries))) ≡ false
-history_no_float entries = rw (items_no_float entries) refl
+pub history_no_float : (form : Form) (entries : List Entry) → has_float (object (list_fields (codes "entries") (entry_items form entries))) ≡ false
+history_no_float form entries = rw (items_no_float form entries) refl
 
 pub keys_list_no_float : (keys : List (List ℕ)) → has_float (object (list_fields (codes "keys") (key_items keys))) ≡ false
 keys_list_no_float keys = rw (keys_no_float keys) refl
 
-pub entry_items-of : (entries : List Entry) → items_of (map entry_object entries) ≡ entry_items entries
-entry_items-of [] = refl
-entry_items-of (entry ∷ entries) = ap (item (entry_object entry)) (entry_items-of entries)
+pub entry_items-of : (form : Form) (entries : List Entry) → items_of (map (entry_object form) entries) ≡ entry_items form entries
+entry_items-of form [] = refl
+entry_items-of form (entry ∷ entries) = ap (item (entry_object form entry)) (entry_items-of form entries)
 
 pub key_items-of : (keys : List (List ℕ)) → items_of (map (λ key. string key) keys) ≡ key_items keys
 key_items-of [] = refl

@@ -49,5 +49,10 @@ from_among words = option_and_then from_of (find is_from words)
 -- the options that these words ask for, unless they clash: a watch begins in one way
 abbrev pub options_of : List (List ℕ) → Result Options KvError
 options_of words =
-    result_map_both (λ start. record { start = start; ignore_deletes = is_given (codes "nodeletes") words; headers_only = is_given (codes "meta") words })
-    (λ error. error) (start_asked (is_given (codes "history") words) (is_given (codes "updates") words) (from_among words))
+    result_map_both (λ start. record {
+      start = start;
+      ignore_deletes = is_given (codes "nodeletes") words;
+      headers_only = is_given (codes "meta") words;
+    })
+    (λ error. error) (start_asked (is_given (codes "history") words) (is_given (codes "updates") words)
+    (from_among words))

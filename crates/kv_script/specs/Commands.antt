@@ -1,7 +1,7 @@
 -- What a line of a script asks for.
 use Rattle.std.specs.Prelude.{◌≡◌, ℕ, ◌==◌, ◌&&◌, nat_le, Bool, true, if◌then◌else◌, List, [], ◌∷◌, map, length, slice_index_or, codes, bytes_eq, ⊤, Option, Some, None, option_map, option_and_then, Result, Ok, Err}
 use Rattle.std.specs.Borrow.{Bor}
-use Rattle.std.specs.List.{list_all}
+use Rattle.std.specs.List.{join_with_byte, list_all}
 use Rattle.std.specs.Result.{result_map_both}
 use Rattle.std.specs.Str.{is_utf8}
 use Rattle.kv_keys.specs.Grammar.{is_present, is_key, is_filter, parts, are_filters}
@@ -13,6 +13,8 @@ use Rattle.kv_script.specs.Words.{words_of, number_of, value_of}
 use Rattle.kv_script.specs.Choices.{are_options, options_of}
 use Rattle.kv_script.specs.declared.command.Command.{Command}
 use Rattle.kv_script.specs.declared.command.Command.TheVariants as commands
+use Rattle.kv_script.specs.declared.form.Form.{Form}
+use Rattle.kv_script.specs.declared.form.Form.TheVariants.{Base64, Text}
 
 -- a command without where its parts lie in memory
 pub data Meaning : Type 0 where
@@ -72,7 +74,8 @@ optional_number words =
 abbrev pub put_command : (List ℕ → List ℕ → Asked) → List (List ℕ) → Result Meaning KvError
 put_command makes arguments =
     if length arguments == 2
-    then or_bad_command (value_of (word arguments 1)) (λ value. for_key (word arguments 0) (Write (makes (word arguments 0) value)))
+    then or_bad_command (value_of (word arguments 1))
+    (λ value. for_key (word arguments 0) (Write (makes (word arguments 0) value)))
     else Err BadCommand
 
 -- update K R B
@@ -86,7 +89,8 @@ update_command arguments =
 -- delete K [R], purge K [R]
 abbrev pub delete_command : (List ℕ → Option ℕ → Asked) → List (List ℕ) → Result Meaning KvError
 delete_command makes [] = Err BadCommand
-delete_command makes (key ∷ words) = or_bad_command (optional_number words) (λ last. for_key key (Write (makes key last)))
+delete_command makes (key ∷ words) = or_bad_command (optional_number words)
+    (λ last. for_key key (Write (makes key last)))
 
 -- a key as it is now, or at a revision
 abbrev pub get_or_get_at : List ℕ → Option ℕ → Meaning
@@ -96,7 +100,8 @@ get_or_get_at key (Some revision) = GetAt key revision
 -- get K [R]
 abbrev pub get_command : List (List ℕ) → Result Meaning KvError
 get_command [] = Err BadCommand
-get_command (key ∷ words) = or_bad_command (optional_number words) (λ revision. for_key key (get_or_get_at key revision))
+get_command (key ∷ words) = or_bad_command (optional_number words)
+    (λ revision. for_key key (get_or_get_at key revision))
 
 -- history K, place K
 abbrev pub key_command : (List ℕ → Meaning) → List (List ℕ) → Result Meaning KvError
@@ -115,7 +120,8 @@ abbrev pub watch_command : List (List ℕ) → Result Meaning KvError
 watch_command [] = Err BadCommand
 watch_command (filters ∷ words) =
     if are_options words
-    then (if are_filters (parts filters) then result_map_both (Watch (parts filters)) (λ error. error) (options_of words) else Err BadFilter)
+    then (if are_filters (parts filters) then result_map_both (Watch (parts filters)) (λ error. error)
+    (options_of words) else Err BadFilter)
     else Err BadCommand
 
 -- 1 to 1,000,000 takes
@@ -126,13 +132,15 @@ take_count word = option_and_then (λ n. if nat_le 1 n && nat_le n 1000000 then 
 abbrev pub take_command : List (List ℕ) → Result Meaning KvError
 take_command arguments =
     if length arguments == 2
-    then or_bad_command (number_of (word arguments 0)) (λ watch. or_bad_command (take_count (word arguments 1)) (λ count. Ok (Take watch count)))
+    then or_bad_command (number_of (word arguments 0))
+    (λ watch. or_bad_command (take_count (word arguments 1)) (λ count. Ok (Take watch count)))
     else Err BadCommand
 
 -- stop ID, compact R
 abbrev pub number_command : (ℕ → Meaning) → List (List ℕ) → Result Meaning KvError
 number_command makes arguments =
-    if length arguments == 1 then or_bad_command (number_of (word arguments 0)) (λ number. Ok (makes number)) else Err BadCommand
+    if length arguments == 1 then or_bad_command (number_of (word arguments 0)) (λ number. Ok (makes number)) else
+    Err BadCommand
 
 -- status, seal
 abbrev pub lone_command : Meaning → List (List ℕ) → Result Meaning KvError
@@ -166,13 +174,46 @@ words_command (name ∷ arguments) = named_command name arguments
 abbrev pub present_words_command : List (List ℕ) → Result Meaning KvError
 present_words_command words = if list_all is_present words then words_command words else Err BadCommand
 
+-- words as they stood in their line, a space between two
+abbrev pub as_they_stood : List (List ℕ) → List ℕ
+as_they_stood words = join_with_byte 32 words
+
+-- put K VALUE, create K VALUE, in text: the value is all words behind the key, as they stood in the line, and there has to be one
+abbrev pub put_text_command : (List ℕ → List ℕ → Asked) → List (List ℕ) → Result Meaning KvError
+put_text_command makes (key ∷ first ∷ more) =
+    if is_present key then for_key key (Write (makes key (as_they_stood (first ∷ more)))) else Err BadCommand
+put_text_command makes words = Err BadCommand
+
+-- update K R VALUE, in text: the value is all words behind the number
+abbrev pub update_text_command : List (List ℕ) → Result Meaning KvError
+update_text_command (key ∷ number ∷ first ∷ more) =
+    if is_present key
+    then or_bad_command (number_of number) (λ last. for_key key
+    (Write (update key (as_they_stood (first ∷ more)) last)))
+    else Err BadCommand
+update_text_command words = Err BadCommand
+
+-- in text the words of a value may be empty, and no others; what has no value is read as ever
+unfoldable pub text_command : List (List ℕ) → Result Meaning KvError
+text_command [] = Err BadCommand
+text_command (name ∷ arguments) =
+    if bytes_eq name (codes "put") then put_text_command put arguments
+    else if bytes_eq name (codes "create") then put_text_command create arguments
+    else if bytes_eq name (codes "update") then update_text_command arguments
+    else present_words_command (name ∷ arguments)
+
+-- the command of words, by how values stand
+abbrev pub command_in : Form → List (List ℕ) → Result Meaning KvError
+command_in Base64 words = present_words_command words
+command_in Text words = text_command words
+
 -- a command is text of at most 1,400,000 bytes
 abbrev pub is_within_limits : List ℕ → Bool
 is_within_limits line = is_utf8 line && nat_le (length line) 1400000
 
 -- what a line asks for that is not skipped, or why it is refused
-unfoldable pub line_command : List ℕ → Result Meaning KvError
-line_command line = if is_within_limits line then present_words_command (words_of line) else Err BadCommand
+unfoldable pub line_command : Form → List ℕ → Result Meaning KvError
+line_command form line = if is_within_limits line then command_in form (words_of line) else Err BadCommand
 
 -- the words of a `&[&str]`
 abbrev pub texts : List (Bor (List ℕ)) → List (List ℕ)

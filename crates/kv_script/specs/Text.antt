@@ -1,6 +1,7 @@
 -- The text of each answer: one compact object on a line, its members in the byte order of their names. `quoted` is a text as JSON writes it; keys, names, base64 and digits have nothing that it escapes.
-use Rattle.std.specs.Prelude.{ℕ, List, [], ◌∷◌, map, codes, decimal, Bool, true, false, Option, Some, None}
+use Rattle.std.specs.Prelude.{ℕ, List, [], ◌∷◌, map, codes, decimal, if◌then◌else◌, Bool, true, false, Option, Some, None}
 use Rattle.std.specs.Int.{to_be_bytes, w32}
+use Rattle.std.specs.Str.{is_utf8}
 use Rattle.base64.specs.GeneralPurpose.{encode_of}
 use Rattle.base64.specs.Engines.{standard}
 use Rattle.hex.specs.Hex.{encode_lower}
@@ -13,6 +14,8 @@ use Rattle.kv_model.specs.declared.write.Op.{Op}
 use Rattle.kv_model.specs.declared.write.Op.TheVariants.{Put, Delete, Purge}
 use Rattle.kv_model.specs.Given.{Entry}
 use Rattle.kv_script.specs.Line.{Member, object_text, array_text, line}
+use Rattle.kv_script.specs.declared.form.Form.{Form}
+use Rattle.kv_script.specs.declared.form.Form.TheVariants.{Base64, Text}
 
 abbrev pub truth_text : Bool → List ℕ
 truth_text true = codes "true"
@@ -23,19 +26,27 @@ op_text Put = codes "PUT"
 op_text Delete = codes "DEL"
 op_text Purge = codes "PURGE"
 
--- a value stands in base64; where there is none, there is no member
-abbrev pub value_members : Option (List ℕ) → List Member → List Member
-value_members None more = more
-value_members (Some value) more = (codes "value", quoted (encode_of standard value)) ∷ more
+-- in text, a value that is not UTF-8 stands in base64, under that name
+abbrev pub base64_members : Form → Option (List ℕ) → List Member → List Member
+base64_members Text (Some value) more = if is_utf8 value then more else
+    (codes "base64", quoted (encode_of standard value)) ∷ more
+base64_members form value more = more
+
+-- else a value stands in base64, or in text as it is; where there is none, there is no member
+abbrev pub value_members : Form → Option (List ℕ) → List Member → List Member
+value_members Base64 (Some value) more = (codes "value", quoted (encode_of standard value)) ∷ more
+value_members Text (Some value) more = if is_utf8 value then (codes "value", quoted value) ∷ more else more
+value_members form None more = more
 
 -- the members of an entry, and more behind them; the size is the number of bytes of the value, also where it isn't shown
-abbrev pub entry_members : Entry → List Member → List Member
-entry_members entry more =
-    (codes "key", quoted entry.key)
+abbrev pub entry_members : Form → Entry → List Member → List Member
+entry_members form entry more =
+    base64_members form entry.value
+    ((codes "key", quoted entry.key)
     ∷ (codes "op", quoted (op_text entry.op))
     ∷ (codes "revision", decimal entry.revision)
     ∷ (codes "size", decimal entry.size)
-    ∷ value_members entry.value more
+    ∷ value_members form entry.value more)
 
 -- the number that a refusal carries
 abbrev pub detail_members : KvError → List Member → List Member
@@ -45,7 +56,8 @@ detail_members (Lagged floor) more = (codes "floor", decimal floor) ∷ more
 detail_members error more = more
 
 abbrev pub refusal_members : KvError → List Member → List Member
-refusal_members error more = (codes "code", decimal (code_of error)) ∷ (codes "error", quoted (name_of error)) ∷ detail_members error more
+refusal_members error more = (codes "code", decimal (code_of error)) ∷ (codes "error", quoted (name_of error))
+    ∷ detail_members error more
 
 abbrev pub watch_members : ℕ → List Member
 watch_members watch = (codes "watch", decimal watch) ∷ []
@@ -65,8 +77,8 @@ status_members bucket status watches =
     ∷ []
 
 -- the text of an entry inside a list
-abbrev pub listed_text : Entry → List ℕ
-listed_text entry = object_text (entry_members entry [])
+abbrev pub listed_text : Form → Entry → List ℕ
+listed_text form entry = object_text (entry_members form entry [])
 
 -- eight hexadecimal digits, in lower case
 abbrev pub place_digits : ℕ → List ℕ
@@ -84,12 +96,12 @@ unfoldable pub sealed_text : List ℕ
 sealed_text = line (object_text (one (codes "sealed") (codes "true")))
 
 -- the entry of a read
-unfoldable pub entry_text : Entry → List ℕ
-entry_text entry = line (object_text (entry_members entry []))
+unfoldable pub entry_text : Form → Entry → List ℕ
+entry_text form entry = line (object_text (entry_members form entry []))
 
 -- a history
-unfoldable pub history_text : List Entry → List ℕ
-history_text entries = line (object_text (one (codes "entries") (array_text (map listed_text entries))))
+unfoldable pub history_text : Form → List Entry → List ℕ
+history_text form entries = line (object_text (one (codes "entries") (array_text (map (listed_text form) entries))))
 
 -- the keys that match a filter
 unfoldable pub keys_text : List (List ℕ) → List ℕ
@@ -100,8 +112,8 @@ unfoldable pub watch_text : ℕ → List ℕ
 watch_text watch = line (object_text (watch_members watch))
 
 -- an entry that a watch hands out
-unfoldable pub taken_entry_text : ℕ → Entry → List ℕ
-taken_entry_text watch entry = line (object_text (entry_members entry (watch_members watch)))
+unfoldable pub taken_entry_text : Form → ℕ → Entry → List ℕ
+taken_entry_text form watch entry = line (object_text (entry_members form entry (watch_members watch)))
 
 -- the end of the initial entries of a watch
 unfoldable pub marker_text : ℕ → List ℕ
@@ -113,7 +125,8 @@ empty_text watch = line (object_text ((codes "empty", codes "true") ∷ watch_me
 
 -- a stop: how many items the watch handed out
 unfoldable pub stopped_text : ℕ → ℕ → List ℕ
-stopped_text watch handed = line (object_text ((codes "handed", decimal handed) ∷ one (codes "stopped") (decimal watch)))
+stopped_text watch handed = line (object_text ((codes "handed", decimal handed) ∷ one (codes "stopped")
+    (decimal watch)))
 
 -- a compaction to a floor
 unfoldable pub compacted_text : ℕ → List ℕ

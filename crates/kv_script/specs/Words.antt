@@ -12,7 +12,8 @@ words_of line = slice_split (λ byte. byte == 32) line
 
 -- a number is 1 to 20 digits whose value fits 64 bits
 abbrev pub is_number : List ℕ → Bool
-is_number word = ((nat_lt 0 (length word) && nat_le (length word) 20) && all_ascii_digits word) && nat_lt (digits_value 10 word) (2 ^ 64)
+is_number word = ((nat_lt 0 (length word) && nat_le (length word) 20) && all_ascii_digits word) && nat_lt
+    (digits_value 10 word) (2 ^ 64)
 
 -- the number of a word, where it is one
 abbrev pub number_of : List ℕ → Option ℕ

@@ -4,9 +4,12 @@ ghost use Rattle.std.specs.Prelude.{◌≡◌};
 ghost use Rattle.std.specs.Io.BufRead.{strip_last};
 ghost use Rattle.std.specs.List.{list_all};
 ghost use Rattle.kv_keys.specs.Grammar.{is_present};
-ghost use Rattle.kv_script.specs.Commands.{Gives, texts, is_skipped, named_command, words_command, present_words_command, line_command};
+ghost use Rattle.kv_script.specs.Commands.{Gives, texts, is_skipped, named_command, words_command, present_words_command, text_command, command_in, line_command};
+ghost use Rattle.kv_script.specs.Words.{words_of};
 
 use crate::command::Command;
+use crate::form::Form;
+use crate::in_text::text_command;
 use crate::{reads, watches, writes};
 use kv_keys::KvError;
 use std::alloc::Global;
@@ -84,11 +87,28 @@ fn present_words_command(alloc: Global, words: &[&str]) -> Result<Command, KvErr
     }
 }
 
-/// Reads a line, without its end, that is not to be skipped. A line that is no command is refused before its key or
+/// Reads a line none of whose words may be empty.
+pub(crate) fn plain_command(alloc: Global, line: &str) -> Result<Command, KvError>
+    ensures { Gives result (present_words_command (words_of line.now)) }
+{
+    let words: Vec<&str> = line.split(' ').collect(alloc)?;
+    present_words_command(alloc, &words)
+}
+
+fn command_in(alloc: Global, form: Form, line: &str) -> Result<Command, KvError>
+    ensures { Gives result (command_in form (words_of line.now)) }
+{
+    match form {
+        Form::Base64 => plain_command(alloc, line),
+        Form::Text => text_command(alloc, line),
+    }
+}
+
+/// Reads a line, without its end, that is not to be skipped, and whose value stands in this form. A line that is no command is refused before its key or
 /// filters are read, and those before options that clash. Memory goes to the list of the words and to the command.
 #[tactic(auto, unfolding(crate::specs::Commands::line_command))]
-pub fn parse(alloc: Global, line: &[u8]) -> Result<Command, KvError>
-    ensures { Gives result (line_command line.now) }
+pub fn parse(alloc: Global, form: Form, line: &[u8]) -> Result<Command, KvError>
+    ensures { Gives result (line_command form line.now) }
 {
     if line.len() > MOST_OF_LINE {
         return Err(KvError::BadCommand);
@@ -96,6 +116,5 @@ pub fn parse(alloc: Global, line: &[u8]) -> Result<Command, KvError>
     let Ok(text) = str::from_utf8(line) else {
         return Err(KvError::BadCommand);
     };
-    let words: Vec<&str> = text.split(' ').collect(alloc)?;
-    present_words_command(alloc, &words)
+    command_in(alloc, form, text)
 }

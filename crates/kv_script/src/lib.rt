@@ -5,7 +5,9 @@ mod answers;
 mod choices;
 mod command;
 mod entries;
+mod form;
 mod grammar;
+mod in_text;
 mod json_line;
 pub mod laws;
 mod numbers;
@@ -23,6 +25,7 @@ pub use answers::{
 };
 pub use command::Command;
 pub use entries::{append_entry, append_history, append_keys};
+pub use form::Form;
 pub use grammar::{is_skipped, parse, without_return};
 pub use refusals::{append_refusal, append_worker_refusal};
 pub use status::{append_place, append_status};

@@ -4,7 +4,7 @@
 use kv_keys::{Key, KvError};
 use kv_model::{Config, Op, Request, Status, Write};
 use kv_script::{
-    append_compacted, append_empty, append_entry, append_history, append_keys, append_marker,
+    Form, append_compacted, append_empty, append_entry, append_history, append_keys, append_marker,
     append_place, append_refusal, append_revision, append_sealed, append_status, append_stopped,
     append_taken_entry, append_told, append_watch, append_worker_refusal,
 };
@@ -95,13 +95,14 @@ fn refusals(rt: HostRuntime) -> Result<(), Fail> {
 // A taken entry of a watch. The call is made again where memory was refused.
 fn taken(
     alloc: Global,
+    form: Form,
     out: &mut Vec<u8>,
     watch: u64,
     key: &Key,
     (op, revision, size): (Op, u64, u64),
     value: Option<&[u8]>,
 ) -> Result<(), AllocError> {
-    twice!(append_taken_entry(alloc, out, watch, key, op, revision, size, value));
+    twice!(append_taken_entry(alloc, form, out, watch, key, op, revision, size, value));
     Ok(())
 }
 
@@ -116,15 +117,55 @@ fn taken_entries_and_keys(rt: HostRuntime) -> Result<(), Fail> {
     let mut out = Vec::new(alloc);
     let zinke = key(alloc, "zinke")?;
     let other = key(alloc, "a.b")?;
-    taken(alloc, &mut out, 1, &zinke, (Op::Put, 2, 1), Some(b"2"))?;
-    taken(alloc, &mut out, 1, &zinke, (Op::Put, 3, 0), Some(b""))?;
-    taken(alloc, &mut out, 2, &zinke, (Op::Put, 4, 3), None)?;
-    taken(alloc, &mut out, 2, &other, (Op::Delete, 5, 0), None)?;
-    taken(alloc, &mut out, 2, &other, (Op::Purge, 6, 0), None)?;
+    taken(
+        alloc,
+        Form::Base64,
+        &mut out,
+        1,
+        &zinke,
+        (Op::Put, 2, 1),
+        Some(b"2"),
+    )?;
+    taken(
+        alloc,
+        Form::Base64,
+        &mut out,
+        1,
+        &zinke,
+        (Op::Put, 3, 0),
+        Some(b""),
+    )?;
+    taken(
+        alloc,
+        Form::Base64,
+        &mut out,
+        2,
+        &zinke,
+        (Op::Put, 4, 3),
+        None,
+    )?;
+    taken(
+        alloc,
+        Form::Base64,
+        &mut out,
+        2,
+        &other,
+        (Op::Delete, 5, 0),
+        None,
+    )?;
+    taken(
+        alloc,
+        Form::Base64,
+        &mut out,
+        2,
+        &other,
+        (Op::Purge, 6, 0),
+        None,
+    )?;
     keys(alloc, &mut out, &[])?;
     keys(alloc, &mut out, &[&zinke])?;
     keys(alloc, &mut out, &[&other, &zinke])?;
-    twice!(append_history(alloc, &mut out, &[]));
+    twice!(append_history(alloc, Form::Base64, &mut out, &[]));
     let text =
         "{\"key\":\"zinke\",\"op\":\"PUT\",\"revision\":2,\"size\":1,\"value\":\"Mg==\",\"watch\":1}\n\
         {\"key\":\"zinke\",\"op\":\"PUT\",\"revision\":3,\"size\":0,\"value\":\"\",\"watch\":1}\n\
@@ -181,24 +222,30 @@ fn config(alloc: Global) -> Result<Config, AllocError> {
     })
 }
 
-fn once_put(alloc: Global) -> Result<Version, KvError> {
+fn once_put(alloc: Global, value: &[u8]) -> Result<Version, KvError> {
     let config = config(alloc)?;
-    applied(alloc, &empty(alloc, &config)?, &put(alloc, b"2")?)
+    applied(alloc, &empty(alloc, &config)?, &put(alloc, value)?)
 }
 
-fn entry(alloc: Global, out: &mut Vec<u8>, write: &Write) -> Result<(), AllocError> {
-    twice!(append_entry(alloc, out, write));
+fn entry(alloc: Global, form: Form, out: &mut Vec<u8>, write: &Write) -> Result<(), AllocError> {
+    twice!(append_entry(alloc, form, out, write));
     Ok(())
 }
 
-fn history(alloc: Global, out: &mut Vec<u8>, writes: &[&Write]) -> Result<(), AllocError> {
-    twice!(append_history(alloc, out, writes));
+fn history(
+    alloc: Global,
+    form: Form,
+    out: &mut Vec<u8>,
+    writes: &[&Write],
+) -> Result<(), AllocError> {
+    twice!(append_history(alloc, form, out, writes));
     Ok(())
 }
 
 // The entry of one version, that of the next, and both.
 fn entries(
     alloc: Global,
+    form: Form,
     out: &mut Vec<u8>,
     first: &Version,
     second: &Version,
@@ -206,9 +253,9 @@ fn entries(
     let zinke = key(alloc, "zinke")?;
     let one = first.get(&zinke)?;
     let two = second.get(&zinke)?;
-    entry(alloc, out, one)?;
-    entry(alloc, out, two)?;
-    history(alloc, out, &[one, two])?;
+    entry(alloc, form, out, one)?;
+    entry(alloc, form, out, two)?;
+    history(alloc, form, out, &[one, two])?;
     Ok(())
 }
 
@@ -216,12 +263,73 @@ fn entries(
 fn entries_of_reads(rt: HostRuntime) -> Result<(), Fail> {
     let alloc = rt.alloc();
     let mut out = Vec::new(alloc);
-    let first = once_put(alloc)?;
+    let first = once_put(alloc, b"2")?;
     let second = applied(alloc, &first, &put(alloc, b"")?)?;
-    entries(alloc, &mut out, &first, &second)?;
+    entries(alloc, Form::Base64, &mut out, &first, &second)?;
     let text = "{\"key\":\"zinke\",\"op\":\"PUT\",\"revision\":1,\"size\":1,\"value\":\"Mg==\"}\n\
         {\"key\":\"zinke\",\"op\":\"PUT\",\"revision\":2,\"size\":0,\"value\":\"\"}\n\
         {\"entries\":[{\"key\":\"zinke\",\"op\":\"PUT\",\"revision\":1,\"size\":1,\"value\":\"Mg==\"},{\"key\":\"zinke\",\"op\":\"PUT\",\"revision\":2,\"size\":0,\"value\":\"\"}]}\n";
+    assert!(rt; out.as_slice() == text.as_bytes());
+    Ok(())
+}
+
+#[test]
+fn taken_entries_in_text(rt: HostRuntime) -> Result<(), Fail> {
+    let alloc = rt.alloc();
+    let mut out = Vec::new(alloc);
+    let name = key(alloc, "a")?;
+    let puts = [
+        (b"hello, you".as_slice(), 10),
+        (b"".as_slice(), 0),
+        (b"\"\\\n\x01\x7f".as_slice(), 5),
+        ("\u{e9}\u{1f600}".as_bytes(), 6),
+        (b"\xff\x00".as_slice(), 2),
+        (b"a\xc3".as_slice(), 2),
+    ];
+    for (value, size) in puts {
+        taken(
+            alloc,
+            Form::Text,
+            &mut out,
+            1,
+            &name,
+            (Op::Put, 7, size),
+            Some(value),
+        )?;
+    }
+    taken(alloc, Form::Text, &mut out, 2, &name, (Op::Put, 7, 3), None)?;
+    taken(
+        alloc,
+        Form::Text,
+        &mut out,
+        2,
+        &name,
+        (Op::Delete, 8, 0),
+        None,
+    )?;
+    let text =
+        "{\"key\":\"a\",\"op\":\"PUT\",\"revision\":7,\"size\":10,\"value\":\"hello, you\",\"watch\":1}\n\
+        {\"key\":\"a\",\"op\":\"PUT\",\"revision\":7,\"size\":0,\"value\":\"\",\"watch\":1}\n\
+        {\"key\":\"a\",\"op\":\"PUT\",\"revision\":7,\"size\":5,\"value\":\"\\\"\\\\\\n\\u0001\u{7f}\",\"watch\":1}\n\
+        {\"key\":\"a\",\"op\":\"PUT\",\"revision\":7,\"size\":6,\"value\":\"\u{e9}\u{1f600}\",\"watch\":1}\n\
+        {\"base64\":\"/wA=\",\"key\":\"a\",\"op\":\"PUT\",\"revision\":7,\"size\":2,\"watch\":1}\n\
+        {\"base64\":\"YcM=\",\"key\":\"a\",\"op\":\"PUT\",\"revision\":7,\"size\":2,\"watch\":1}\n\
+        {\"key\":\"a\",\"op\":\"PUT\",\"revision\":7,\"size\":3,\"watch\":2}\n\
+        {\"key\":\"a\",\"op\":\"DEL\",\"revision\":8,\"size\":0,\"watch\":2}\n";
+    assert!(rt; out.as_slice() == text.as_bytes());
+    Ok(())
+}
+
+#[test]
+fn entries_of_reads_in_text(rt: HostRuntime) -> Result<(), Fail> {
+    let alloc = rt.alloc();
+    let mut out = Vec::new(alloc);
+    let first = once_put(alloc, b"a b")?;
+    let second = applied(alloc, &first, &put(alloc, b"\xfe")?)?;
+    entries(alloc, Form::Text, &mut out, &first, &second)?;
+    let text = "{\"key\":\"zinke\",\"op\":\"PUT\",\"revision\":1,\"size\":3,\"value\":\"a b\"}\n\
+        {\"base64\":\"/g==\",\"key\":\"zinke\",\"op\":\"PUT\",\"revision\":2,\"size\":1}\n\
+        {\"entries\":[{\"key\":\"zinke\",\"op\":\"PUT\",\"revision\":1,\"size\":3,\"value\":\"a b\"},{\"base64\":\"/g==\",\"key\":\"zinke\",\"op\":\"PUT\",\"revision\":2,\"size\":1}]}\n";
     assert!(rt; out.as_slice() == text.as_bytes());
     Ok(())
 }

@@ -4,4 +4,6 @@
 #[cfg(test)]
 mod answers;
 #[cfg(test)]
+mod in_text;
+#[cfg(test)]
 mod lines;

@@ -4,14 +4,14 @@
 //! A request for memory that is refused is made again: a second refusal in a row does not come.
 use kv_keys::KvError;
 use kv_model::{Request, Start};
-use kv_script::{Command, is_skipped, parse};
+use kv_script::{Command, Form, is_skipped, parse};
 use std::alloc::{AllocError, Global};
 use std::process::Abort;
 use std::test::Fail;
 
 fn bytes_command(alloc: Global, line: &[u8]) -> Result<Command, KvError> {
-    match parse(alloc, line) {
-        Err(KvError::OutOfMemory) => parse(alloc, line),
+    match parse(alloc, Form::Base64, line) {
+        Err(KvError::OutOfMemory) => parse(alloc, Form::Base64, line),
         parsed => parsed,
     }
 }
@@ -28,7 +28,7 @@ fn refusal(alloc: Global, line: &str) -> Option<KvError> {
 }
 
 // The name of a write, its key, its value and its revision, if it has one.
-fn write_parts(request: &Request) -> (&'static str, &str, &[u8], Option<u64>) {
+pub(crate) fn write_parts(request: &Request) -> (&'static str, &str, &[u8], Option<u64>) {
     match request {
         Request::Put { key, value } => ("put", key.as_str(), value.as_slice(), None),
         Request::Create { key, value } => ("create", key.as_str(), value.as_slice(), None),
@@ -41,7 +41,7 @@ fn write_parts(request: &Request) -> (&'static str, &str, &[u8], Option<u64>) {
 }
 
 // The name of a command, its key or filters, and its first number.
-fn command_parts(command: &Command) -> (&'static str, &str, Option<u64>) {
+pub(crate) fn command_parts(command: &Command) -> (&'static str, &str, Option<u64>) {
     match command {
         Command::Write(_) => ("write", "", None),
         Command::Get(key) => ("get", key.as_str(), None),
@@ -227,7 +227,7 @@ fn faults(rt: HostRuntime) -> Result<(), Fail> {
             "{line}"
         );
     }
-    assert!(rt; parse(alloc, b"get \xff").is_err());
+    assert!(rt; parse(alloc, Form::Base64, b"get \xff").is_err());
     Ok(())
 }
 

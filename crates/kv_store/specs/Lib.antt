@@ -1,4 +1,5 @@
 pub mod Asked
+pub mod Places
 pub mod Standing
 pub mod Stored
 pub mod inside

@@ -1,12 +1,15 @@
 //! Revisions as keys.
 
-ghost use Rattle.std.specs.Prelude.{◌≡◌};
+ghost use Rattle.std.specs.Prelude.{◌≡◌, ◌<◌, ◌/◌, ◌%◌};
+ghost use Rattle.kv_store.specs.Places.{place_of_revision};
 
 use kv_keys::Place;
 use std::cmp::Ordering;
 use std::marker::Model;
 
-/// A revision as a key of a trie, where its place is its number.
+/// A revision as a key of a trie. Its place is its number with its digits of five bits turned, the highest first: so
+/// writes that follow one another stand side by side, and who walks the trie meets them in the order in which their
+/// memory was taken.
 ///
 /// Contracts see it as its number.
 #[derive(Debug, Drop)]
@@ -90,14 +93,36 @@ impl Ord for Rev {
     }
 }
 
+// A digit of five bits, where the digits below it count to this number.
+fn digit(number: u32, below: u32) -> u32
+    requires { 0 < below }
+    ensures value { result ≡ number / below % 32 }
+    ensures small { result < 32 }
+{
+    number / below % 32
+}
+
+#[tactic(auto, unfolding(crate::specs::Places::place_of_revision))]
+fn place_of(number: u32) -> u32
+    ensures { result ≡ place_of_revision number }
+{
+    digit(number, 1) * 33_554_432
+        + (digit(number, 32) * 1_048_576
+            + (digit(number, 1_024) * 32_768
+                + (digit(number, 32_768) * 1_024
+                    + (digit(number, 1_048_576) * 32
+                        + (digit(number, 33_554_432) + number / 1_073_741_824 * 1_073_741_824)))))
+}
+
 impl Place for Rev {
+    ghost use Rattle.std.proofs.Common.{ap};
     ghost use Rattle.std.specs.FinMap.{nat_cmp-IsAntisymmetric};
 
-    ghost place_of = { λ rev. rev };
+    ghost place_of = { place_of_revision };
 
     fn place(&self) -> u32 {
-        self.0
+        place_of(self.0)
     }
 
-    ghost respects_equal = { nat_cmp-IsAntisymmetric };
+    ghost respects_equal = { λ a b same. ap place_of_revision (nat_cmp-IsAntisymmetric a b same) };
 }

@@ -89,9 +89,21 @@ impl Version {
         floor: u64,
         sealed: bool,
     ) -> Result<Version, KvError>
-        requires { IsBounded (record self.now { by_key = kept_entries by_key; by_revision = by_revision; values = values; floor = floor; sealed = sealed }) }
+        requires { IsBounded (record self.now {
+          by_key = kept_entries by_key;
+          by_revision = by_revision;
+          values = values;
+          floor = floor;
+          sealed = sealed;
+        }) }
         ensures ok { IfOk result (λ version. version ≡
-            record self.now { by_key = kept_entries by_key; by_revision = by_revision; values = values; floor = floor; sealed = sealed }) }
+            record self.now {
+              by_key = kept_entries by_key;
+              by_revision = by_revision;
+              values = values;
+              floor = floor;
+              sealed = sealed;
+            }) }
         ensures err { IfErr result (λ e. e ≡ OutOfMemory) }
     {
         Ok(Version {

@@ -1,7 +1,5 @@
-//! Tests of versions and of what watches are given, by worked rows, and nothing else. They use public calls alone.
+//! Tests of versions by worked rows, and nothing else. They use public calls alone.
 #![tactic(auto)]
 
 #[cfg(test)]
 mod versions;
-#[cfg(test)]
-mod watches;

@@ -32,7 +32,8 @@ stays_at keep first i p = nat_lt i first || (nat_lt first i && keep p)
 
 module _ {K V : Type 0} where
   -- the slots of a branch as far as it has changed: its own, as long as none has
-  abbrev pub slots_so_far : Option (ℕ × Vec (Arc (Node K V) Global) Global) → ℕ → List (Arc (Node K V) Global) → Slots (K × V)
+  abbrev pub slots_so_far : Option (ℕ × Vec (Arc (Node K V) Global) Global) → ℕ → List (Arc (Node K V) Global) →
+      Slots (K × V)
   slots_so_far None bits children = slots_at (set_bits bits) (child_shapes children)
   slots_so_far (Some rest) bits children = slots_at (set_bits rest.0) (child_shapes rest.1.items)
 
@@ -49,6 +50,7 @@ module _ {K V : Type 0} where
   IsFormLeft cmp place left (Some (Some node)) = IsForm cmp place left (shape_of node)
 
   -- what may have become of the node has the pairs that are wanted, and is their form
-  pub record IsRetained (cmp : K → K → Ordering) (place : K → ℕ) (keep : K × V → Bool) (left : ℕ) (pairs : List (K × V)) (new : Option (Option (Node K V))) : Type 0 where
+  pub record IsRetained (cmp : K → K → Ordering) (place : K → ℕ) (keep : K × V → Bool) (left : ℕ)
+      (pairs : List (K × V)) (new : Option (Option (Node K V))) : Type 0 where
     pub form : IsFormLeft cmp place left new
     pub kept : pairs_left pairs new ≡ filter keep pairs

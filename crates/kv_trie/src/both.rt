@@ -27,7 +27,8 @@ impl<K: Place + Drop, V: Drop> Companion for Waiting<K, V> {
 
     ghost ready = { λ waiting. IsSome waiting.pair × (length waiting.trie < 2 ^ 32 - 1) };
 
-    ghost done = { λ old new. (pair : K × V) → old.pair ≡ Some pair → new.trie ≡ put_pair (order K.cmp K.place_of 7) pair old.trie };
+    ghost done = { λ old new. (pair : K × V) → old.pair ≡ Some pair →
+        new.trie ≡ put_pair (order K.cmp K.place_of 7) pair old.trie };
 
     ghost kept = { λ old new. new.trie ≡ old.trie };
 

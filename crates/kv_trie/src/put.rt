@@ -61,10 +61,12 @@ fn put_below<K: Place + Drop, V: Drop, C: Companion>(
 ) -> Result<(), KvError>
     requires levels { left ≤ 7 }
     requires some { 0 < left }
-    requires forms { AreForms K.cmp K.place_of (left - 1) 0 (slots_at (set_bits map.old) (child_shapes children.old.items)) }
+    requires forms { AreForms K.cmp K.place_of (left - 1) 0
+        (slots_at (set_bits map.old) (child_shapes children.old.items)) }
     requires place { place ≡ K.place_of (arc_value pair).0 }
     requires ready { C.ready companion.old }
-    ensures branch { OnOk result (AreFormsWith K.cmp K.place_of left (arc_value pair) (pairs_in (slots_at (set_bits map.old) (child_shapes children.old.items)))
+    ensures branch { OnOk result (AreFormsWith K.cmp K.place_of left (arc_value pair)
+        (pairs_in (slots_at (set_bits map.old) (child_shapes children.old.items)))
         (slots_at (set_bits map.new) (child_shapes children.new.items))) }
     ensures done { OnOk result (C.done companion.old companion.new) }
     ensures unchanged { OnErr result (slots_at (set_bits map.new) (child_shapes children.new.items)
@@ -140,7 +142,8 @@ fn put_in<K: Place + Drop, V: Drop, C: Companion>(
     requires form { IsForm K.cmp K.place_of left (shape_of node.old) }
     requires place { place ≡ K.place_of (arc_value pair).0 }
     requires ready { C.ready companion.old }
-    ensures form { OnOk result (IsFormWith K.cmp K.place_of left (arc_value pair) (pairs_of (shape_of node.old)) node.new) }
+    ensures form { OnOk result (IsFormWith K.cmp K.place_of left (arc_value pair) (pairs_of (shape_of node.old))
+        node.new) }
     ensures done { OnOk result (C.done companion.old companion.new) }
     ensures unchanged { OnErr result (shape_of node.new ≡ shape_of node.old) }
     ensures kept { OnErr result ((companion.new ≡ companion.old) ⊎ C.kept companion.old companion.new) }
@@ -174,7 +177,8 @@ pub fn put<K: Place + Drop, V: Drop, C: Companion>(
     requires form { IsForm K.cmp K.place_of left (shape_of (arc_value node.old)) }
     requires place { place ≡ K.place_of (arc_value pair).0 }
     requires ready { C.ready companion.old }
-    ensures form { OnOk result (IsFormWith K.cmp K.place_of left (arc_value pair) (pairs_of (shape_of (arc_value node.old))) (arc_value node.new)) }
+    ensures form { OnOk result (IsFormWith K.cmp K.place_of left (arc_value pair)
+        (pairs_of (shape_of (arc_value node.old))) (arc_value node.new)) }
     ensures done { OnOk result (C.done companion.old companion.new) }
     ensures unchanged { OnErr result (shape_of (arc_value node.new) ≡ shape_of (arc_value node.old)) }
     ensures kept { OnErr result ((companion.new ≡ companion.old) ⊎ C.kept companion.old companion.new) }

@@ -73,8 +73,10 @@ fn retain_listed<K: Place + Drop, V: Drop, W: Wants<K, V>>(
 ) -> Result<Option<Option<Node<K, V>>>, AllocError>
     requires form { IsForm K.cmp K.place_of 0 (row (map arc_value pairs.now.items)) }
     requires count { gone.old + length pairs.now.items < 2 ^ 64 }
-    ensures retained { IfOk result (IsRetained K.cmp K.place_of (is_wanted (W.wanted wants.now)) 0 (map arc_value pairs.now.items)) }
-    ensures count { OnOk result (gone.new + length (filter (is_wanted (W.wanted wants.now)) (map arc_value pairs.now.items)) ≡ gone.old + length pairs.now.items) }
+    ensures retained { IfOk result (IsRetained K.cmp K.place_of (is_wanted (W.wanted wants.now)) 0
+        (map arc_value pairs.now.items)) }
+    ensures count { OnOk result (gone.new + length
+        (filter (is_wanted (W.wanted wants.now)) (map arc_value pairs.now.items)) ≡ gone.old + length pairs.now.items) }
 {
     let first = match first_unwanted(pairs, wants) {
         Some(first) => first,
@@ -155,10 +157,15 @@ fn retain_below<K: Place + Drop, V: Drop, W: Wants<K, V>>(
 ) -> Result<Option<Option<Node<K, V>>>, AllocError>
     requires levels { left ≤ 7 }
     requires some { 0 < left }
-    requires forms { AreForms K.cmp K.place_of (left - 1) 0 (slots_at (set_bits map) (child_shapes children.now.items)) }
+    requires forms { AreForms K.cmp K.place_of (left - 1) 0
+        (slots_at (set_bits map) (child_shapes children.now.items)) }
     requires count { gone.old + length (pairs_in (slots_at (set_bits map) (child_shapes children.now.items))) < 2 ^ 64 }
-    ensures retained { IfOk result (IsRetained K.cmp K.place_of (is_wanted (W.wanted wants.now)) left (pairs_in (slots_at (set_bits map) (child_shapes children.now.items)))) }
-    ensures count { OnOk result (gone.new + length (filter (is_wanted (W.wanted wants.now)) (pairs_in (slots_at (set_bits map) (child_shapes children.now.items)))) ≡ gone.old + length (pairs_in (slots_at (set_bits map) (child_shapes children.now.items)))) }
+    ensures retained { IfOk result (IsRetained K.cmp K.place_of (is_wanted (W.wanted wants.now)) left
+        (pairs_in (slots_at (set_bits map) (child_shapes children.now.items)))) }
+    ensures count { OnOk result (gone.new + length
+        (filter (is_wanted (W.wanted wants.now)) (pairs_in
+        (slots_at (set_bits map) (child_shapes children.now.items)))) ≡ gone.old + length
+        (pairs_in (slots_at (set_bits map) (child_shapes children.now.items)))) }
 {
     let mut rest = None;
     for index in 0..32 {
@@ -193,8 +200,11 @@ pub fn retain<K: Place + Drop, V: Drop, W: Wants<K, V>>(
     requires levels { left ≤ 7 }
     requires form { IsForm K.cmp K.place_of left (shape_of node.now) }
     requires count { gone.old + length (pairs_of (shape_of node.now)) < 2 ^ 64 }
-    ensures retained { IfOk result (IsRetained K.cmp K.place_of (is_wanted (W.wanted wants.now)) left (pairs_of (shape_of node.now))) }
-    ensures count { OnOk result (gone.new + length (filter (is_wanted (W.wanted wants.now)) (pairs_of (shape_of node.now))) ≡ gone.old + length (pairs_of (shape_of node.now))) }
+    ensures retained { IfOk result (IsRetained K.cmp K.place_of (is_wanted (W.wanted wants.now)) left
+        (pairs_of (shape_of node.now))) }
+    ensures count { OnOk result (gone.new + length
+        (filter (is_wanted (W.wanted wants.now)) (pairs_of (shape_of node.now))) ≡ gone.old + length
+        (pairs_of (shape_of node.now))) }
 {
     match node {
         Node::Leaf(pair) => {

@@ -8,6 +8,7 @@ use std::process::Abort;
 use std::test::Fail;
 
 mod both;
+mod discarded;
 mod forms;
 mod in_place;
 mod retained;

@@ -3,6 +3,7 @@ use Rattle.std.proofs.Common.{◌≡◌, ℕ, suc, zero, ◌+◌, ◌-◌, ◌<�
 use Rattle.std.specs.Prelude.{nat_le}
 use Rattle.std.specs.List.{Contains, slice_get, cons_option, last_or}
 use Rattle.std.specs.Option.{option_len, option_map}
+use Rattle.std.specs.Prelude.{is_some}
 use Rattle.std.proofs.lemmas.Bool.{and_parts, leb-true, leb-false}
 use Rattle.std.proofs.lemmas.List.{drop_all, reverse-append}
 use Rattle.std.proofs.lemmas.List.Elements.{filter_map-append}
@@ -239,6 +240,14 @@ module _ (began acts : List Act) (base now : Stored) (filters : List (List ℕ))
       let at' = subst (λ owed. At n owed marker seen next handed) (ap reverse front.1 ∙ reverse-append front.0 (r ∷ [])) at in
       let found = next_owed n r (reverse front.0) marker seen next handed at' in
       ap (entry_item options.headers_only) (at.base_stands.written r ∙ found.1) ∙ sym found.2
+
+  -- where any write is owed there is a next item
+  pub some_owed : (n r : ℕ) (items : List ℕ) (marker : Bool) (seen next handed : ℕ) → At n (reverse items) marker seen next handed → slice_get items (length items - 1) ≡ Some r
+      → is_some (slice_get all_given n) ≡ true
+  some_owed n r items marker seen next handed at e =
+      let front = last_front items r e in
+      let at' = subst (λ owed. At n owed marker seen next handed) (ap reverse front.1 ∙ reverse-append front.0 (r ∷ [])) at in
+      ap is_some (next_owed n r (reverse front.0) marker seen next handed at').2
 
   pub peek_marker : (n : ℕ) (items : List ℕ) (marker : Bool) (seen next handed : ℕ) → At n (reverse items) marker seen next handed → slice_get items (length items - 1) ≡ None → marker ≡ true
       → slice_get all_given n ≡ Some EndMarker

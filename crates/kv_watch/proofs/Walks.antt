@@ -4,6 +4,7 @@ use Rattle.std.specs.Prelude.{nat_lt}
 use Rattle.std.specs.List.{slice_get}
 use Rattle.std.proofs.lemmas.Bool.{ltb-true, ltb-false}
 use Rattle.std.proofs.lemmas.List.{drop_all}
+use Rattle.std.proofs.lemmas.Option.{slice_get_within}
 use Rattle.kv_model.specs.Acts.{Act, Write, writes_of, floor_of}
 use Rattle.kv_model.specs.Reads.{write_at_of}
 use Rattle.kv_store.specs.Standing.{StandsFor}
@@ -72,6 +73,13 @@ revision_at ws i w h e = omega (arith, revision_from 1 ws i w h e)
 -- from the floor on the write of a revision stands at its place
 pub at_place : (h : ℕ) (acts : List Act) (place : ℕ) → CountsFrom 1 (writes_of acts) → floor_of acts ≤ place → write_at_of h (place + 1) acts ≡ slice_get (writes_of acts) place
 at_place h acts place c l = write_at_counted h (place + 1) acts c (omega (arith, l)) ∙ ap (λ i. slice_get (writes_of acts) i) (omega arith)
+
+-- the write that stands at a place from the floor on has the next revision
+pub live_here : (acts : List Act) (version : Stored) → StandsFor acts version → (place : ℕ) (w : Write) → version.floor ≤ place → write_at_of version.config.history (place + 1) acts ≡ Some w
+    → (w.revision ≡ place + 1) × (place < length (writes_of acts))
+live_here acts version s place w l e =
+    let here : slice_get (writes_of acts) place ≡ Some w = sym (at_place version.config.history acts place (counts acts version s) (omega (arith, s.floor, l))) ∙ e in
+    (revision_at (writes_of acts) place w (counts acts version s) here, slice_get_within (writes_of acts) place w here)
 
 module _ (acts : List Act) (version : Stored) (s : StandsFor acts version) (filters : List (List ℕ)) (options : Options) where
   from_place : (place : ℕ) → shown_behind place acts filters options ≡ all_shown options (matching filters (drop place (writes_of acts)))

@@ -29,7 +29,8 @@ initial_to h began cursor = all_shown cursor.options (matching cursor.filters (i
 
 -- the live entries
 abbrev pub live_to : List Act → List Act → Following → List Item
-live_to began acts cursor = all_shown cursor.options (matching cursor.filters (drop (length (writes_of began)) (writes_of acts)))
+live_to began acts cursor = all_shown cursor.options
+    (matching cursor.filters (drop (length (writes_of began)) (writes_of acts)))
 
 -- and of n items the number of live ones: those behind the initial entries and the end marker
 abbrev pub live_count : ℕ → List Act → ℕ → Following → ℕ
@@ -37,7 +38,9 @@ live_count h began n cursor = n - length (initial_to h began cursor) - length (e
 
 -- one more than the revision of the last live entry among the first n items; where there is none, one more than the last revision of the beginning
 abbrev pub next_behind : ℕ → List Act → List Act → ℕ → Following → ℕ
-next_behind h began acts n cursor = suc (unwrap_or (last_or None (item_revisions (take (live_count h began n cursor) (live_to began acts cursor)))) (length (writes_of began)))
+next_behind h began acts n cursor = suc (unwrap_or
+    (last_or None (item_revisions (take (live_count h began n cursor) (live_to began acts cursor))))
+    (length (writes_of began)))
 
 -- the end marker, if it is owed
 abbrev pub marker_if : Bool → List Item
@@ -46,7 +49,8 @@ marker_if false = []
 
 -- what is shown of the writes behind a revision
 abbrev pub shown_behind : ℕ → List Act → List (List ℕ) → Options → List Item
-shown_behind revision acts filters options = all_shown options (matching filters (filter (λ w. nat_lt revision w.revision) (writes_of acts)))
+shown_behind revision acts filters options = all_shown options
+    (matching filters (filter (λ w. nat_lt revision w.revision) (writes_of acts)))
 
 -- a cursor that handed out n items is in place by the acts of its watch's beginning and the present ones, for versions that stand for them: it owes the initial entries that are not among the first n items, the end marker if it isn't, and of the live entries all but the first ones; of those its next revision is one behind the last, and perhaps it has looked further
 pub record InPlace (began acts : List Act) (n : ℕ) (base now : Stored) (cursor : Following) : Type 0 where
@@ -57,8 +61,10 @@ pub record InPlace (began acts : List Act) (n : ℕ) (base now : Stored) (cursor
   pub handed : cursor.handed ≡ n
   pub taken : n ≤ length (given_to base.config.history began acts cursor)
   pub owed : cursor.owed ≡ item_revisions (drop n (initial_to base.config.history began cursor))
-  pub marker : marker_if cursor.marker ≡ drop (n - length (initial_to base.config.history began cursor)) (ending cursor.options.start)
-  pub left : shown_behind cursor.seen acts cursor.filters cursor.options ≡ drop (live_count base.config.history began n cursor) (live_to began acts cursor)
+  pub marker : marker_if cursor.marker ≡ drop (n - length (initial_to base.config.history began cursor))
+      (ending cursor.options.start)
+  pub left : shown_behind cursor.seen acts cursor.filters cursor.options ≡ drop
+      (live_count base.config.history began n cursor) (live_to began acts cursor)
   pub begun : length (writes_of began) ≤ cursor.seen
   pub seen : cursor.seen ≤ length (writes_of acts)
   pub next : cursor.next ≡ next_behind base.config.history began acts n cursor
@@ -80,7 +86,11 @@ one_more n = min (n + 1) (2 ^ 64 - 1)
 -- a cursor behind an entry: an initial one as long as any is owed, else a live one
 abbrev pub behind_entry : ℕ → List ℕ → Following → Following
 behind_entry revision (r ∷ owed) cursor = record cursor { owed = owed; handed = one_more cursor.handed }
-behind_entry revision [] cursor = record cursor { seen = revision; next = one_more revision; handed = one_more cursor.handed }
+behind_entry revision [] cursor = record cursor {
+  seen = revision;
+  next = one_more revision;
+  handed = one_more cursor.handed;
+}
 
 -- a cursor behind the item that was its next one, of which this is the event
 abbrev pub behind : Event → Following → Following

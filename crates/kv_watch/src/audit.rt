@@ -33,7 +33,8 @@ pub fn given(
     requires began { base ≤ end }
     requires written { end ≤ length writes.now }
     ensures ok { IfOk result (λ events. events.items
-        ≡ map event_of (given history (take base (wrote_all writes.now)) (take end (wrote_all writes.now)) filters.now options)) }
+        ≡ map event_of (given history (take base (wrote_all writes.now)) (take end (wrote_all writes.now))
+        filters.now options)) }
     ensures err { IfErr result (λ e. e ≡ OutOfMemory) }
 {
     let began = &writes[..base as usize];
@@ -119,7 +120,8 @@ fn push_begun(
 ) -> Result<(), AllocError>
     ensures { OnOk result (events.new.items ≡ events.old.items
         ++ events_where
-        (λ w. is_initial history options.start (wrote_all began.now) w && is_shown filters.now options w) (write.now ∷ [])) }
+        (λ w. is_initial history options.start (wrote_all began.now) w && is_shown filters.now options w)
+        (write.now ∷ [])) }
 {
     if begins(alloc, began, history, options.start, write)? {
         push_shown(events, write, filters, options)?;

@@ -1,6 +1,6 @@
 //! Cursors: how far a watch has come in what it is given.
 
-ghost use Rattle.std.specs.Prelude.{◌≡◌, ℕ, ◌+◌, ◌≤◌, ◌↔◌, List, [], Some, None, IfOk, IfErr, length, nat_lt, slice_get, IsNone};
+ghost use Rattle.std.specs.Prelude.{◌≡◌, ℕ, ◌+◌, ◌≤◌, ◌↔◌, List, [], Some, None, IfOk, IfErr, is_some, length, nat_lt, slice_get, IsNone};
 ghost use Rattle.std.specs.Option.{option_copied, option_len, option_map};
 ghost use Rattle.kv_keys.specs.declared.error.KvError.TheVariants.{OutOfMemory};
 ghost use Rattle.kv_model.specs.Acts.{Act, writes_of};
@@ -10,7 +10,7 @@ ghost use Rattle.kv_watch.specs.Following.{given_to, behind, next_behind, InPlac
 ghost use Rattle.kv_model.specs.Given.{event_of, is_behind};
 ghost use Rattle.kv_watch.specs.Taking.{entry_item, item_taken};
 
-use crate::live::{next_live, settled};
+use crate::live::next_live;
 use crate::owed::{owed_at_opening, owes_marker};
 use crate::shown::Shown;
 use crate::taken::Taken;
@@ -191,18 +191,34 @@ impl Cursor {
         }
     }
 
-    /// Notes that all live writes were looked at, where `take` would hand out nothing. No later answer changes by it:
-    /// later takes begin behind those writes.
-    pub fn settle(&mut self, now: &Version)
+    /// Looks for the next item, says whether there is one, and notes how far it looked in vain: up to just before the
+    /// item's write, or to the last where nothing is left. No later answer changes by it: a later take finds its item
+    /// at once.
+    pub fn settle(&mut self, now: &Version) -> bool
         ensures same { self.new ≡ record self.old { seen = self.new.seen } }
         ensures in_reach { (n : ℕ) (began acts : List Act) (base : Stored) →
             InReach began acts n base now.now self.old →
             InReach began acts n base now.now self.new }
+        ensures found { (n : ℕ) (began acts : List Act) (base : Stored) → InReach began acts n base now.now self.old →
+            result ≡ is_some (slice_get (given_to base.config.history began acts self.old) n) }
         ensures looked { (n : ℕ) (began acts : List Act) (base : Stored) → InReach began acts n base now.now self.old →
             n ≡ length (given_to base.config.history began acts self.old) → self.new.seen ≡ now.now.last }
     {
-        if self.owed.is_empty() && !self.marker {
-            self.seen = settled(now, &self.filters, self.options, self.seen);
+        if let Some(_) = self.owed.last() {
+            return true;
+        }
+        if self.marker {
+            return true;
+        }
+        match next_live(now, &self.filters, self.options, self.seen) {
+            Some(write) => {
+                self.seen = write.revision().saturating_sub(1);
+                true
+            }
+            None => {
+                self.seen = now.revision();
+                false
+            }
         }
     }
 

@@ -1,6 +1,7 @@
 //! The live writes of a watch: those behind its beginning.
 
-ghost use Rattle.std.specs.Prelude.{◌≡◌, ◌≤◌, List, [], ◌∷◌, length, max, MatchOption};
+ghost use Rattle.std.specs.Prelude.{◌≡◌, ◌≤◌, ◌<◌, ◌-◌, List, [], ◌∷◌, length, max, MatchOption};
+ghost use Rattle.std.specs.Option.{IfSome};
 ghost use Rattle.kv_model.specs.Acts.{Act, writes_of};
 ghost use Rattle.kv_store.specs.Standing.{StandsFor};
 ghost use Rattle.kv_watch.specs.Following.{shown_behind};
@@ -19,10 +20,16 @@ pub(crate) fn next_live<'a>(
     options: Options,
     seen: u64,
 ) -> Option<&'a Write>
-    ensures { (acts : List Act) → StandsFor acts now.now → MatchOption result
+    ensures first { (acts : List Act) → StandsFor acts now.now → MatchOption result
         (shown_behind (max seen now.now.floor) acts filters.now options ≡ [])
         (λ write. shown_behind (max seen now.now.floor) acts filters.now options
-        ≡ AnEntry (entry_of options.headers_only write.now) ∷ shown_behind write.now.revision acts filters.now options) }
+        ≡ AnEntry (entry_of options.headers_only write.now) ∷ shown_behind write.now.revision acts filters.now
+        options) }
+    // Nothing before it is shown.
+    ensures skipped { (acts : List Act) → StandsFor acts now.now → IfSome result (λ write.
+        (shown_behind (write.now.revision - 1) acts filters.now options
+        ≡ shown_behind (max seen now.now.floor) acts filters.now options)
+        × (seen < write.now.revision) × (write.now.revision ≤ length (writes_of acts))) }
 {
     for place in seen.max(now.floor())..now.revision() {
         let Some(write) = now.write_at(place + 1) else {
@@ -33,20 +40,4 @@ pub(crate) fn next_live<'a>(
         }
     }
     None
-}
-
-/// Up to which revision all is looked at: up to the last, where nothing behind `seen` is shown. It is so where nothing
-/// between `seen` and the floor is shown.
-pub(crate) fn settled(now: &Version, filters: &Filters, options: Options, seen: u64) -> u64
-    ensures same { (acts : List Act) → StandsFor acts now.now → seen ≤ length (writes_of acts) →
-        shown_behind (max seen now.now.floor) acts filters.now options ≡ shown_behind seen acts filters.now options →
-        (shown_behind result acts filters.now options ≡ shown_behind seen acts filters.now options)
-        × (seen ≤ result) × (result ≤ length (writes_of acts)) }
-    ensures last { (acts : List Act) → StandsFor acts now.now →
-        shown_behind (max seen now.now.floor) acts filters.now options ≡ [] → result ≡ length (writes_of acts) }
-{
-    match next_live(now, filters, options, seen) {
-        Some(_) => seen,
-        None => now.revision(),
-    }
 }

@@ -10,7 +10,6 @@ ghost use Rattle.kv_watch.specs.Following.{marker_if};
 ghost use Rattle.kv_model.specs.Given.{all_shown, ending, initial, item_revisions, matching};
 ghost use Rattle.kv_watch.specs.inside.Showing.{is_put_at};
 
-use crate::shown::is_put;
 use kv_keys::{Filters, KvError};
 use kv_model::{Options, Start};
 use kv_store::Version;
@@ -26,7 +25,8 @@ pub(crate) fn owed_at_opening(
 ) -> Result<Vec<u64>, KvError>
     ensures ok { IfOk result (λ owed. (acts : List Act) → StandsFor acts base.now →
         reverse owed.items
-        ≡ item_revisions (all_shown options (matching filters.now (initial base.now.config.history options.start acts)))) }
+        ≡ item_revisions (all_shown options (matching filters.now
+        (initial base.now.config.history options.start acts)))) }
     ensures err { IfErr result (λ e. e ≡ OutOfMemory) }
 {
     let mut owed = initial_revisions(alloc, base, filters, options.start)?;
@@ -72,7 +72,7 @@ fn is_put_at(base: &Version, revision: u64) -> bool
     ensures { result ≡ is_put_at base.now revision }
 {
     match base.write_at(revision) {
-        Some(write) => is_put(write.op()),
+        Some(write) => write.op().is_put(),
         None => false,
     }
 }

@@ -2,7 +2,6 @@
 
 ghost use Rattle.std.specs.Prelude.{◌≡◌};
 ghost use Rattle.std.specs.Option.{option_copied};
-ghost use Rattle.kv_model.specs.Acts.{is_put};
 ghost use Rattle.kv_model.specs.Given.{entry_of};
 ghost use Rattle.kv_model.specs.Showing.{is_shown};
 ghost use Rattle.kv_watch.specs.Taking.{entry_shown};
@@ -63,21 +62,10 @@ impl<'a> Shown<'a> {
     pub fn value(&self) -> Option<&'a [u8]>
         ensures { option_copied result ≡ (entry_shown self.now).value }
     {
-        if is_put(self.write.op()) && !self.headers_only {
+        if self.write.op().is_put() && !self.headers_only {
             return Some(self.write.value());
         }
         None
-    }
-}
-
-/// Whether a write with this op gives a value.
-pub(crate) fn is_put(op: Op) -> bool
-    ensures { result ≡ is_put op }
-{
-    match op {
-        Op::Put => true,
-        Op::Delete => false,
-        Op::Purge => false,
     }
 }
 
@@ -85,5 +73,5 @@ pub(crate) fn is_put(op: Op) -> bool
 pub(crate) fn is_shown(filters: &Filters, options: Options, write: &Write) -> bool
     ensures { result ≡ is_shown filters.now options write.now }
 {
-    filters.matches(write.key()) && !(options.ignore_deletes && !is_put(write.op()))
+    filters.matches(write.key()) && !(options.ignore_deletes && !write.op().is_put())
 }

@@ -26,7 +26,8 @@ pub fn kept_is_stored()
 pub fn above_the_floor_is_stored()
     ensures above { (h : ℕ) (acts : List Act) (w : Write) →
         Contains (writes_of acts) w → floor_of acts < w.revision → Contains (stored_writes h acts) w }
-    ensures floor { (config : Configuration) (acts : List Act) → IsLawful config acts → floor_of acts ≤ length (writes_of acts) }
+    ensures floor { (config : Configuration) (acts : List Act) → IsLawful config acts →
+        floor_of acts ≤ length (writes_of acts) }
 {}
 
 /// As long as there is no floor every write is stored.
@@ -60,7 +61,8 @@ pub fn cleared_is_as_never_written()
     ensures kept { (h : ℕ) (key : List ℕ) (acts : List Act) (floor : ℕ) →
         is_cleared floor (writes_of_key key acts) ≡ true → kept h key (acts ++ Compact floor ∷ []) ≡ [] }
     ensures create { (key value : List ℕ) (acts : List Act) (floor : ℕ) →
-        is_cleared floor (writes_of_key key acts) ≡ true → objection (create key value) (acts ++ Compact floor ∷ []) ≡ None }
+        is_cleared floor (writes_of_key key acts) ≡ true → objection (create key value) (acts ++ Compact floor ∷ [])
+        ≡ None }
 {}
 
 /// Of a key that it doesn't clear a compaction leaves the last write, its revision, and what is kept and retained.

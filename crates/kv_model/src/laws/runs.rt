@@ -26,7 +26,8 @@ pub fn tells_what_is_given()
     ensures { (state : State) (before later : List Call) (filters : List (List ℕ)) (options : Options) (number : ℕ) →
         answer_to (run state before) (Watch filters options) ≡ Watching number →
         IsPrefix (items_in number state (before ++ Watch filters options ∷ later))
-        (given state.config.history (run state before).acts (run state (before ++ Watch filters options ∷ later)).acts filters options) }
+        (given state.config.history (run state before).acts
+        (run state (before ++ Watch filters options ∷ later)).acts filters options) }
 {}
 
 /// Where a take finds none, the watch was handed all that it is given.
@@ -35,7 +36,8 @@ pub fn tells_all()
         answer_to (run state before) (Watch filters options) ≡ Watching number →
         answer_to (run state (before ++ Watch filters options ∷ later)) (Take number) ≡ Empty →
         items_in number state (before ++ Watch filters options ∷ later)
-        ≡ given state.config.history (run state before).acts (run state (before ++ Watch filters options ∷ later)).acts filters options }
+        ≡ given state.config.history (run state before).acts
+        (run state (before ++ Watch filters options ∷ later)).acts filters options }
 {}
 
 /// A watch that was stopped is handed nothing.
@@ -86,7 +88,8 @@ pub fn leaves_the_acts()
 /// Other watches change nothing: a watch is handed the same items in two runs in which its own calls meet the same
 /// acts, whatever else is called in them, and whatever its number.
 pub fn others_change_nothing()
-    ensures { (here there : State) (watch : AWatch) (number_here number_there : ℕ) (calls_here calls_there : List Call) →
+    ensures { (here there : State) (watch : AWatch) (number_here number_there : ℕ)
+        (calls_here calls_there : List Call) →
         here.config.history ≡ there.config.history →
         watch_at number_here here.watches ≡ Some watch → watch_at number_there there.watches ≡ Some watch →
         meetings_of number_here here calls_here ≡ meetings_of number_there there calls_there →
@@ -111,7 +114,8 @@ pub fn watches_go_on()
 
 /// A number is never used again: each opening is answered with a greater one than those before it.
 pub fn numbers_rise()
-    ensures { (state : State) (between : List Call) (filters more_filters : List (List ℕ)) (options more_options : Options)
+    ensures { (state : State) (between : List Call) (filters more_filters : List (List ℕ))
+        (options more_options : Options)
         (first second : ℕ) → answer_to state (Watch filters options) ≡ Watching first →
         answer_to (run (after state (Watch filters options)) between) (Watch more_filters more_options)
         ≡ Watching second →

@@ -32,8 +32,17 @@ pub fn one_kept_is_latest()
 
 /// A start from revision 0 or 1 gives what a start from history gives.
 pub fn from_first_is_history()
-    ensures { (config : Configuration) (h revision : ℕ) (began acts : List Act) (filters : List (List ℕ)) (ignore_deletes headers_only : Bool) →
+    ensures { (config : Configuration) (h revision : ℕ) (began acts : List Act) (filters : List (List ℕ))
+        (ignore_deletes headers_only : Bool) →
         IsLawful config began → revision ≤ 1 →
-        given h began acts filters (record { start = starts.From revision; ignore_deletes = ignore_deletes; headers_only = headers_only })
-        ≡ given h began acts filters (record { start = starts.History; ignore_deletes = ignore_deletes; headers_only = headers_only }) }
+        given h began acts filters (record {
+          start = starts.From revision;
+          ignore_deletes = ignore_deletes;
+          headers_only = headers_only;
+        })
+        ≡ given h began acts filters (record {
+          start = starts.History;
+          ignore_deletes = ignore_deletes;
+          headers_only = headers_only;
+        }) }
 {}

@@ -4,11 +4,12 @@ ghost use Rattle.std.specs.Prelude.{◌≡◌, OnOk, IfErr};
 ghost use Rattle.kv_keys.specs.declared.error.KvError.TheVariants.{OutOfMemory};
 ghost use Rattle.kv_run.specs.Planning.{after_line, nothing};
 ghost use Rattle.kv_run.specs.Races.{no_text};
-ghost use Rattle.kv_run.specs.inside.Reading.{after_bytes, beginning, line_ended, step};
+ghost use Rattle.kv_replay.specs.inside.Reading.{after_bytes, beginning, line_ended, step};
 
 use crate::races::plan::Plan;
-use crate::scripts::lines::KEPT_BYTES;
 use kv_keys::KvError;
+use kv_replay::KEPT_BYTES;
+use kv_script::Form;
 use std::alloc::Global;
 use std::marker::Model;
 
@@ -21,7 +22,7 @@ pub(crate) struct Notes {
 
 impl Model for Notes {
     ghost use Rattle.kv_run.specs.Planning.{Planned};
-    ghost use Rattle.kv_run.specs.inside.Reading.{Reading};
+    ghost use Rattle.kv_replay.specs.inside.Reading.{Reading};
 
     ghost Value = { Reading Planned };
 
@@ -29,14 +30,14 @@ impl Model for Notes {
 }
 
 impl Notes {
-    ghost use Rattle.kv_run.specs.declared.scripts.lines.TheConstants.{KEPT_BYTES};
+    ghost use Rattle.kv_replay.specs.declared.lines.TheConstants.{KEPT_BYTES};
 
-    /// Before the first line.
-    pub(crate) fn new(alloc: Global) -> Notes
-        ensures { result ≡ beginning nothing }
+    /// Before the first line, where so many writes are taken at the most.
+    pub(crate) fn new(alloc: Global, most: u64) -> Notes
+        ensures { result ≡ beginning (nothing most) }
     {
         Notes {
-            plan: Plan::new(alloc),
+            plan: Plan::new(alloc, most),
             line: Vec::new(alloc),
         }
     }
@@ -49,22 +50,22 @@ impl Notes {
     }
 
     /// Takes in the line that has begun.
-    pub(crate) fn end_line(&mut self, alloc: Global) -> Result<(), KvError>
-        ensures ok { OnOk result (self.new ≡ line_ended KEPT_BYTES no_text after_line self.old) }
+    pub(crate) fn end_line(&mut self, alloc: Global, form: Form) -> Result<(), KvError>
+        ensures ok { OnOk result (self.new ≡ line_ended KEPT_BYTES no_text (after_line form) self.old) }
         ensures err { IfErr result (λ e. e ≡ OutOfMemory) }
     {
-        self.plan.take_line(alloc, &self.line)?;
+        self.plan.take_line(alloc, form, &self.line)?;
         self.line.clear();
         Ok(())
     }
 
     /// Takes one byte: a line feed ends the line.
-    fn take_byte(&mut self, alloc: Global, byte: u8) -> Result<(), KvError>
-        ensures ok { OnOk result (self.new ≡ step KEPT_BYTES no_text after_line self.old byte) }
+    fn take_byte(&mut self, alloc: Global, form: Form, byte: u8) -> Result<(), KvError>
+        ensures ok { OnOk result (self.new ≡ step KEPT_BYTES no_text (after_line form) self.old byte) }
         ensures err { IfErr result (λ e. e ≡ OutOfMemory) }
     {
         if byte == b'\n' {
-            return self.end_line(alloc);
+            return self.end_line(alloc, form);
         }
         if self.line.len() <= KEPT_BYTES {
             self.line.push(byte)?;
@@ -73,12 +74,17 @@ impl Notes {
     }
 
     /// Takes the next bytes.
-    pub(crate) fn take_bytes(&mut self, alloc: Global, bytes: &[u8]) -> Result<(), KvError>
-        ensures ok { OnOk result (self.new ≡ after_bytes KEPT_BYTES no_text after_line self.old bytes.now) }
+    pub(crate) fn take_bytes(
+        &mut self,
+        alloc: Global,
+        form: Form,
+        bytes: &[u8],
+    ) -> Result<(), KvError>
+        ensures ok { OnOk result (self.new ≡ after_bytes KEPT_BYTES no_text (after_line form) self.old bytes.now) }
         ensures err { IfErr result (λ e. e ≡ OutOfMemory) }
     {
         for byte in bytes {
-            self.take_byte(alloc, *byte)?;
+            self.take_byte(alloc, form, *byte)?;
         }
         Ok(())
     }

@@ -3,20 +3,18 @@
 ghost use Rattle.std.specs.Prelude.{◌≡◌, ◌<◌, ◌+◌, ◌≤◌, ◌⊎◌, Ok, OnOk, IfErr, IsErrOf, false};
 ghost use Rattle.kv_keys.specs.Outcome.{Refuses};
 ghost use Rattle.kv_race.specs.Openings.{may_race};
-ghost use Rattle.kv_run.specs.Faults.{IsBadConfiguration};
-ghost use Rattle.kv_run.specs.declared.scripts.streams.TheConstants.{READ_CALLS};
+ghost use Rattle.kv_replay.specs.Faults.{IsBadConfiguration};
+ghost use Rattle.kv_replay.specs.declared.streams.TheConstants.{READ_CALLS};
 ghost use Rattle.kv_run.specs.Races.{RanRace};
 
 use crate::races::dealing::deal;
 use crate::races::reading::read_plan;
 use crate::races::writing::write_report;
-use crate::scripts::bounded_input::{Bounded, BoundedInput};
-use crate::scripts::input::Input;
-use crate::scripts::output::Output;
-use crate::scripts::streams::READ_CALLS;
 use kv_keys::KvError;
 use kv_model::Config;
 use kv_race::{NoGate, race};
+use kv_replay::{Bounded, BoundedInput, Input, Output, READ_CALLS};
+use kv_script::Form;
 use std::alloc::Global;
 use std::sync::Wait;
 use std::thread::Threads;
@@ -37,10 +35,10 @@ fn check(config: &Config, workers: usize) -> Result<(), KvError>
 }
 
 /// Reads the script of a source to its end, races 1 to 16 workers over it on a new bucket, and writes what they were
-/// answered and what each watch handed out to a sink.
+/// answered and what each watch handed out to a sink. Values stand in both in this form.
 ///
-/// The script has writes, which are dealt to the workers in turn, and at most 32 watches. Other lines are refused: the
-/// answers to them come first. Then come the replies, worker by worker, and then the items, watch by watch. Nothing is
+/// The script has writes, which are dealt to the workers in turn, and at most 32 watches. Of the writes no more are
+/// taken than the bucket stores: each further one is JournalFull. Other lines are refused: the answers to them come first. Then come the replies, worker by worker, and then the items, watch by watch. Nothing is
 /// written before all was read. The configuration is refused before anything is read, and so is the number of workers
 /// (BadConfig).
 pub fn race_script<R: Threads + Wait + Sync, S: BoundedInput, K: Output>(
@@ -49,11 +47,13 @@ pub fn race_script<R: Threads + Wait + Sync, S: BoundedInput, K: Output>(
     source: &mut S,
     sink: &mut K,
     config: &Config,
+    form: Form,
     workers: usize,
 ) -> Result<(), KvError>
     ensures same_source { S.goes_on source.old source.new }
     ensures same_sink { K.goes_on sink.old sink.new }
-    ensures ran { RanRace config.now workers (S.left source.old) (S.left source.new) (K.held sink.old) (K.held sink.new) result }
+    ensures ran { RanRace form config.now workers (S.left source.old) (S.left source.new) (K.held sink.old)
+        (K.held sink.new) result }
     // The source is not asked after its end.
     ensures in_time { S.has_ended source.old ≡ false → S.was_asked_late source.new ≡ S.was_asked_late source.old }
     // A fault of a device comes only where that device failed in this call.
@@ -63,12 +63,12 @@ pub fn race_script<R: Threads + Wait + Sync, S: BoundedInput, K: Output>(
     ensures refused { IfErr result (λ e. IsBadConfiguration e → (source.new ≡ source.old) × (sink.new ≡ sink.old)) }
 {
     check(config, workers)?;
-    let plan = read_plan(alloc, source)?;
+    let plan = read_plan(alloc, form, source, config.write_limit)?;
     let (refused, requests, watches) = plan.parts();
     let scripts = deal(alloc, requests, workers)?;
     sink.write(&refused)?;
     let report = race(rt, alloc, config, &scripts, &watches, &NoGate)?;
-    write_report(alloc, &report, sink)
+    write_report(alloc, form, &report, sink)
 }
 
 /// Reads the script of a reader to its end, races 1 to 16 workers over it on a new bucket, and writes what they were
@@ -81,11 +81,13 @@ pub fn replay_race<T: Threads + Wait + Sync, R: Input, K: Output>(
     reader: &mut R,
     sink: &mut K,
     config: &Config,
+    form: Form,
     workers: usize,
 ) -> Result<(), KvError>
     ensures same_reader { R.goes_on reader.old reader.new }
     ensures same_sink { K.goes_on sink.old sink.new }
-    ensures ran { RanRace config.now workers (R.left reader.old) (R.left reader.new) (K.held sink.old) (K.held sink.new) result }
+    ensures ran { RanRace form config.now workers (R.left reader.old) (R.left reader.new) (K.held sink.old)
+        (K.held sink.new) result }
     ensures in_time { R.has_ended reader.old ≡ false → R.was_asked_late reader.new ≡ R.was_asked_late reader.old }
     ensures at_most { R.asked reader.new ≤ R.asked reader.old + READ_CALLS }
     ensures read_fault { IsErrOf result KvError.ReadFault →
@@ -94,5 +96,5 @@ pub fn replay_race<T: Threads + Wait + Sync, R: Input, K: Output>(
     ensures refused { IfErr result (λ e. IsBadConfiguration e → (reader.new ≡ reader.old) × (sink.new ≡ sink.old)) }
 {
     let mut source = Bounded::new(reader, READ_CALLS);
-    race_script(rt, alloc, &mut source, sink, config, workers)
+    race_script(rt, alloc, &mut source, sink, config, form, workers)
 }

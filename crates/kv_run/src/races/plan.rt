@@ -8,7 +8,7 @@ ghost use Rattle.kv_run.specs.Planning.{add, add_request, add_watch, after_comma
 
 use kv_keys::{Filters, KvError};
 use kv_model::{Options, Request};
-use kv_script::{Command, append_refusal, is_skipped, parse, without_return};
+use kv_script::{Command, Form, append_refusal, is_skipped, parse, without_return};
 use std::alloc::Global;
 use std::marker::Model;
 
@@ -19,6 +19,7 @@ const MOST_WATCHES: usize = 32;
 /// lines that are refused, which take no part.
 #[derive(Drop)]
 pub struct Plan {
+    most: u64,
     refused: Vec<u8>,
     requests: Vec<Request>,
     watches: Vec<(Filters, Options)>,
@@ -31,7 +32,12 @@ impl Model for Plan {
 
     ghost Value = { Planned };
 
-    ghost view = { λ p. record { refused = p.refused.items; requests = map asked p.requests.items; watches = p.watches.items } };
+    ghost view = { λ p. record {
+      most = p.most;
+      refused = p.refused.items;
+      requests = map asked p.requests.items;
+      watches = p.watches.items;
+    } };
 }
 
 /// Whether a line begins with the word of a command that takes part in a race, and a space.
@@ -47,11 +53,12 @@ fn takes_part(line: &[u8]) -> bool
 }
 
 impl Plan {
-    /// Before the first line.
-    pub fn new(alloc: Global) -> Plan
-        ensures { result ≡ nothing }
+    /// Before the first line, where so many writes are taken at the most.
+    pub fn new(alloc: Global, most: u64) -> Plan
+        ensures { result ≡ nothing most }
     {
         Plan {
+            most,
             refused: Vec::new(alloc),
             requests: Vec::new(alloc),
             watches: Vec::new(alloc),
@@ -75,10 +82,13 @@ impl Plan {
         Ok(())
     }
 
-    fn add_request(&mut self, request: Request) -> Result<(), KvError>
+    fn add_request(&mut self, alloc: Global, request: Request) -> Result<(), KvError>
         ensures ok { OnOk result (self.new ≡ add_request self.old (asked request)) }
         ensures err { IfErr result (λ e. e ≡ OutOfMemory) }
     {
+        if self.requests.len() as u64 >= self.most {
+            return self.refuse(alloc, KvError::JournalFull);
+        }
         self.requests.push(request)?;
         Ok(())
     }
@@ -104,7 +114,7 @@ impl Plan {
         ensures err { IfErr result (λ e. e ≡ OutOfMemory) }
     {
         match command {
-            Command::Write(request) => self.add_request(request),
+            Command::Write(request) => self.add_request(alloc, request),
             Command::Watch(filters, options) => self.add_watch(alloc, filters, options),
             _ => self.refuse(alloc, KvError::BadCommand),
         }
@@ -123,8 +133,8 @@ impl Plan {
     }
 
     /// Takes a line without its end, and without the carriage return before that.
-    fn take_command(&mut self, alloc: Global, line: &[u8]) -> Result<(), KvError>
-        ensures ok { OnOk result (self.new ≡ after_command self.old line.now) }
+    fn take_command(&mut self, alloc: Global, form: Form, line: &[u8]) -> Result<(), KvError>
+        ensures ok { OnOk result (self.new ≡ after_command form self.old line.now) }
         ensures err { IfErr result (λ e. e ≡ OutOfMemory) }
     {
         if is_skipped(line) {
@@ -133,7 +143,7 @@ impl Plan {
         if !takes_part(line) {
             return self.refuse(alloc, KvError::BadCommand);
         }
-        match parse(alloc, line) {
+        match parse(alloc, form, line) {
             Ok(command) => self.add(alloc, command),
             Err(error) => self.refuse_line(alloc, error),
         }
@@ -141,10 +151,10 @@ impl Plan {
 
     /// Takes the next line, as it was read, without its line feed. After want of memory nothing is known of the plan.
     #[tactic(auto, unfolding(crate::specs::Planning::after_line))]
-    pub fn take_line(&mut self, alloc: Global, line: &[u8]) -> Result<(), KvError>
-        ensures ok { OnOk result (self.new ≡ after_line self.old line.now) }
+    pub fn take_line(&mut self, alloc: Global, form: Form, line: &[u8]) -> Result<(), KvError>
+        ensures ok { OnOk result (self.new ≡ after_line form self.old line.now) }
         ensures err { IfErr result (λ e. e ≡ OutOfMemory) }
     {
-        self.take_command(alloc, without_return(line))
+        self.take_command(alloc, form, without_return(line))
     }
 }

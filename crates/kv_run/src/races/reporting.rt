@@ -9,7 +9,7 @@ ghost use Rattle.kv_run.specs.Reporting.{replies_text, reply_text, seen_text};
 use kv_bucket::{Reply, Seen};
 use kv_keys::KvError;
 use kv_script::{
-    append_empty, append_marker, append_refusal, append_taken_entry, append_told,
+    Form, append_empty, append_marker, append_refusal, append_taken_entry, append_told,
     append_worker_refusal,
 };
 use std::alloc::Global;
@@ -46,8 +46,15 @@ pub fn append_replies(
     Ok(())
 }
 
-fn append_entry(alloc: Global, out: &mut Vec<u8>, watch: u64, seen: &Seen) -> Result<(), KvError>
-    ensures ok { OnOk result (out.new.items ≡ out.old.items ++ taken_text watch (answer_of (Reply.Entry seen.now))) }
+fn append_entry(
+    alloc: Global,
+    form: Form,
+    out: &mut Vec<u8>,
+    watch: u64,
+    seen: &Seen,
+) -> Result<(), KvError>
+    ensures ok { OnOk result (out.new.items ≡ out.old.items ++ taken_text form watch
+        (answer_of (Reply.Entry seen.now))) }
     ensures err { IfErr result (λ e. e ≡ OutOfMemory) }
 {
     let value = match &seen.value {
@@ -56,6 +63,7 @@ fn append_entry(alloc: Global, out: &mut Vec<u8>, watch: u64, seen: &Seen) -> Re
     };
     append_taken_entry(
         alloc,
+        form,
         out,
         watch,
         &seen.key,
@@ -68,12 +76,18 @@ fn append_entry(alloc: Global, out: &mut Vec<u8>, watch: u64, seen: &Seen) -> Re
 }
 
 // An answer that is no item has no line.
-fn append_item(alloc: Global, out: &mut Vec<u8>, watch: u64, item: &Reply) -> Result<(), KvError>
-    ensures ok { OnOk result (out.new.items ≡ out.old.items ++ taken_text watch (answer_of item.now)) }
+fn append_item(
+    alloc: Global,
+    form: Form,
+    out: &mut Vec<u8>,
+    watch: u64,
+    item: &Reply,
+) -> Result<(), KvError>
+    ensures ok { OnOk result (out.new.items ≡ out.old.items ++ taken_text form watch (answer_of item.now)) }
     ensures err { IfErr result (λ e. e ≡ OutOfMemory) }
 {
     match item {
-        Reply::Entry(seen) => append_entry(alloc, out, watch, seen)?,
+        Reply::Entry(seen) => append_entry(alloc, form, out, watch, seen)?,
         Reply::Marker => append_marker(alloc, out, watch)?,
         Reply::Empty => append_empty(alloc, out, watch)?,
         Reply::Refused(error) => append_refusal(alloc, out, *error)?,
@@ -85,15 +99,16 @@ fn append_item(alloc: Global, out: &mut Vec<u8>, watch: u64, item: &Reply) -> Re
 /// Appends what a watch handed out, in order. Watches count from 1. After want of memory some lines were appended.
 pub fn append_seen(
     alloc: Global,
+    form: Form,
     out: &mut Vec<u8>,
     watch: u64,
     seen: &[Reply],
 ) -> Result<(), KvError>
-    ensures ok { OnOk result (out.new.items ≡ out.old.items ++ seen_text watch (map answer_of seen.now)) }
+    ensures ok { OnOk result (out.new.items ≡ out.old.items ++ seen_text form watch (map answer_of seen.now)) }
     ensures err { IfErr result (λ e. e ≡ OutOfMemory) }
 {
     for n in 0..seen.len() {
-        append_item(alloc, out, watch, &seen[n])?;
+        append_item(alloc, form, out, watch, &seen[n])?;
     }
     Ok(())
 }

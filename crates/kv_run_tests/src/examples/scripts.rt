@@ -3,22 +3,23 @@
 use super::*;
 use kv_keys::KvError;
 use kv_model::Config;
-use kv_run::{CountedReader, CountedWriter, replay};
+use kv_run::{CountedReader, CountedWriter, Form, replay};
 
 fn run_script(rt: &impl Abort, alloc: Global) -> Result<(), KvError> {
     let config = Config::named(alloc, "settings")?;
-    let mut script: &[u8] = b"put app.port ODA=\nget app.port\nput app..port ODA=\n";
+    let mut script: &[u8] = b"put app.port 80\nget app.port\nput app..port 80\n";
     let mut answers: Vec<u8> = Vec::new(alloc);
     replay(
         alloc,
         &mut CountedReader::new(&mut script),
         &mut CountedWriter::new(&mut answers),
         &config,
+        Form::Text,
     )?;
 
     let text = concat!(
         "{\"revision\":1}\n",
-        "{\"key\":\"app.port\",\"op\":\"PUT\",\"revision\":1,\"size\":2,\"value\":\"ODA=\"}\n",
+        "{\"key\":\"app.port\",\"op\":\"PUT\",\"revision\":1,\"size\":2,\"value\":\"80\"}\n",
         "{\"code\":4,\"error\":\"BadKey\"}\n",
     );
     assert_eq!(rt; answers.as_slice(), text.as_bytes());

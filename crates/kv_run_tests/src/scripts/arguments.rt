@@ -73,7 +73,7 @@ fn wants_memory(done: &Done, text: &[u8]) -> bool {
 }
 
 // Whether the program writes this text and answers 0.
-fn runs<T: Threads + Wait + Sync>(
+pub(super) fn runs<T: Threads + Wait + Sync>(
     rt: &T,
     alloc: Global,
     arguments: &[&str],

@@ -84,7 +84,8 @@ fn replayed_once(alloc: Global, config: &Config, given: Given<'_>) -> Result<Ran
     };
     let mut source = CountedReader::new(&mut reader);
     let mut sink = CountedWriter::new(&mut writer);
-    let answer = replay_bounded(alloc, &mut source, &mut sink, config, given.calls);
+    let form = Form::Base64;
+    let answer = replay_bounded(alloc, &mut source, &mut sink, config, form, given.calls);
     Ok(Ran {
         answer,
         written: writer.bytes,

@@ -11,7 +11,7 @@ fn answer_all(
     out: &mut Vec<u8>,
 ) -> Result<(), KvError> {
     for line in lines {
-        answer_line(alloc, bucket, line.as_bytes(), out)?;
+        answer_line(alloc, Form::Base64, bucket, line.as_bytes(), out)?;
     }
     Ok(())
 }

@@ -9,10 +9,10 @@ use std::thread::Threads;
 fn runs_race<T: Threads + Wait + Sync>(
     rt: &T,
     alloc: Global,
-    workers: &str,
+    arguments: &[&str],
     script: &str,
 ) -> Result<Done, AllocError> {
-    let words = words(alloc, &["--race", workers])?;
+    let words = words(alloc, arguments)?;
     run_once(rt, alloc, &words, script.as_bytes())
 }
 
@@ -29,17 +29,29 @@ fn lacked_memory(done: &Done) -> bool {
 fn race_of<T: Threads + Wait + Sync>(
     rt: &T,
     alloc: Global,
-    workers: &str,
+    arguments: &[&str],
     script: &str,
 ) -> Result<Done, AllocError> {
-    let first = runs_race(rt, alloc, workers, script)?;
+    let first = runs_race(rt, alloc, arguments, script)?;
     if lacked_memory(&first) {
-        return runs_race(rt, alloc, workers, script);
+        return runs_race(rt, alloc, arguments, script);
     }
     Ok(first)
 }
 
-// Whether a race writes this text.
+// Whether a race with these arguments writes this text.
+pub(super) fn writes_under<T: Threads + Wait + Sync>(
+    rt: &T,
+    alloc: Global,
+    arguments: &[&str],
+    script: &str,
+    text: &str,
+) -> Result<bool, AllocError> {
+    let done = race_of(rt, alloc, arguments, script)?;
+    let is_written = done.written.as_slice() == text.as_bytes();
+    Ok(done.status == 0 && is_written && done.faults.is_empty())
+}
+
 fn writes<T: Threads + Wait + Sync>(
     rt: &T,
     alloc: Global,
@@ -47,9 +59,26 @@ fn writes<T: Threads + Wait + Sync>(
     script: &str,
     text: &str,
 ) -> Result<bool, AllocError> {
-    let done = race_of(rt, alloc, workers, script)?;
-    let is_written = done.written.as_slice() == text.as_bytes();
-    Ok(done.status == 0 && is_written && done.faults.is_empty())
+    writes_under(rt, alloc, &["--race", workers], script, text)
+}
+
+// A write behind the limit takes no part, though one before it is refused.
+#[test]
+fn no_more_writes_than_the_bucket_stores(rt: HostRuntime) -> Result<(), Fail> {
+    let script = "put a MQ==\ncreate a Mg==\nput a Mw==\n";
+    let text = "{\"code\":9,\"error\":\"JournalFull\"}\n\
+        {\"revision\":1,\"worker\":1}\n\
+        {\"code\":10,\"error\":\"KeyExists\",\"worker\":1}\n";
+    assert!(rt;
+        writes_under(
+            &rt,
+            rt.alloc(),
+            &["--race", "1", "--write-limit", "2"],
+            script,
+            text
+        )?
+    );
+    Ok(())
 }
 
 #[test]
@@ -232,7 +261,7 @@ fn is_race_of_four(alloc: Global, written: &[u8]) -> Result<bool, AllocError> {
 
 fn races_four<T: Threads + Wait + Sync>(rt: &T, alloc: Global) -> Result<bool, AllocError> {
     let script = twenty_writes(alloc)?;
-    let done = race_of(rt, alloc, "4", &script)?;
+    let done = race_of(rt, alloc, &["--race", "4"], &script)?;
     Ok(done.status == 0 && done.faults.is_empty() && is_race_of_four(alloc, &done.written)?)
 }
 

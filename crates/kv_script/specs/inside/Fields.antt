@@ -1,5 +1,6 @@
 -- The JSON that each answer is written from, for clauses of this crate alone.
-use Rattle.std.specs.Prelude.{ℕ, List, [], ◌∷◌, codes, true, Option, Some, None}
+use Rattle.std.specs.Prelude.{ℕ, List, [], ◌∷◌, codes, if◌then◌else◌, true, Option, Some, None}
+use Rattle.std.specs.Str.{is_utf8}
 use Rattle.base64.specs.GeneralPurpose.{encode_of}
 use Rattle.base64.specs.Engines.{standard}
 use Rattle.serde_json.specs.Data.{Data, boolean, number, unsigned, string, array, object, Members, member, no_members, Items, item, no_items}
@@ -10,31 +11,52 @@ use Rattle.kv_model.specs.declared.status.Status.{Status}
 use Rattle.kv_model.specs.declared.write.Op.{Op}
 use Rattle.kv_model.specs.Given.{Entry}
 use Rattle.kv_script.specs.Text.{op_text, place_digits}
+use Rattle.kv_script.specs.declared.form.Form.{Form}
+use Rattle.kv_script.specs.declared.form.Form.TheVariants.{Base64, Text}
 
 abbrev pub number_field : List ℕ → ℕ → Members → Members
 number_field name n more = member name (number (unsigned n)) more
 
-abbrev pub value_fields : Option (List ℕ) → Members → Members
-value_fields None more = more
-value_fields (Some value) more = member (codes "value") (string (encode_of standard value)) more
+-- what an entry has but for its value
+abbrev pub head_fields : List ℕ → Op → ℕ → ℕ → Members → Members
+head_fields key op revision size more =
+    member (codes "key") (string key)
+    (member (codes "op") (string (op_text op))
+    (number_field (codes "revision") revision
+    (number_field (codes "size") size more)))
 
-abbrev pub entry_fields : Entry → Members → Members
-entry_fields entry more =
-    member (codes "key") (string entry.key)
-    (member (codes "op") (string (op_text entry.op))
-    (number_field (codes "revision") entry.revision
-    (number_field (codes "size") entry.size (value_fields entry.value more))))
+-- a value that stands as this text
+abbrev pub value_field : List ℕ → Members → Members
+value_field text more = member (codes "value") (string text) more
+
+-- one that stands in base64 where others stand as they are
+abbrev pub base64_field : List ℕ → Members → Members
+base64_field value more = member (codes "base64") (string (encode_of standard value)) more
+
+abbrev pub base64_fields : Form → Option (List ℕ) → Members → Members
+base64_fields Text (Some value) more = if is_utf8 value then more else base64_field value more
+base64_fields form value more = more
+
+abbrev pub value_fields : Form → Option (List ℕ) → Members → Members
+value_fields Base64 (Some value) more = value_field (encode_of standard value) more
+value_fields Text (Some value) more = if is_utf8 value then value_field value more else more
+value_fields form None more = more
+
+abbrev pub entry_fields : Form → Entry → Members → Members
+entry_fields form entry more =
+    base64_fields form entry.value
+    (head_fields entry.key entry.op entry.revision entry.size (value_fields form entry.value more))
 
 -- an entry of these parts
 abbrev pub parts_entry : List ℕ → Op → ℕ → ℕ → Option (List ℕ) → Entry
 parts_entry key op revision size value = record { key = key; op = op; revision = revision; size = size; value = value }
 
-abbrev pub entry_object : Entry → Data
-entry_object entry = object (entry_fields entry no_members)
+abbrev pub entry_object : Form → Entry → Data
+entry_object form entry = object (entry_fields form entry no_members)
 
-abbrev pub entry_items : List Entry → Items
-entry_items [] = no_items
-entry_items (entry ∷ entries) = item (entry_object entry) (entry_items entries)
+abbrev pub entry_items : Form → List Entry → Items
+entry_items form [] = no_items
+entry_items form (entry ∷ entries) = item (entry_object form entry) (entry_items form entries)
 
 abbrev pub key_items : List (List ℕ) → Items
 key_items [] = no_items
@@ -75,7 +97,8 @@ abbrev pub place_fields : ℕ → Members
 place_fields place = member (codes "place") (string (place_digits place)) no_members
 
 abbrev pub plain_fields : KvError → Members → Members
-plain_fields error more = number_field (codes "code") (code_of error) (member (codes "error") (string (name_of error)) more)
+plain_fields error more = number_field (codes "code") (code_of error)
+    (member (codes "error") (string (name_of error)) more)
 
 abbrev pub last_field : ℕ → Members → Members
 last_field last more = number_field (codes "last") last more

@@ -22,8 +22,10 @@ kept_after w version = next_kept version.config.history w.op w.revision (kept_be
 pub record HasOneMore (w : Write) (old new : Stored) : Type 0 where
   pub config : new.config ≡ old.config
   pub last : new.last ≡ old.last + 1
-  pub written : (revision : ℕ) → write_at revision new ≡ (if w.revision == revision then Some w else write_at revision old)
-  pub kept : (key : List ℕ) → kept_at key new ≡ (if bytes_eq w.key key then Some (kept_after w old) else kept_at key old)
+  pub written : (revision : ℕ) → write_at revision new ≡ (if w.revision == revision then Some w else
+      write_at revision old)
+  pub kept : (key : List ℕ) → kept_at key new ≡ (if bytes_eq w.key key then Some (kept_after w old) else
+      kept_at key old)
   pub values : new.values ≡ (old.values + length (kept_after w old)) - length (kept_before w.key old)
   pub floor : new.floor ≡ old.floor
   pub sealed : new.sealed ≡ old.sealed

@@ -75,7 +75,9 @@ fn what_an_op_does(rt: HostRuntime) {
 fn revisions_as_keys(rt: HostRuntime) {
     let rev = Rev::new(7);
     assert_eq!(rt; rev.number(), 7);
-    assert_eq!(rt; rev.place(), 7);
+    assert_eq!(rt; rev.place(), 7 << 25);
+    assert_eq!(rt; Rev::new(32).place(), 1 << 20);
+    assert_eq!(rt; Rev::new(4_294_967_295).place(), 4_294_967_295);
     assert!(rt; rev == Rev::new(7));
     assert!(rt; rev < Rev::new(4_294_967_295));
 }

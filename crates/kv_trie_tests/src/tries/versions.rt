@@ -174,7 +174,7 @@ fn keep(kept: &mut Vec<Trie<Short, u32>>, trie: &Trie<Short, u32>) -> Result<(),
 }
 
 // The trie of a thousand names, each with its place as its value. The tries before it are kept.
-fn all_put(
+pub fn all_put(
     rt: &impl Abort,
     alloc: Global,
     names: &[&str],
@@ -190,7 +190,7 @@ fn all_put(
 }
 
 // The trie has so many keys, and the form of the one that was kept last.
-fn is_earlier(
+pub fn is_earlier(
     rt: &impl Abort,
     trie: &Trie<Short, u32>,
     kept: &mut Vec<Trie<Short, u32>>,

@@ -5,4 +5,5 @@ use Rattle.kv_model.specs.Acts.{Write, is_purge}
 
 -- the revisions since the last purge of a key, after one more write: a purge drops those before it, and a write of another key changes nothing
 abbrev pub revisions_after : List ℕ → List ℕ → Write → List ℕ
-revisions_after before key w = if bytes_eq w.key key then (if is_purge w.op then [] else before) ++ w.revision ∷ [] else before
+revisions_after before key w = if bytes_eq w.key key then (if is_purge w.op then [] else before) ++ w.revision
+    ∷ [] else before

@@ -1,5 +1,5 @@
-use Rattle.std.proofs.Common.{◌≡◌, ℕ, ◌<◌, ◌≤◌, List, length, sym, subst, ap, ◌∙◌, arith}
-use Rattle.kv_model.specs.Acts.{Act, writes_of}
+use Rattle.std.proofs.Common.{ℕ, ◌≤◌, List, length, sym, subst, ap, ◌∙◌, arith}
+use Rattle.kv_model.specs.Acts.{writes_of}
 use Rattle.kv_model.specs.Given.{is_behind}
 use Rattle.kv_model.specs.declared.options.Options.{Options}
 use Rattle.kv_store.specs.Stored.{Stored}

@@ -8,7 +8,7 @@ loop-n-preserved g c =
     let after = c.hear_one.new.feed.reader.told in
     let heard = c.hear_one.ensures.heard in record {
       heard = heard_more c.args.feed.now c.loop-n.feed c.hear_one.new.feed c.loop-n.invariant.heard heard;
-      told = begin_next before after c.args.answers.now.items c.loop-n.n c.index.result.now (omega arith) c.index.ensures heard.grows c.loop-n.invariant.told c.hear_one.ensures.told;
+      told = begin_next before after c.args.answers.now.items c.loop-n.n c.index.result.now (omega arith) c.index.ensures heard.former c.loop-n.invariant.told c.hear_one.ensures.told;
     }
 
 pub returns-clause-told : goal.returns-clause-told

@@ -1,10 +1,11 @@
-use Rattle.std.proofs.Common.{take}
-use Rattle.kv_race.specs.Telling.{Begin, HasHeard}
+use Rattle.std.proofs.Common.{[], take}
+use Rattle.kv_live.specs.Feeding.{HasLearned}
+use Rattle.kv_race.specs.Telling.{Begin}
 use Rattle.kv_race.proofs.ending.hear.Given as goal
 
 -- the receipts so far were taken in
 abbrev pub invariant-loop-n : goal.invariant-loop-n
 invariant-loop-n g l = record {
-  heard : HasHeard l.fn.feed l.feed;
+  heard : HasLearned [] l.fn.feed l.feed;
   told : Begin l.feed.reader.told (take l.n l.answers.items);
 }

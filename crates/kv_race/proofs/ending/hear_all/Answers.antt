@@ -7,7 +7,7 @@ loop-n-preserved g c =
     let after = c.hear.new.feed.reader.told in
     let heard = c.hear.ensures.heard in record {
       heard = heard_more c.args.feed.now c.loop-n.feed c.hear.new.feed c.loop-n.invariant.heard heard;
-      told = begin_all_next (λ some. some.items) before after c.args.answers.now c.loop-n.n c.index-answers-n.result c.loop-n-test.true c.index-answers-n.is heard.grows c.loop-n.invariant.told c.hear.ensures.told;
+      told = begin_all_next (λ some. some.items) before after c.args.answers.now c.loop-n.n c.index-answers-n.result c.loop-n-test.true c.index-answers-n.is heard.former c.loop-n.invariant.told c.hear.ensures.told;
     }
 
 pub returns-clause-told : goal.returns-clause-told

@@ -13,4 +13,5 @@ returns c =
     let three = c.in_ok-arg-3.ensures.shape c.number-2.ensures.local ∙ ap₂ with_rule two c.number-2.ensures.rule in
     let four = c.in_ok-arg-4.ensures.shape c.number-3.ensures.local ∙ ap₂ with_rule three c.number-3.ensures.rule in
     let five = c.in_ok-arg-5.ensures.shape c.number-4.ensures.local ∙ ap₂ with_rule four c.number-4.ensures.rule in
-    IfOk-weaker c.arg-6.result _ _ (λ made adds. adds.shape c.race.ensures.local ∙ ap₂ with_rule five c.race.ensures.rule) c.arg-6.ensures
+    let six = c.in_ok-arg-6.ensures.shape c.race.ensures.local ∙ ap₂ with_rule five c.race.ensures.rule in
+    IfOk-weaker c.arg-7.result _ _ (λ made adds. adds.shape c.form.ensures.local ∙ ap₂ with_rule six c.form.ensures.rule) c.arg-7.ensures

@@ -25,3 +25,7 @@ returns-clause-revision_limit c = λ program value. refl
 pub returns-clause-race : goal.returns-clause-race
 unfolding clap_on_literals
 returns-clause-race c = λ program value. refl
+
+pub returns-clause-text : goal.returns-clause-text
+unfolding clap_on_literals
+returns-clause-text c = λ program. refl

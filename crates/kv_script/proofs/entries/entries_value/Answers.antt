@@ -12,5 +12,5 @@ pub returns : goal.returns
 returns c =
     let all = take_all c.loop-write.write-index c.args.writes.now (omega arith) in
     view-Array c.loop-write.items
-    ∙ ap (λ ds. array (items_of ds)) (c.loop-write.invariant ∙ ap (λ ws. map entry_object (map (λ w. read_entry w.now) ws)) all)
-    ∙ ap array (entry_items-of (map (λ w. read_entry w.now) c.args.writes.now))
+    ∙ ap (λ ds. array (items_of ds)) (c.loop-write.invariant ∙ ap (λ ws. map (entry_object c.args.form) (map (λ w. read_entry w.now) ws)) all)
+    ∙ ap array (entry_items-of c.args.form (map (λ w. read_entry w.now) c.args.writes.now))

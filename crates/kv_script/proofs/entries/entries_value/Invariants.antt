@@ -5,4 +5,4 @@ use Rattle.kv_script.specs.inside.Fields.{entry_object}
 use Rattle.kv_script.proofs.entries.entries_value.Given as goal
 
 abbrev pub invariant-loop-write : goal.invariant-loop-write
-invariant-loop-write l = map view l.items.items ≡ map entry_object (map (λ w. read_entry w.now) (take l.write-index l.writes))
+invariant-loop-write l = map view l.items.items ≡ map (entry_object l.form) (map (λ w. read_entry w.now) (take l.write-index l.writes))

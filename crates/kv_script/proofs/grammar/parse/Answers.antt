@@ -1,12 +1,8 @@
-use Rattle.std.proofs.Common.{◌≡◌, ◌==◌, nat_le, false, true, length, refl, ap, ◌∙◌, lit<, arith}
-use Rattle.std.specs.List.{slice_split}
+use Rattle.std.proofs.Common.{◌≡◌, nat_le, false, true, length, refl, arith}
 use Rattle.std.specs.Str.{is_utf8}
 use Rattle.std.proofs.lemmas.Bool.{false_from_ne_true, le-leb}
 use Rattle.std.proofs.lemmas.Str.{IsUtf8-from_is_utf8, is_utf8-from_IsUtf8}
-use Rattle.std.proofs.lemmas.Result.{IfOk-at_ok}
-use Rattle.std.proofs.lemmas.Iterator.Consumers.{map_from_collect}
-use Rattle.std.proofs.lemmas.Iterator.Splits.{YieldsList-from_str_split}
-use Rattle.kv_script.specs.Commands.{line_command, texts}
+use Rattle.kv_script.specs.Commands.{line_command}
 use Rattle.kv_script.proofs.grammar.parse.Goals as goal
 
 pub returns-in_default : goal.returns-in_default
@@ -18,11 +14,6 @@ returns-in_default c =
 pub returns : goal.returns
 unfolding line_command
 returns c =
-    let collected = map_from_collect c.collect.result c.collect.ensures.ran
-    (YieldsList-from_str_split 32 c.in-Ok.text.now (lit< tt) c.split.ensures.text c.split.ensures.has_more c.split.ensures.pattern) in
-    let parts = IfOk-at_ok (λ w. texts w.items ≡ slice_split (λ byte. byte == 32) c.in-Ok.text.now) c.in_ok-words.was collected in
-    let words : texts c.deref.result.now ≡ slice_split (λ byte. byte == 32) c.args.line.now =
-    ap texts c.deref.ensures.value ∙ parts ∙ ap (slice_split (λ byte. byte == 32)) c.in-Ok.ensures.cases.0 in
     let is_text : is_utf8 c.args.line.now ≡ true = is_utf8-from_IsUtf8 _ c.in-Ok.ensures.cases.1 in
     let fits : nat_le (length c.args.line.now) 1400000 ≡ true = le-leb (length c.args.line.now) 1400000 (omega arith) in
-    rw (is_text, fits, ← words) c.present_words_command.ensures
+    rw (is_text, fits, ← c.in-Ok.ensures.cases.0) c.command_in.ensures

@@ -5,6 +5,7 @@ use Rattle.std.specs.Cmp.Lexicographic.{slice_cmp}
 use Rattle.kv_keys.specs.Places.{fnv32_of}
 use Rattle.kv_trie.specs.Form.{order}
 use Rattle.kv_model.specs.Acts.{Write}
+use Rattle.kv_store.specs.Places.{place_of_revision}
 use Rattle.kv_store.proofs.Lookups.{All-put_pair, kept_more, length-kept_entries, length-put_pair, written_more}
 use Rattle.kv_store.proofs.put.put_write.Goals as goal
 
@@ -28,9 +29,9 @@ returns-clause-put c =
     let old = c.args.by_revision.now in
     record {
       found = λ r. written_more c.args.write.revision r c.args.write old c.put_both.new.second (rw number at (c.in_ok-put_both.ensures.second_map r));
-      len = omega (arith, ap length c.in_ok-put_both.ensures.pairs.1, length-put_pair (order nat_cmp (λ n. n) 7) (c.new-number.result, c.args.write) old);
+      len = omega (arith, ap length c.in_ok-put_both.ensures.pairs.1, length-put_pair (order nat_cmp place_of_revision 7) (c.new-number.result, c.args.write) old);
       revisions = λ last l all.
           let small : c.new-number.result ≤ last = omega (arith, number, l) in
           let Small : ℕ × Write → Type 0 = λ e. e.0 ≤ last in
-          subst (All Small) (sym c.in_ok-put_both.ensures.pairs.1) (All-put_pair Small (order nat_cmp (λ n. n) 7) (c.new-number.result, c.args.write) old small all);
+          subst (All Small) (sym c.in_ok-put_both.ensures.pairs.1) (All-put_pair Small (order nat_cmp place_of_revision 7) (c.new-number.result, c.args.write) old small all);
     }

@@ -1,10 +1,8 @@
-use Rattle.std.proofs.Common.{rules, ◌≡◌, ◌++◌, ◌∷◌, [], Ok, refl, subst, sym, ap, ◌∙◌}
+use Rattle.std.proofs.Common.{rules, ◌≡◌, Ok, refl, subst, sym, ap, ◌∙◌}
 use Rattle.kv_model.specs.Acts.{Compact}
-use Rattle.kv_model.specs.Acceptance.{IsLawful}
 use Rattle.kv_model.specs.declared.call.Call.TheVariants as calls
 use Rattle.kv_model.specs.Answers.{Compacted}
 use Rattle.kv_model.specs.State.{State, may_compact}
-use Rattle.kv_bucket.specs.Held.{Bucketed, Represents}
 use Rattle.kv_store.specs.Standing.{StandsFor}
 use Rattle.kv_store.specs.Stored.{Stored}
 use Rattle.kv_live.specs.Keeping.{Kept, kept_of, IsAt, IsSomewhere, IsKeptStep}

@@ -1,13 +1,14 @@
 use Rattle.std.proofs.Common.{◌≡◌, List, ap, sym, map, ◌∙◌, codes, string_bytes}
 use Rattle.std.specs.Option.{unwrap_or}
 use Rattle.std.specs.contracts.prelude.U64FromStr.TheImpl as reader
+use Rattle.std.specs.contracts.prelude.BoolFromStr.TheImpl as flag_reader
 use Rattle.clap.specs.Faults.{fault_of, is_simple_and_free}
 use Rattle.clap.specs.Matches.{found_of, one_text}
 use Rattle.clap.specs.Simple.{is_simple, matches_of}
 use Rattle.clap.specs.Walk.{Row, Text, rows_of, first_of, one_of}
 use Rattle.clap.proofs.WalkLemmas.{first_value-rows, one_text-rows}
-use Rattle.kv_run.specs.Arguments.{number_in, program_app, race_of, text_in}
-use Rattle.kv_run.proofs.ArgumentOptions.{number_found, option_number, program_is_free, program_is_simple, unwrap_text}
+use Rattle.kv_run.specs.Arguments.{form_asked, form_of, number_in, program_app, race_of, text_in}
+use Rattle.kv_run.proofs.ArgumentOptions.{flag_given, number_found, option_number, program_is_free, program_is_simple, unwrap_text}
 use Rattle.kv_run.proofs.arguments.Arguments.parse.Goals as goal
 
 pub returns : goal.returns
@@ -35,10 +36,14 @@ returns c =
     (λ none. c.get_one-4.ensures.none (read (codes "revision-limit") ∙ none)) (λ text some. c.get_one-4.ensures.value text (read (codes "revision-limit") ∙ some)) (λ _ _ parsed. parsed.0) in
     let race : c.get_one-5.result ≡ race_of words =
     number_found {gives = reader.ghosts.from_str_gives} _ c.get_one-5.result
-    (λ none. c.get_one-5.ensures.none (read (codes "race") ∙ none)) (λ text some. c.get_one-5.ensures.value text (read (codes "race") ∙ some)) (λ _ _ parsed. parsed.0) in (
+    (λ none. c.get_one-5.ensures.none (read (codes "race") ∙ none)) (λ text some. c.get_one-5.ensures.value text (read (codes "race") ∙ some)) (λ _ _ parsed. parsed.0) in
+    let form : c.form_asked.result ≡ form_of words =
+    c.form_asked.ensures ∙ ap form_asked (c.unwrap_or-6.ensures ∙ flag_given {gives = flag_reader.ghosts.from_str_gives} _ c.get_one-6.result
+    (λ none. c.get_one-6.ensures.none (read (codes "text") ∙ none)) (λ text some. c.get_one-6.ensures.value text (read (codes "text") ∙ some)) (λ _ _ parsed. parsed)) in (
       ap (λ a. fault_of a words) (sym app) ∙ c.in_ok-matches.ensures.kinds (ap is_simple_and_free app ∙ program_is_free),
       λ i. record {
         config = record { bucket = bucket i; history = history i; value_limit = value_limit i; write_limit = write_limit i; revision_limit = revision_limit i };
         race = race i;
+        form = form i;
       },
     )

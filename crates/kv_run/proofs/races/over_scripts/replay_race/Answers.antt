@@ -1,5 +1,5 @@
 use Rattle.std.proofs.Common.{rules}
-use Rattle.kv_run.proofs.Counting.{asked_so_often}
+use Rattle.kv_replay.proofs.Counting.{asked_so_often}
 use Rattle.kv_run.proofs.races.over_scripts.replay_race.Goals as goal
 
 pub returns-clause-read_fault : goal.returns-clause-read_fault

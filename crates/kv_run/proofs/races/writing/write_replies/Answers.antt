@@ -1,7 +1,7 @@
 use Rattle.std.proofs.Common.{◌≡◌, ◌+◌, ◌<◌, [], length, map, get_or, ap, sym, arith, rules, ◌∙◌}
 use Rattle.std.proofs.lemmas.List.{get_or-map, length-map}
 use Rattle.kv_run.specs.Reporting.{replies_text}
-use Rattle.kv_run.proofs.Progress.{on_err}
+use Rattle.kv_replay.proofs.Progress.{on_err}
 use Rattle.kv_run.proofs.Reporting.{text_made, told_more, told_part}
 use Rattle.kv_run.proofs.races.writing.write_replies.Goals as goal
 

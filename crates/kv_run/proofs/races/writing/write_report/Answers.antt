@@ -1,5 +1,5 @@
 use Rattle.std.proofs.lemmas.Result.{on_err_weaker}
-use Rattle.kv_run.proofs.Progress.{on_err}
+use Rattle.kv_replay.proofs.Progress.{on_err}
 use Rattle.kv_run.proofs.Reporting.{puts_first, puts_second}
 use Rattle.kv_run.proofs.races.writing.write_report.Goals as goal
 

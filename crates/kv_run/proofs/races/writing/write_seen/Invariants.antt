@@ -8,5 +8,5 @@ use Rattle.kv_run.proofs.races.writing.write_seen.Given as goal
 abbrev pub invariant-loop-n : goal.invariant-loop-n
 invariant-loop-n g l = record {
   same : g.K.Output.goes_on l.initial.sink l.sink;
-  told : Told seen_text (map (λ some. map answer_of some.items) l.seen) (g.K.Output.held l.initial.sink) (g.K.Output.held l.sink) l.n;
+  told : Told (seen_text l.form) (map (λ some. map answer_of some.items) l.seen) (g.K.Output.held l.initial.sink) (g.K.Output.held l.sink) l.n;
 }

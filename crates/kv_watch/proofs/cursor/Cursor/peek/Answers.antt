@@ -23,10 +23,10 @@ returns-in-Some-next_live c = rw (← c.self.view_is) (λ n began acts opening i
     let self = c.self.inside in
     ap (λ (e : Entry). Some (AnEntry e)) c.new.ensures
     ∙ sym (peek_live began acts opening c.args.now.now self.filters self.options n self.owed.items self.marker self.seen self.next self.handed at.place (rw c.deref.ensures.value at (sym c.in_default.ensures.value)) c.if-self.false
-    ∙ ap (λ items. slice_get items 0) (sym (ahead_same n began acts opening c.args.now.now (record { filters = self.filters; options = self.options; owed = reverse self.owed.items; marker = self.marker; seen = self.seen; next = self.next; handed = self.handed }) at) ∙ c.in-Some-next_live.ensures acts at.place.now_stands)))
+    ∙ ap (λ items. slice_get items 0) (sym (ahead_same n began acts opening c.args.now.now (record { filters = self.filters; options = self.options; owed = reverse self.owed.items; marker = self.marker; seen = self.seen; next = self.next; handed = self.handed }) at) ∙ c.in-Some-next_live.ensures.first acts at.place.now_stands)))
 
 pub returns-in-None : goal.returns-in-None
 returns-in-None c = rw (← c.self.view_is) (λ n began acts opening is at.
     let self = c.self.inside in
     sym (peek_live began acts opening c.args.now.now self.filters self.options n self.owed.items self.marker self.seen self.next self.handed at.place (rw c.deref.ensures.value at (sym c.in_default.ensures.value)) c.if-self.false
-    ∙ ap (λ items. slice_get items 0) (sym (ahead_same n began acts opening c.args.now.now (record { filters = self.filters; options = self.options; owed = reverse self.owed.items; marker = self.marker; seen = self.seen; next = self.next; handed = self.handed }) at) ∙ c.in-None.ensures acts at.place.now_stands)))
+    ∙ ap (λ items. slice_get items 0) (sym (ahead_same n began acts opening c.args.now.now (record { filters = self.filters; options = self.options; owed = reverse self.owed.items; marker = self.marker; seen = self.seen; next = self.next; handed = self.handed }) at) ∙ c.in-None.ensures.first acts at.place.now_stands)))

@@ -1,0 +1,94 @@
+//! The groups of figures.
+
+use crate::round::Task;
+use crate::{beside, live_rounds, map_rounds};
+use kv_gauge::fault::Fault;
+use kv_gauge::plan::Plan;
+use kv_gauge::{calls, compacting, memory};
+use std::alloc::Global;
+use std::rt::{Clock, Files};
+use std::sync::Wait;
+use std::thread::Threads;
+use std::time::CpuClock;
+
+/// A group of figures.
+#[derive(Clone, Copy)]
+pub enum Group {
+    Calls,
+    Compact,
+    Beside,
+    Memory(memory::What),
+    Threads(Task),
+    /// All of them, and no figure is told.
+    Check,
+}
+
+/// The group of a word.
+pub fn of_word(word: &str) -> Option<Group> {
+    match word {
+        "calls" => Some(Group::Calls),
+        "compact" => Some(Group::Compact),
+        "beside" => Some(Group::Beside),
+        "memory-keys" => Some(Group::Memory(memory::What::Keys)),
+        "memory-writes" => Some(Group::Memory(memory::What::Writes)),
+        "memory-held" => Some(Group::Memory(memory::What::Held)),
+        "memory-compacted" => Some(Group::Memory(memory::What::Compacted)),
+        "threads" => Some(Group::Threads(Task::Read)),
+        "feeds" => Some(Group::Threads(Task::Follow)),
+        "delay" => Some(Group::Threads(Task::Delay)),
+        "check" => Some(Group::Check),
+        _ => None,
+    }
+}
+
+fn rounds<R: Clock + CpuClock + Print + Wait + Threads + Sync>(
+    rt: &R,
+    alloc: Global,
+    plan: Plan,
+    task: Task,
+) -> Result<(), Fault> {
+    live_rounds::run(rt, alloc, plan, task)?;
+    map_rounds::run(rt, alloc, plan, task)
+}
+
+fn weigh_all<R: Print + Files + AllocGlobal>(
+    rt: &R,
+    alloc: Global,
+    plan: Plan,
+) -> Result<(), Fault> {
+    memory::run(rt, alloc, plan, memory::What::Keys)?;
+    memory::run(rt, alloc, plan, memory::What::Writes)?;
+    memory::run(rt, alloc, plan, memory::What::Held)?;
+    memory::run(rt, alloc, plan, memory::What::Compacted)
+}
+
+fn all<R: Clock + CpuClock + Print + Wait + Threads + Sync + Files + AllocGlobal>(
+    rt: &R,
+    alloc: Global,
+    plan: Plan,
+) -> Result<(), Fault> {
+    calls::run(rt, alloc, plan)?;
+    compacting::run(rt, alloc, plan)?;
+    beside::run(rt, alloc, plan)?;
+    rounds(rt, alloc, plan, Task::Read)?;
+    rounds(rt, alloc, plan, Task::Follow)?;
+    rounds(rt, alloc, plan, Task::Delay)?;
+    weigh_all(rt, alloc, plan)
+}
+
+/// Measures a group.
+pub fn run<R: Clock + CpuClock + Print + Wait + Threads + Sync + Files + AllocGlobal>(
+    rt: &R,
+    plan: Plan,
+    group: Group,
+) -> Result<(), Fault> {
+    let alloc = rt.alloc();
+    match group {
+        Group::Calls => calls::run(rt, alloc, plan),
+        Group::Compact => compacting::run(rt, alloc, plan),
+        Group::Beside => beside::run(rt, alloc, plan),
+        Group::Memory(what) => memory::run(rt, alloc, plan, what),
+        Group::Threads(task) => rounds(rt, alloc, plan, task),
+        Group::Check => all(rt, alloc, plan),
+    }
+}

@@ -1,0 +1,159 @@
+//! Rounds of threads over a live bucket.
+
+ghost use Rattle.std.specs.Prelude.{◌≡◌};
+
+use crate::jobs::{Job, perform_all};
+use crate::lives::{Follows, Load, Reads, Writes, fill, spread_load};
+use crate::round::{ASKED, Done, Round, Task};
+use crate::told::{Over, Told, most, numbers};
+use kv_gauge::fault::Fault;
+use kv_gauge::plan::Plan;
+use kv_gauge::subject::config;
+use kv_gauge::watching::UPDATES;
+use kv_live::{Filters, KvError, Live, LiveName, Opened, Reader};
+use std::alloc::Global;
+use std::marker::Brand;
+use std::rt::Clock;
+use std::sync::Wait;
+use std::thread::Threads;
+use std::time::CpuClock;
+
+// How many writes are stored from which on a round begins with a compaction.
+const MANY: u64 = 920_000;
+
+// A live bucket, and what is asked of it.
+#[derive(Drop)]
+struct Lively<'a, N: LiveName> {
+    live: &'a Live<N>,
+    load: &'a Load,
+}
+
+fn seat<N: LiveName, R: Wait>(rt: &R, live: &Live<N>) -> Result<Reader<N>, KvError> {
+    live.lock(rt).reader()
+}
+
+fn make_room<N: LiveName, R: Wait>(rt: &R, live: &Live<N>) -> Result<(), KvError> {
+    let mut keeper = live.lock(rt);
+    let status = keeper.bucket().version().status();
+    if status.stored < MANY {
+        return Ok(());
+    }
+    keeper.compact(rt, status.last)
+}
+
+fn feed<N: LiveName>(alloc: Global, reader: Reader<N>) -> Result<Follows<N>, Fault> {
+    let filters = Filters::parse(alloc, ">")?;
+    match reader.watch(&filters, UPDATES) {
+        Ok(feed) => Ok(Follows(feed)),
+        Err((_, refusal)) => Err(Fault::Refused(refusal)),
+    }
+}
+
+type LiveJob<'a, N> = Job<Writes<'a, N>, Reads<'a, N>, Follows<N>>;
+
+fn job<'a, N: LiveName>(
+    alloc: Global,
+    load: &'a Load,
+    task: Task,
+    reader: Reader<N>,
+) -> Result<LiveJob<'a, N>, Fault> {
+    match task {
+        Task::Read => Ok(Job::Get(Reads {
+            reader,
+            keys: load.keys.as_slice(),
+        })),
+        Task::Follow | Task::Delay => Ok(Job::Take(feed(alloc, reader)?)),
+    }
+}
+
+fn jobs<'a, N: LiveName, R: Wait>(
+    rt: &R,
+    alloc: Global,
+    ground: &Lively<'a, N>,
+    task: Task,
+    others: usize,
+) -> Result<Vec<LiveJob<'a, N>>, Fault> {
+    let mut jobs = Vec::new(alloc);
+    jobs.push(Job::Put(Writes {
+        live: ground.live,
+        requests: ground.load.requests.as_slice(),
+    }))?;
+    for _ in 0..others {
+        let reader = seat(rt, ground.live)?;
+        jobs.push(job(alloc, ground.load, task, reader)?)?;
+    }
+    Ok(jobs)
+}
+
+fn round<N: LiveName + Send + Sync, R: Threads + Wait + Sync + Clock + CpuClock>(
+    rt: &R,
+    alloc: Global,
+    plan: Plan,
+    task: Task,
+    ground: &Lively<'_, N>,
+    others: usize,
+) -> Result<Vec<Done>, Fault> {
+    make_room(rt, ground.live)?;
+    let jobs = jobs(rt, alloc, ground, task, others)?;
+    let round = Round::begun(rt, plan, task)?;
+    perform_all(rt, alloc, &round, jobs)
+}
+
+fn figures<N: LiveName + Send + Sync, R: Threads + Wait + Sync + Clock + CpuClock + Print>(
+    rt: &R,
+    alloc: Global,
+    plan: Plan,
+    task: Task,
+    ground: &Lively<'_, N>,
+    others: usize,
+) -> Result<(), Fault> {
+    let mut told = Told::new(alloc, plan, task, Over::Live, others);
+    for _ in 0..plan.rounds {
+        let done = round(rt, alloc, plan, task, ground, others)?;
+        told.add_round(task, done.as_slice())?;
+    }
+    told.tell(rt, task)
+}
+
+fn live_figures<N: LiveName + Send + Sync, R: Threads + Wait + Sync + Clock + CpuClock + Print>(
+    rt: &R,
+    alloc: Global,
+    plan: Plan,
+    task: Task,
+    live: &Live<N>,
+) -> Result<(), Fault> {
+    fill(rt, alloc, live, plan.keys)?;
+    let load = spread_load(alloc, plan, ASKED)?;
+    let ground = Lively { live, load: &load };
+    for others in numbers(task) {
+        figures(rt, alloc, plan, task, &ground, *others)?;
+    }
+    Ok(())
+}
+
+fn opened_figures<N: LiveName + Send + Sync, R: Threads + Wait + Sync + Clock + CpuClock + Print>(
+    rt: &R,
+    alloc: Global,
+    plan: Plan,
+    task: Task,
+    opened: Opened,
+) -> Result<(), Fault>
+    requires { opened.opening ≡ N.opening }
+{
+    let (live, readers) = opened.live::<N, R>(rt)?;
+    drop(readers);
+    let done = live_figures(rt, alloc, plan, task, &live);
+    live.close(rt);
+    done
+}
+
+/// Opens a bucket with its keys, and measures rounds of threads over it.
+pub fn run<R: Threads + Wait + Sync + Clock + CpuClock + Print>(
+    rt: &R,
+    alloc: Global,
+    plan: Plan,
+    task: Task,
+) -> Result<(), Fault> {
+    let opened = Live::open(alloc, &config(alloc)?, most(task))?;
+    opened_figures::<Brand, R>(rt, alloc, plan, task, opened)
+}

@@ -1,0 +1,100 @@
+//! A live bucket: its readers, its writers and its feeds.
+
+use crate::sides::{Copies, Gets, Puts, Takes};
+use kv_gauge::fault::Fault;
+use kv_gauge::keys::{key, put, puts, spread};
+use kv_gauge::plan::Plan;
+use kv_live::{Feed, Key, Live, LiveName, Reader, Request, Taken};
+use std::alloc::Global;
+use std::sync::Wait;
+
+/// The keys that are read, and the requests that are written.
+#[derive(Drop)]
+pub struct Load {
+    pub requests: Vec<Request>,
+    pub keys: Vec<Key>,
+}
+
+/// So many keys, spread over all, and a put to each.
+pub fn spread_load(alloc: Global, plan: Plan, asked: usize) -> Result<Load, Fault> {
+    let keys = spread(alloc, plan.keys, asked)?;
+    let requests = puts(alloc, keys.as_slice())?;
+    Ok(Load { requests, keys })
+}
+
+/// Puts to each key.
+pub fn fill<N: LiveName, R: Wait>(
+    rt: &R,
+    alloc: Global,
+    live: &Live<N>,
+    count: usize,
+) -> Result<(), Fault> {
+    for number in 0..count {
+        let request = put(alloc, &key(alloc, number)?)?;
+        live.write(rt, &request)?;
+    }
+    Ok(())
+}
+
+/// A reader, with the keys that it reads.
+#[derive(Drop)]
+pub struct Reads<'a, N: LiveName> {
+    pub reader: Reader<N>,
+    pub keys: &'a [Key],
+}
+
+impl<'a, N: LiveName> Gets for Reads<'a, N> {
+    // Each read is of a version of its own.
+    fn get<R: Wait>(&mut self, _rt: &R, place: usize) -> Result<usize, Fault> {
+        let Some(key) = self.keys.get(place) else {
+            return Ok(0);
+        };
+        let version = self.reader.version()?;
+        let bytes = version.get(key)?.value().len();
+        Ok(bytes)
+    }
+}
+
+impl<'a, N: LiveName> Copies for Reads<'a, N> {
+    const NAME: &'static str = "Vilgoued";
+
+    fn copy<R: Wait>(&mut self, _rt: &R) -> Result<u64, Fault> {
+        let version = self.reader.version()?;
+        Ok(version.revision())
+    }
+}
+
+/// A bucket that threads share, with the requests that are made.
+#[derive(Drop)]
+pub struct Writes<'a, N: LiveName> {
+    pub live: &'a Live<N>,
+    pub requests: &'a [Request],
+}
+
+impl<'a, N: LiveName> Puts for Writes<'a, N> {
+    fn put<R: Wait>(&mut self, rt: &R, place: usize) -> Result<(), Fault> {
+        let Some(request) = self.requests.get(place) else {
+            return Ok(());
+        };
+        self.live.write(rt, request)?;
+        Ok(())
+    }
+
+    fn finish(self) {
+        self.live.finish();
+    }
+}
+
+/// A feed.
+#[derive(Drop)]
+pub struct Follows<N: LiveName>(pub Feed<N>);
+
+impl<N: LiveName> Takes for Follows<N> {
+    // A feed that begins with nothing has no end marker.
+    fn take<R: Wait>(&mut self, rt: &R) -> Result<bool, Fault> {
+        match self.0.next(rt)? {
+            Taken::Entry(_) => Ok(true),
+            _ => Ok(false),
+        }
+    }
+}

@@ -1,0 +1,205 @@
+//! The calls of the library on one thread.
+
+use crate::fault::Fault;
+use crate::keys::{deletes, filters_of, keys, one_filter, puts, spread};
+use crate::plan::Plan;
+use crate::series::{Name, Series};
+use crate::subject::{empty, grow, time_writes};
+use crate::{reading, watching};
+use kv_bucket::{Bucket, Filter, Key};
+use std::alloc::Global;
+use std::rt::Clock;
+
+// What is measured on a bucket that has its keys.
+#[derive(Clone, Copy)]
+enum What {
+    Get,
+    PutThere,
+    Snapshot,
+    History,
+    KeysOfKey,
+    KeysOfWildcard,
+    KeysOfAll,
+    WatchKey,
+    WatchWildcard,
+    WatchAll,
+    InitialItem,
+    LiveItem,
+    IdlePoll,
+    Delete,
+}
+
+// Deletes are last, since they change what the others read.
+const ALL: [What; 14] = [
+    What::Get,
+    What::PutThere,
+    What::Snapshot,
+    What::History,
+    What::KeysOfKey,
+    What::KeysOfWildcard,
+    What::KeysOfAll,
+    What::WatchKey,
+    What::WatchWildcard,
+    What::WatchAll,
+    What::InitialItem,
+    What::LiveItem,
+    What::IdlePoll,
+    What::Delete,
+];
+
+fn text(what: What) -> &'static str {
+    match what {
+        What::Get => "get",
+        What::PutThere => "put, key that is there",
+        What::Snapshot => "snapshot",
+        What::History => "history",
+        What::KeysOfKey => "keys of a literal filter",
+        What::KeysOfWildcard => "keys of a.*",
+        What::KeysOfAll => "keys of >",
+        What::WatchKey => "open a watch of a literal filter",
+        What::WatchWildcard => "open a watch of a.*",
+        What::WatchAll => "open a watch of >",
+        What::InitialItem => "take an initial item",
+        What::LiveItem => "take a live item",
+        What::IdlePoll => "take where there is nothing",
+        What::Delete => "delete",
+    }
+}
+
+fn write<R: Clock>(
+    rt: &R,
+    alloc: Global,
+    bucket: &mut Bucket,
+    asked: &[Key],
+    what: What,
+) -> Result<u64, Fault> {
+    let requests = match what {
+        What::Delete => deletes(alloc, asked)?,
+        _ => puts(alloc, asked)?,
+    };
+    match what {
+        What::LiveItem => watching::live_items(rt, alloc, bucket, requests.as_slice()),
+        _ => time_writes(rt, bucket, requests.as_slice()),
+    }
+}
+
+// The filters that are listed or watched, each alone, and how many keys they have in all.
+fn filters(
+    alloc: Global,
+    plan: Plan,
+    asked: &[Key],
+    what: What,
+) -> Result<(Vec<Filter>, usize), Fault> {
+    match what {
+        What::KeysOfWildcard | What::WatchWildcard => Ok((
+            one_filter(alloc, "a.*")?,
+            plan.keys.div_ceil(100),
+        )),
+        What::KeysOfAll | What::WatchAll => Ok((one_filter(alloc, ">")?, plan.keys)),
+        _ => Ok((filters_of(alloc, asked)?, asked.len())),
+    }
+}
+
+fn find<R: Clock>(
+    rt: &R,
+    alloc: Global,
+    bucket: &mut Bucket,
+    plan: Plan,
+    asked: &[Key],
+    what: What,
+) -> Result<u64, Fault> {
+    let (filters, wanted) = filters(alloc, plan, asked, what)?;
+    match what {
+        What::KeysOfKey | What::KeysOfWildcard | What::KeysOfAll => reading::lists(
+            rt,
+            alloc,
+            bucket.version(),
+            filters.as_slice(),
+            wanted,
+        ),
+        _ => watching::opens(rt, alloc, bucket, filters.as_slice()),
+    }
+}
+
+fn measure<R: Clock>(
+    rt: &R,
+    alloc: Global,
+    bucket: &mut Bucket,
+    plan: Plan,
+    asked: &[Key],
+    what: What,
+) -> Result<u64, Fault> {
+    let few = asked.len();
+    match what {
+        What::Get => reading::gets(rt, bucket.version(), asked),
+        What::Snapshot => reading::snapshots(rt, bucket.version(), few),
+        What::History => reading::histories(rt, alloc, bucket.version(), asked),
+        What::InitialItem => watching::initial_items(rt, alloc, bucket, few),
+        What::IdlePoll => watching::idle_polls(rt, alloc, bucket, few),
+        What::PutThere | What::LiveItem | What::Delete => write(rt, alloc, bucket, asked, what),
+        _ => find(rt, alloc, bucket, plan, asked, what),
+    }
+}
+
+fn figure<R: Clock + Print>(
+    rt: &R,
+    alloc: Global,
+    bucket: &mut Bucket,
+    plan: Plan,
+    asked: &[Key],
+    what: What,
+) -> Result<(), Fault> {
+    let name = Name::time("calls", text(what), "");
+    let mut series = Series::new(alloc, name, plan);
+    for _ in 0..plan.rounds {
+        series.add(measure(rt, alloc, bucket, plan, asked, what)?)?;
+    }
+    series.tell(rt)
+}
+
+fn grown_once<R: Clock>(
+    rt: &R,
+    alloc: Global,
+    keys: &[Key],
+    series: &mut Series,
+) -> Result<Bucket, Fault> {
+    let mut bucket = empty(alloc)?;
+    series.add(grow(rt, alloc, &mut bucket, keys)?)?;
+    Ok(bucket)
+}
+
+// Each round grows a bucket of its own; the last one is kept.
+fn grown<R: Clock + Print>(
+    rt: &R,
+    alloc: Global,
+    plan: Plan,
+    keys: &[Key],
+) -> Result<Bucket, Fault> {
+    let mut series = Series::new(alloc, Name::time("calls", "put, new key", ""), plan);
+    let mut bucket = empty(alloc)?;
+    for _ in 0..plan.rounds {
+        bucket = grown_once(rt, alloc, keys, &mut series)?;
+    }
+    series.tell(rt)?;
+    Ok(bucket)
+}
+
+fn figures<R: Clock + Print>(
+    rt: &R,
+    alloc: Global,
+    plan: Plan,
+    bucket: &mut Bucket,
+) -> Result<(), Fault> {
+    let asked = spread(alloc, plan.keys, plan.asked())?;
+    for what in ALL {
+        figure(rt, alloc, bucket, plan, asked.as_slice(), what)?;
+    }
+    Ok(())
+}
+
+/// Measures each call.
+pub fn run<R: Clock + Print>(rt: &R, alloc: Global, plan: Plan) -> Result<(), Fault> {
+    let keys = keys(alloc, 0, plan.keys)?;
+    let mut bucket = grown(rt, alloc, plan, keys.as_slice())?;
+    figures(rt, alloc, plan, &mut bucket)
+}

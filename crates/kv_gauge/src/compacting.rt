@@ -1,0 +1,64 @@
+//! Compactions.
+
+use crate::clock::{each, since};
+use crate::fault::{Answer, Fault, check};
+use crate::keys::{VALUE, key, put};
+use crate::plan::Plan;
+use crate::series::{Name, Series};
+use crate::subject::empty;
+use kv_bucket::Bucket;
+use std::alloc::Global;
+use std::rt::Clock;
+use std::time::Instant;
+
+// How many keys are written over and over.
+const KEYS: usize = 1000;
+
+/// Makes so many writes to these many keys, in turn.
+pub fn overwrite(
+    alloc: Global,
+    bucket: &mut Bucket,
+    keys: usize,
+    writes: usize,
+) -> Result<(), Fault> {
+    for turn in 0..writes {
+        let number = if keys == 0 { 0 } else { turn % keys };
+        let request = put(alloc, &key(alloc, number)?)?;
+        bucket.write(&request)?;
+    }
+    Ok(())
+}
+
+// Still there: the key's value.
+fn is_there(alloc: Global, bucket: &Bucket) -> Result<(), Fault> {
+    let key = key(alloc, 1)?;
+    let found = bucket.version().get(&key)?.value() == VALUE;
+    check(found, Answer::Values)
+}
+
+/// The time of a compaction to the last revision.
+pub fn compaction<R: Clock>(rt: &R, bucket: &mut Bucket) -> Result<u64, Fault> {
+    let floor = bucket.version().revision();
+    let start = Instant::now(rt)?;
+    bucket.compact(floor)?;
+    let took = since(rt, &start)?;
+    Ok(each(took, 1))
+}
+
+fn measure<R: Clock>(rt: &R, alloc: Global, plan: Plan) -> Result<u64, Fault> {
+    let mut bucket = empty(alloc)?;
+    overwrite(alloc, &mut bucket, KEYS, plan.keys)?;
+    let took = compaction(rt, &mut bucket)?;
+    is_there(alloc, &bucket)?;
+    Ok(took)
+}
+
+/// Measures compactions of so many stored writes to a thousand keys.
+pub fn run<R: Clock + Print>(rt: &R, alloc: Global, plan: Plan) -> Result<(), Fault> {
+    let name = Name::time("compact", "compact to the last revision", "");
+    let mut series = Series::new(alloc, name, plan);
+    for _ in 0..plan.rounds {
+        series.add(measure(rt, alloc, plan)?)?;
+    }
+    series.tell(rt)
+}

@@ -1,0 +1,102 @@
+//! The keys and the requests of a measurement.
+
+ghost use Rattle.std.specs.Prelude.{◌<◌};
+
+use crate::fault::Fault;
+use kv_bucket::{Filter, Key, Request};
+use std::alloc::Global;
+
+/// The value of each put: 16 bytes.
+pub const VALUE: &'static [u8] = b"0123456789012345";
+
+// A prime, so that its multiples are spread over all keys.
+const STRIDE: usize = 7919;
+
+/// The text of the key of a number. One of a hundred lies below `a`, the others below `b`.
+pub fn text(alloc: Global, number: usize) -> Result<String, Fault> {
+    let room = if number % 100 == 0 { "a" } else { "b" };
+    let text = format!(in alloc; "{room}.{number}")?;
+    Ok(text)
+}
+
+/// The key of a number.
+pub fn key(alloc: Global, number: usize) -> Result<Key, Fault> {
+    let text = text(alloc, number)?;
+    let key = Key::parse(alloc, text.as_str())?;
+    Ok(key)
+}
+
+/// The keys of the numbers from one on, up to another.
+pub fn keys(alloc: Global, from: usize, to: usize) -> Result<Vec<Key>, Fault> {
+    let mut keys = Vec::new(alloc);
+    for number in from..to {
+        keys.push(key(alloc, number)?)?;
+    }
+    Ok(keys)
+}
+
+/// A number among so many, spread over them.
+pub fn place(turn: usize, count: usize) -> usize
+    ensures { 0 < count → result < count }
+{
+    if count == 0 {
+        return 0;
+    }
+    turn.wrapping_mul(STRIDE) % count
+}
+
+/// Some keys among so many, spread over them, in the order in which they are asked for.
+pub fn spread(alloc: Global, count: usize, asked: usize) -> Result<Vec<Key>, Fault> {
+    let mut keys = Vec::new(alloc);
+    for turn in 0..asked {
+        keys.push(key(alloc, place(turn, count))?)?;
+    }
+    Ok(keys)
+}
+
+/// A put to a key.
+pub fn put(alloc: Global, key: &Key) -> Result<Request, Fault> {
+    let key = key.copy(alloc)?;
+    let value = Vec::from_slice(alloc, VALUE)?;
+    Ok(Request::Put { key, value })
+}
+
+/// A delete of a key.
+pub fn delete(alloc: Global, key: &Key) -> Result<Request, Fault> {
+    let key = key.copy(alloc)?;
+    Ok(Request::Delete { key, last: None })
+}
+
+/// A put to each key.
+pub fn puts(alloc: Global, keys: &[Key]) -> Result<Vec<Request>, Fault> {
+    let mut requests = Vec::new(alloc);
+    for key in keys {
+        requests.push(put(alloc, key)?)?;
+    }
+    Ok(requests)
+}
+
+/// A delete of each key.
+pub fn deletes(alloc: Global, keys: &[Key]) -> Result<Vec<Request>, Fault> {
+    let mut requests = Vec::new(alloc);
+    for key in keys {
+        requests.push(delete(alloc, key)?)?;
+    }
+    Ok(requests)
+}
+
+/// The filter of a text, alone.
+pub fn one_filter(alloc: Global, text: &str) -> Result<Vec<Filter>, Fault> {
+    let mut filters = Vec::new(alloc);
+    filters.push(Filter::parse(alloc, text)?)?;
+    Ok(filters)
+}
+
+/// A filter for each key, which matches that key alone.
+pub fn filters_of(alloc: Global, keys: &[Key]) -> Result<Vec<Filter>, Fault> {
+    let mut filters = Vec::new(alloc);
+    for key in keys {
+        filters.push(Filter::parse(alloc, key.as_str())?)?;
+    }
+    Ok(filters)
+}

@@ -1,0 +1,106 @@
+-- Why a run ends early, and what it did where nothing was read.
+use Rattle.std.proofs.Common.{◌≡◌, ◌⊎◌, Bool, true, false, true≢false, cond, List, [], ℕ, Option, Result, Ok, Err, refl, sym, ap, subst, inl, inr}
+use Rattle.std.specs.Prelude.{⊤, IsOk, IsErr, IfErr, OnOk}
+use Rattle.std.specs.Result.{IsErrAnd}
+use Rattle.std.proofs.KnownBytes.{Consumes-nil, Appends-nil}
+use Rattle.kv_keys.specs.Grammar.{is_name}
+use Rattle.kv_keys.specs.Outcome.{Refuses}
+use Rattle.kv_keys.specs.declared.error.KvError.{KvError}
+use Rattle.kv_keys.specs.declared.error.KvError.TheVariants.{OutOfMemory, BadBucket, BadConfig, BadKey, BadFilter, OptionsClash, ValueTooLarge, Sealed, JournalFull, KeyExists, WrongLastRevision, KeyNotFound, NoSuchWatch, TooManyWatches, NoReader, BadCommand, ReadFault, WriteFault, BadFloor, WatchBehind, Lagged}
+use Rattle.kv_script.specs.declared.form.Form.{Form}
+use Rattle.kv_replay.specs.Faults.{IsRunFault, EndsRun}
+use Rattle.kv_replay.specs.Replaying.{Ran}
+use Rattle.kv_replay.specs.Text.{script_text}
+use Rattle.kv_replay.proofs.Progress.{starts}
+use Rattle.kv_model.specs.Configuration.{Configuration, configure, has_legal_numbers}
+
+-- want of memory or a failed device, under a legal configuration
+pub ends_run : {X : Type 0} (e : KvError) (outcome : Result X KvError) → IsRunFault e → IsOk outcome → EndsRun e outcome
+ends_run {X} OutOfMemory outcome fault legal = legal
+ends_run {X} BadBucket outcome fault legal = absurd fault
+ends_run {X} BadConfig outcome fault legal = absurd fault
+ends_run {X} BadKey outcome fault legal = absurd fault
+ends_run {X} BadFilter outcome fault legal = absurd fault
+ends_run {X} OptionsClash outcome fault legal = absurd fault
+ends_run {X} ValueTooLarge outcome fault legal = absurd fault
+ends_run {X} Sealed outcome fault legal = absurd fault
+ends_run {X} JournalFull outcome fault legal = absurd fault
+ends_run {X} KeyExists outcome fault legal = absurd fault
+ends_run {X} (WrongLastRevision last) outcome fault legal = absurd fault
+ends_run {X} KeyNotFound outcome fault legal = absurd fault
+ends_run {X} NoSuchWatch outcome fault legal = absurd fault
+ends_run {X} TooManyWatches outcome fault legal = absurd fault
+ends_run {X} NoReader outcome fault legal = absurd fault
+ends_run {X} BadCommand outcome fault legal = absurd fault
+ends_run {X} ReadFault outcome fault legal = legal
+ends_run {X} WriteFault outcome fault legal = legal
+ends_run {X} BadFloor outcome fault legal = absurd fault
+ends_run {X} (WatchBehind watch) outcome fault legal = absurd fault
+ends_run {X} (Lagged floor) outcome fault legal = absurd fault
+
+-- a refusal is want of memory, or the one that the rules give
+pub by_cause : {X : Type 0} (e : KvError) (outcome : Result X KvError) → Refuses e outcome → ((e ≡ OutOfMemory) × IsOk outcome) ⊎ (outcome ≡ Err e)
+by_cause {X} OutOfMemory outcome h = inl (refl, h)
+by_cause {X} BadBucket outcome h = inr h
+by_cause {X} BadConfig outcome h = inr h
+by_cause {X} BadKey outcome h = inr h
+by_cause {X} BadFilter outcome h = inr h
+by_cause {X} OptionsClash outcome h = inr h
+by_cause {X} ValueTooLarge outcome h = inr h
+by_cause {X} Sealed outcome h = inr h
+by_cause {X} JournalFull outcome h = inr h
+by_cause {X} KeyExists outcome h = inr h
+by_cause {X} (WrongLastRevision last) outcome h = inr h
+by_cause {X} KeyNotFound outcome h = inr h
+by_cause {X} NoSuchWatch outcome h = inr h
+by_cause {X} TooManyWatches outcome h = inr h
+by_cause {X} NoReader outcome h = inr h
+by_cause {X} BadCommand outcome h = inr h
+by_cause {X} ReadFault outcome h = inr h
+by_cause {X} WriteFault outcome h = inr h
+by_cause {X} BadFloor outcome h = inr h
+by_cause {X} (WatchBehind watch) outcome h = inr h
+by_cause {X} (Lagged floor) outcome h = inr h
+
+unfoldable pub error_of : {X : Type 0} → KvError → Result X KvError → KvError
+error_of {X} d (Ok x) = d
+error_of {X} d (Err e) = e
+
+abbrev refused : KvError → Result Configuration KvError
+refused e = Err e
+
+-- the rules refuse a configuration as BadBucket or as BadConfig, and as nothing else
+ends_refused : (config : Configuration) (named numbers : Bool) (e : KvError) → cond named (cond numbers (Ok config) (Err BadConfig)) (Err BadBucket) ≡ Err e
+    → EndsRun e (cond named (cond numbers (Ok config) (Err BadConfig)) (Err BadBucket))
+unfolding error_of
+ends_refused config true true e h = absurd (true≢false (sym (subst IsOk h refl)))
+ends_refused config true false e h = subst (λ x. EndsRun x (refused BadConfig)) (ap (error_of e) h) refl
+ends_refused config false numbers e h = subst (λ x. EndsRun x (refused BadBucket)) (ap (error_of e) h) refl
+
+pub ends_opening : (config : Configuration) (e : KvError) → Refuses e (configure config) → EndsRun e (configure config)
+ends_opening config e h = elim (by_cause e (configure config) h) [
+  | inl memory ↦ subst (λ x. EndsRun x (configure config)) (sym memory.0) memory.1
+  | inr cause ↦ ends_refused config (is_name config.bucket) (has_legal_numbers config) e cause
+]
+
+-- nothing was read, and nothing was written
+pub nothing_done : (form : Form) (config : Configuration) (unread held : Option (List ℕ)) (result : Result ⊤ KvError) → IsErr result → IfErr result (λ e. EndsRun e (configure config)) → Ran form config unread unread held held result
+nothing_done form config unread held (Ok done) bad fault = absurd (true≢false (sym bad))
+nothing_done form config unread held (Err e) bad fault = record {
+  ok = tt;
+  read_fault = λ _. record { input = []; read = Consumes-nil unread; written = Appends-nil held };
+  write_fault = λ _. record { input = []; read = Consumes-nil unread; text = []; begins = starts (script_text form config []) [] (script_text form config []) refl; written = Appends-nil held };
+  memory = λ _. record { input = []; read = Consumes-nil unread; text = []; begins = starts (script_text form config []) [] (script_text form config []) refl; whole = inl refl; written = Appends-nil held };
+  legal = tt;
+  fault = fault;
+}
+
+-- what is known of an error that is handed on
+pub handed_on : (result : Result ⊤ KvError) (e : KvError) (P : KvError → Type 0) → IsErrAnd result (λ x. x ≡ e) → P e → IfErr result P
+handed_on (Ok done) e P is p = tt
+handed_on (Err x) e P is p = subst P (sym is) p
+
+-- what holds anyway holds after a success
+pub on_ok : {P : Type 0} (result : Result ⊤ KvError) → P → OnOk result P
+on_ok {P} (Ok done) p = p
+on_ok {P} (Err e) p = tt

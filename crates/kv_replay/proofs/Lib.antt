@@ -1,0 +1,13 @@
+pub mod ByteByByte
+pub mod Counting
+pub mod Ending
+pub mod Lacking
+pub mod Parsing
+pub mod Pours
+pub mod Progress
+pub mod Reached
+pub mod Reading
+pub mod Taking
+pub mod TakingBytes
+pub mod Texts
+pub mod WholeLines

@@ -1,0 +1,36 @@
+use Rattle.std.proofs.Common.{sym, ◌∙◌, arith}
+use Rattle.kv_replay.proofs.Taking.{poured_all, poured_fault, poured_last, poured_none, poured_one}
+use Rattle.kv_replay.proofs.takes.pour_takes.Goals as goal
+
+pub loop-init : goal.loop-init
+loop-init g c = record {
+  same = g.met.K.Output.goes_on_itself _;
+  poured = λ state stands. poured_none state _ _ _ _ _ stands;
+}
+
+pub returns-in_err-pour_many-clause-write_fault : goal.returns-in_err-pour_many-clause-write_fault
+returns-in_err-pour_many-clause-write_fault g c = λ fault. (
+  g.met.K.Output.failed_later _ _ _ c.loop.invariant.same c.in_err-pour_many.ensures.failed,
+  λ state stands.
+      let so_far = c.loop.invariant.poured state stands in
+      let took = c.in_ok-goes_on.ensures.ok so_far.took.current so_far.took.stands in
+      poured_fault state _ _ _ _ _ _ _ _ so_far _ _ (omega arith) took.1.0 c.in_err-pour_many.ensures.err,
+)
+
+pub returns-then-not-goes_on-clause-ok : goal.returns-then-not-goes_on-clause-ok
+returns-then-not-goes_on-clause-ok g c = λ state stands.
+    let so_far = c.loop.invariant.poured state stands in
+    let took = c.in_ok-goes_on.ensures.ok so_far.took.current so_far.took.stands in
+    poured_last state _ _ _ _ _ _ _ _ so_far _ _ _ _ (omega arith) (sym took.0 ∙ c.if-not-goes_on.true) took.1.0 took.1.1 c.in_ok-pour_many.ensures.ok
+
+pub loop-preserved : goal.loop-preserved
+loop-preserved g c = record {
+  same = g.met.K.Output.goes_on_later _ _ _ c.loop.invariant.same c.in_ok-pour_many.ensures.same;
+  poured = λ state stands.
+      let so_far = c.loop.invariant.poured state stands in
+      let took = c.in_ok-goes_on.ensures.ok so_far.took.current so_far.took.stands in
+      poured_one state _ _ _ _ _ _ _ _ so_far _ _ _ _ (omega arith) (sym took.0 ∙ c.if-not-goes_on.false) took.1.0 took.1.1 c.in_ok-pour_many.ensures.ok;
+}
+
+pub returns-clause-ok : goal.returns-clause-ok
+returns-clause-ok g c = λ state stands. poured_all state _ _ _ _ _ _ _ _ (c.loop.invariant.poured state stands) (omega arith)

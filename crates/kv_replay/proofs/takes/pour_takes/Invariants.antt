@@ -1,0 +1,12 @@
+use Rattle.kv_bucket.specs.Held.{Represents}
+use Rattle.kv_model.specs.State.{State}
+use Rattle.kv_replay.proofs.Taking.{Poured}
+use Rattle.kv_replay.proofs.takes.pour_takes.Given as goal
+
+-- the sink is the same, and the takes so far were made and answered
+abbrev pub invariant-loop : goal.invariant-loop
+invariant-loop g l = record {
+  same : g.K.Output.goes_on l.initial.sink l.sink;
+  poured : (state : State) → Represents state l.initial.bucket
+      → Poured l.form state l.watch l.count l.counter (g.K.Output.held l.initial.sink) l.initial.out.items (g.K.Output.held l.sink) l.out.items l.bucket;
+}

@@ -1,0 +1,9 @@
+pub mod Bounds
+pub mod Failures
+pub mod Faults
+pub mod Lines
+pub mod Outcome
+pub mod Replaying
+pub mod Steps
+pub mod Text
+pub mod inside

@@ -1,0 +1,27 @@
+-- A whole replay under a configuration: its answer, and what it read and wrote.
+use Rattle.std.specs.Prelude.{◌≡◌, ⊤, ℕ, List, Option, Result, Ok, IfErr, IsErrOf, OnOk}
+use Rattle.kv_keys.specs.declared.error.KvError.{KvError}
+use Rattle.kv_keys.specs.declared.error.KvError.TheVariants.{OutOfMemory, ReadFault, WriteFault}
+use Rattle.kv_script.specs.declared.form.Form.{Form}
+use Rattle.kv_replay.specs.Faults.{EndsRun}
+use Rattle.kv_replay.specs.Outcome.{Replays, Breaks, Stops, StopsWhole}
+use Rattle.kv_replay.specs.Text.{script_text, whole_text}
+use Rattle.kv_model.specs.Configuration.{Configuration, configure}
+
+-- `unread` and `left` are the bytes that the source had and has, `held` and `holds` those of the sink, where they are known
+pub record Ran (form : Form) (config : Configuration) (unread left held holds : Option (List ℕ))
+    (result : Result ⊤ KvError) : Type 0 where
+  -- all was read, and its text was written
+  pub ok : OnOk result (Replays (script_text form config) (whole_text form config) unread left held holds)
+  -- the source failed, and the text of the lines that were whole by then was written
+  pub read_fault : IsErrOf result ReadFault → Breaks (script_text form config) (whole_text form config) unread left
+      held holds
+  -- the sink failed, and a beginning of the text of what was read was written
+  pub write_fault : IsErrOf result WriteFault → Stops (script_text form config) (whole_text form config) unread left
+      held holds
+  -- memory ran out, and whole lines of its beginning were written
+  pub memory : IsErrOf result OutOfMemory → StopsWhole (script_text form config) (whole_text form config) unread left
+      held holds
+  -- a configuration that is not legal is answered by its refusal, and a legal one by no refusal of it
+  pub legal : OnOk result (configure config ≡ Ok config)
+  pub fault : IfErr result (λ e. EndsRun e (configure config))

@@ -1,0 +1,174 @@
+//! The answer to one line.
+
+ghost use Rattle.std.specs.Prelude.{◌≡◌, ◌++◌, ℕ, [], Ok, OnOk, OnErr, IfErr, IsErrOf};
+ghost use Rattle.kv_bucket.specs.Held.{Represents};
+ghost use Rattle.kv_model.specs.State.{State};
+ghost use Rattle.kv_keys.specs.declared.error.KvError.TheVariants.{OutOfMemory};
+ghost use Rattle.kv_script.specs.Commands.{Take, line_command, meaning_of};
+ghost use Rattle.kv_script.specs.Text.{refusal_text};
+ghost use Rattle.kv_replay.specs.Faults.{IsRefusal, IsWriteOrMemory};
+ghost use Rattle.kv_replay.specs.Steps.{Does, EndsBetween, EndsEarly};
+ghost use Rattle.kv_replay.specs.Text.{line_steps, steps, steps_next, steps_text, takes};
+ghost use Rattle.kv_replay.specs.inside.Written.{Pours, PoursFront, Puts};
+
+use crate::output::Output;
+use crate::pouring::pour_many;
+use crate::reads::{
+    answer_get, answer_get_at, answer_history, answer_keys, answer_place, answer_status,
+};
+use crate::refusals::answer_refusal;
+use crate::takes::{answer_takes, pour_takes};
+use crate::watches::{answer_stop, answer_watch};
+use crate::writes::{answer_compact, answer_seal, answer_write};
+use kv_bucket::Bucket;
+use kv_keys::KvError;
+use kv_script::{Command, Form, is_skipped, parse};
+use std::alloc::Global;
+
+/// Does one command, and appends its answer lines.
+fn answer_command(
+    alloc: Global,
+    form: Form,
+    bucket: &mut Bucket,
+    command: &Command,
+    out: &mut Vec<u8>,
+) -> Result<(), KvError>
+    ensures ok { OnOk result ((state : State) → Represents state bucket.old →
+        Does state (steps form state (meaning_of command.now)) out.old.items out.new.items bucket.new) }
+    ensures err { OnErr result ((state : State) → Represents state bucket.old →
+        EndsEarly state (steps form state (meaning_of command.now)) out.old.items out.new.items bucket.new) }
+    ensures shown { OnErr result ((watch count : ℕ) → meaning_of command.now ≡ Take watch count → (state : State) →
+        Represents state bucket.old →
+        EndsBetween state (takes form watch count state) out.old.items out.new.items bucket.new) }
+    ensures memory { IfErr result (λ e. e ≡ OutOfMemory) }
+{
+    match command {
+        Command::Write(request) => answer_write(alloc, bucket, request, out),
+        Command::Get(key) => answer_get(alloc, form, bucket, key, out),
+        Command::GetAt(key, revision) => answer_get_at(alloc, form, bucket, key, *revision, out),
+        Command::History(key) => answer_history(alloc, form, bucket, key, out),
+        Command::Keys(filter) => answer_keys(alloc, bucket, filter, out),
+        Command::Watch(filters, options) => answer_watch(alloc, bucket, filters, *options, out),
+        Command::Take { watch, count } => answer_takes(alloc, form, bucket, *watch, *count, out),
+        Command::Stop(watch) => answer_stop(alloc, bucket, *watch, out),
+        Command::Status => answer_status(alloc, bucket, out),
+        Command::Seal => answer_seal(alloc, bucket, out),
+        Command::Compact(floor) => answer_compact(alloc, bucket, *floor, out),
+        Command::Place(key) => answer_place(alloc, key, out),
+    }
+}
+
+/// Answers a line without its end, and without the carriage return before that.
+///
+/// Values stand in the line and in its answers in this form. The answer lines are appended. After want of memory the first calls of the line were made, and these were answered
+/// but perhaps for the last. Only `take` makes more than one, and each that it made was answered.
+pub fn answer_line(
+    alloc: Global,
+    form: Form,
+    bucket: &mut Bucket,
+    line: &[u8],
+    out: &mut Vec<u8>,
+) -> Result<(), KvError>
+    ensures ok { OnOk result ((state : State) → Represents state bucket.old →
+        Does state (line_steps form state line.now) out.old.items out.new.items bucket.new) }
+    ensures err { OnErr result ((state : State) → Represents state bucket.old →
+        EndsEarly state (line_steps form state line.now) out.old.items out.new.items bucket.new) }
+    // Of takes none was made that was not shown.
+    ensures shown { OnErr result ((watch count : ℕ) → line_command form line.now ≡ Ok (Take watch count) →
+        (state : State) →
+        Represents state bucket.old →
+        EndsBetween state (takes form watch count state) out.old.items out.new.items bucket.new) }
+    ensures memory { IfErr result (λ e. e ≡ OutOfMemory) }
+{
+    if is_skipped(line) {
+        return Ok(());
+    }
+    match parse(alloc, form, line) {
+        Ok(command) => answer_command(alloc, form, bucket, &command, out),
+        Err(error) => answer_refusal(alloc, error, out),
+    }
+}
+
+/// Does one command. Its answers wait behind others, and are written where they are many.
+fn pour_command<K: Output>(
+    alloc: Global,
+    form: Form,
+    bucket: &mut Bucket,
+    command: &Command,
+    out: &mut Vec<u8>,
+    sink: &mut K,
+) -> Result<(), KvError>
+    ensures same { K.goes_on sink.old sink.new }
+    ensures ok { OnOk result ((state : State) → Represents state bucket.old →
+        Pours (steps_text (steps form state (meaning_of command.now))) (K.held sink.old) out.old.items
+        (K.held sink.new) out.new.items
+        × Represents (steps_next state (steps form state (meaning_of command.now))) bucket.new) }
+    ensures write_fault { IsErrOf result KvError.WriteFault →
+        K.failed_between sink.old sink.new × ((state : State) → Represents state bucket.old →
+        Puts (out.old.items ++ steps_text (steps form state (meaning_of command.now))) (K.held sink.old)
+        (K.held sink.new)) }
+    ensures memory { IsErrOf result KvError.OutOfMemory → (state : State) → Represents state bucket.old →
+        PoursFront (steps_text (steps form state (meaning_of command.now)))
+        (K.held sink.old) out.old.items (K.held sink.new) out.new.items }
+    ensures fault { IfErr result IsWriteOrMemory }
+{
+    if let Command::Take { watch, count } = command {
+        return pour_takes(alloc, form, bucket, *watch, *count, out, sink);
+    }
+    answer_command(alloc, form, bucket, command, out)?;
+    pour_many(out, sink)
+}
+
+/// Answers a refused line.
+fn pour_refusal<K: Output>(
+    alloc: Global,
+    error: KvError,
+    out: &mut Vec<u8>,
+    sink: &mut K,
+) -> Result<(), KvError>
+    ensures same { K.goes_on sink.old sink.new }
+    ensures cause { OnOk result (IsRefusal error) }
+    ensures ok { OnOk result (Pours (refusal_text error) (K.held sink.old) out.old.items
+        (K.held sink.new) out.new.items) }
+    ensures write_fault { IsErrOf result KvError.WriteFault →
+        K.failed_between sink.old sink.new × (IsRefusal error ×
+        Puts (out.old.items ++ refusal_text error) (K.held sink.old) (K.held sink.new)) }
+    ensures memory { IsErrOf result KvError.OutOfMemory →
+        Pours [] (K.held sink.old) out.old.items (K.held sink.new) out.new.items }
+    ensures fault { IfErr result IsWriteOrMemory }
+{
+    answer_refusal(alloc, error, out)?;
+    pour_many(out, sink)
+}
+
+/// Answers a line without its end, and without the carriage return before that. Its answers wait behind others, and
+/// are written where they are many: so they are no more at a time than 64 KiB and one answer.
+pub(crate) fn pour_line<K: Output>(
+    alloc: Global,
+    form: Form,
+    bucket: &mut Bucket,
+    line: &[u8],
+    out: &mut Vec<u8>,
+    sink: &mut K,
+) -> Result<(), KvError>
+    ensures same { K.goes_on sink.old sink.new }
+    ensures ok { OnOk result ((state : State) → Represents state bucket.old →
+        Pours (steps_text (line_steps form state line.now)) (K.held sink.old) out.old.items
+        (K.held sink.new) out.new.items
+        × Represents (steps_next state (line_steps form state line.now)) bucket.new) }
+    ensures write_fault { IsErrOf result KvError.WriteFault →
+        K.failed_between sink.old sink.new × ((state : State) → Represents state bucket.old →
+        Puts (out.old.items ++ steps_text (line_steps form state line.now)) (K.held sink.old) (K.held sink.new)) }
+    ensures memory { IsErrOf result KvError.OutOfMemory → (state : State) → Represents state bucket.old →
+        PoursFront (steps_text (line_steps form state line.now))
+        (K.held sink.old) out.old.items (K.held sink.new) out.new.items }
+    ensures fault { IfErr result IsWriteOrMemory }
+{
+    if is_skipped(line) {
+        return Ok(());
+    }
+    match parse(alloc, form, line) {
+        Ok(command) => pour_command(alloc, form, bucket, &command, out, sink),
+        Err(error) => pour_refusal(alloc, error, out, sink),
+    }
+}

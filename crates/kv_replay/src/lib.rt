@@ -1,0 +1,30 @@
+//! Scripts: each line is a command to a bucket, and each answer a line of JSON.
+#![tactic(auto)]
+
+mod answer;
+mod bounded_input;
+mod engine;
+mod failures;
+mod input;
+mod lines;
+mod output;
+mod pouring;
+mod reads;
+mod refusals;
+mod streams;
+mod takes;
+mod watches;
+mod writes;
+
+pub use answer::answer_line;
+pub use bounded_input::{Bounded, BoundedInput};
+pub use engine::{BUFFER_BYTES, new_buffer, run_script};
+pub use input::{CountedReader, Input};
+pub use kv_bucket::{
+    Bucket, Config, Filter, Filters, Key, KvError, Options, Reply, Request, Seen, Start, Version,
+    Write,
+};
+pub use kv_script::Form;
+pub use lines::KEPT_BYTES;
+pub use output::{CountedWriter, Output};
+pub use streams::{READ_CALLS, replay, replay_bounded};

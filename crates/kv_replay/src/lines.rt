@@ -1,0 +1,144 @@
+//! A script that is being read: the bucket so far, and the line that has begun.
+
+ghost use Rattle.std.specs.Prelude.{◌≡◌, ◌++◌, [], OnOk, IfErr, IsErrOf};
+ghost use Rattle.kv_model.specs.State.{State};
+ghost use Rattle.kv_replay.specs.Faults.{IsWriteOrMemory};
+ghost use Rattle.kv_replay.specs.inside.Reading.{Reading, step, said_by, after_bytes, said, ended, line_ended};
+ghost use Rattle.kv_replay.specs.inside.Scripted.{Holds};
+ghost use Rattle.kv_replay.specs.Text.{line_text, line_next};
+ghost use Rattle.kv_replay.specs.inside.Written.{Pours, PoursFront, Puts};
+
+use crate::answer::pour_line;
+use crate::output::Output;
+use kv_bucket::Bucket;
+use kv_keys::KvError;
+use kv_script::{Form, without_return};
+use std::alloc::Global;
+use std::marker::Model;
+
+/// How many bytes of a line are looked at. A longer one is no command, with or without a carriage return at its end.
+pub const KEPT_BYTES: usize = 1_400_001;
+
+/// A script that is being read.
+#[derive(Drop)]
+pub(crate) struct Script {
+    bucket: Bucket,
+    line: Vec<u8>,
+}
+
+impl Model for Script {
+    ghost use Rattle.kv_replay.specs.inside.Scripted.{Scripted};
+
+    ghost Value = { Scripted };
+
+    ghost view = { λ s. record { bucket = s.bucket; line = s.line.items } };
+}
+
+impl Script {
+    /// Before the first line.
+    pub(crate) fn new(alloc: Global, bucket: Bucket) -> Script
+        ensures bucket { result.bucket ≡ bucket }
+        ensures line { result.line ≡ [] }
+    {
+        Script {
+            bucket,
+            line: Vec::new(alloc),
+        }
+    }
+
+    /// Answers the line that has begun. Its answers wait behind others, and are written where they are many.
+    #[tactic(auto, unfolding(crate::specs::Text::line_text, crate::specs::Text::line_next))]
+    pub(crate) fn end_line<K: Output>(
+        &mut self,
+        alloc: Global,
+        form: Form,
+        out: &mut Vec<u8>,
+        sink: &mut K,
+    ) -> Result<(), KvError>
+        ensures same { K.goes_on sink.old sink.new }
+        ensures ok { OnOk result ((r : Reading State) → Holds r self.old →
+            Pours (ended KEPT_BYTES (line_text form) (line_next form) r)
+            (K.held sink.old) out.old.items (K.held sink.new) out.new.items
+            × Holds (line_ended KEPT_BYTES (line_text form) (line_next form) r) self.new) }
+        ensures write_fault { IsErrOf result KvError.WriteFault →
+            K.failed_between sink.old sink.new × ((r : Reading State) → Holds r self.old →
+            Puts (out.old.items ++ ended KEPT_BYTES (line_text form) (line_next form) r) (K.held sink.old)
+            (K.held sink.new)) }
+        ensures memory { IsErrOf result KvError.OutOfMemory → (r : Reading State) → Holds r self.old →
+            PoursFront (ended KEPT_BYTES (line_text form) (line_next form) r)
+            (K.held sink.old) out.old.items (K.held sink.new) out.new.items }
+        ensures fault { IfErr result IsWriteOrMemory }
+    {
+        pour_line(
+            alloc,
+            form,
+            &mut self.bucket,
+            without_return(&self.line),
+            out,
+            sink,
+        )?;
+        self.line.clear();
+        Ok(())
+    }
+
+    /// Takes one byte: a line feed ends the line.
+    fn take_byte<K: Output>(
+        &mut self,
+        alloc: Global,
+        form: Form,
+        byte: u8,
+        out: &mut Vec<u8>,
+        sink: &mut K,
+    ) -> Result<(), KvError>
+        ensures same { K.goes_on sink.old sink.new }
+        ensures ok { OnOk result ((r : Reading State) → Holds r self.old →
+            Pours (said_by KEPT_BYTES (line_text form) (line_next form) r byte)
+            (K.held sink.old) out.old.items (K.held sink.new) out.new.items
+            × Holds (step KEPT_BYTES (line_text form) (line_next form) r byte) self.new) }
+        ensures write_fault { IsErrOf result KvError.WriteFault →
+            K.failed_between sink.old sink.new × ((r : Reading State) → Holds r self.old →
+            Puts (out.old.items ++ said_by KEPT_BYTES (line_text form) (line_next form) r byte)
+            (K.held sink.old) (K.held sink.new)) }
+        ensures memory { IsErrOf result KvError.OutOfMemory → (r : Reading State) → Holds r self.old →
+            PoursFront (said_by KEPT_BYTES (line_text form) (line_next form) r byte)
+            (K.held sink.old) out.old.items (K.held sink.new) out.new.items }
+        ensures fault { IfErr result IsWriteOrMemory }
+    {
+        if byte == b'\n' {
+            return self.end_line(alloc, form, out, sink);
+        }
+        if self.line.len() <= KEPT_BYTES {
+            self.line.push(byte)?;
+        }
+        Ok(())
+    }
+
+    /// Takes the next bytes, and answers the lines that they end.
+    pub(crate) fn take_bytes<K: Output>(
+        &mut self,
+        alloc: Global,
+        form: Form,
+        bytes: &[u8],
+        out: &mut Vec<u8>,
+        sink: &mut K,
+    ) -> Result<(), KvError>
+        ensures same { K.goes_on sink.old sink.new }
+        ensures ok { OnOk result ((r : Reading State) → Holds r self.old →
+            Pours (said KEPT_BYTES (line_text form) (line_next form) r bytes.now)
+            (K.held sink.old) out.old.items (K.held sink.new) out.new.items
+            × Holds (after_bytes KEPT_BYTES (line_text form) (line_next form) r bytes.now) self.new) }
+        ensures write_fault { IsErrOf result KvError.WriteFault →
+            K.failed_between sink.old sink.new × ((r : Reading State) → Holds r self.old →
+            Puts (out.old.items ++ said KEPT_BYTES (line_text form) (line_next form) r bytes.now)
+            (K.held sink.old) (K.held sink.new)) }
+        ensures memory { IsErrOf result KvError.OutOfMemory → (r : Reading State) → Holds r self.old →
+            PoursFront (said KEPT_BYTES (line_text form) (line_next form) r bytes.now)
+            (K.held sink.old) out.old.items (K.held sink.new) out.new.items }
+        ensures fault { IfErr result IsWriteOrMemory }
+    {
+        for byte in bytes {
+            self.take_byte(alloc, form, *byte, out, sink)?;
+        }
+        Ok(())
+    }
+}

@@ -1,0 +1,7 @@
+//! Tests of calls that wait, and of followers that sleep. They use public calls alone.
+#![tactic(auto)]
+
+#[cfg(test)]
+mod sleepers;
+#[cfg(test)]
+mod waits;

@@ -1,0 +1,209 @@
+//! Tests of waits: what ends them, and what they answer. A row is run again where a request for memory ended it.
+
+ghost use Rattle.std.specs.Prelude.{◌≡◌};
+
+use kv_live::{
+    Config, Feed, Filters, Key, KvError, Live, LiveName, Opened, Options, Reader, Request, Start,
+    Version, Woken,
+};
+use std::alloc::Global;
+use std::marker::Brand;
+use std::process::Abort;
+use std::rt::Clock;
+use std::sync::Wait;
+use std::test::Fail;
+use std::time::Duration;
+
+const UPDATES: Options = Options {
+    start: Start::Updates,
+    ignore_deletes: false,
+    headers_only: false,
+};
+
+// Long enough for who doesn't wait, and short enough for a test.
+fn moment() -> Duration {
+    Duration::from_millis(20)
+}
+
+// What is run on an opening with one reader.
+#[derive(Clone, Copy)]
+enum Row {
+    Timeouts,
+    Ends,
+    Feeds,
+    Revisions,
+}
+
+fn run<R: Wait + Clock + Abort>(rt: &R, alloc: Global, row: Row) -> Result<(), KvError> {
+    match run_once(rt, alloc, row) {
+        Err(KvError::OutOfMemory) => run_once(rt, alloc, row),
+        done => done,
+    }
+}
+
+fn run_once<R: Wait + Clock + Abort>(rt: &R, alloc: Global, row: Row) -> Result<(), KvError> {
+    let opened = Live::open(alloc, &Config::named(alloc, "kv")?, 1)?;
+    run_on::<Brand, R>(rt, alloc, opened, row)
+}
+
+fn run_on<N: LiveName, R: Wait + Clock + Abort>(
+    rt: &R,
+    alloc: Global,
+    opened: Opened,
+    row: Row,
+) -> Result<(), KvError>
+    requires { opened.opening ≡ N.opening }
+{
+    let (live, readers) = opened.live::<N, R>(rt)?;
+    let done = run_over(rt, alloc, &live, readers, row);
+    live.close(rt);
+    done
+}
+
+fn run_over<N: LiveName, R: Wait + Clock + Abort>(
+    rt: &R,
+    alloc: Global,
+    live: &Live<N>,
+    mut readers: Vec<Reader<N>>,
+    row: Row,
+) -> Result<(), KvError> {
+    let Some(reader) = readers.pop() else {
+        return Err(KvError::NoReader);
+    };
+    match row {
+        Row::Timeouts => timeouts(rt, alloc, live, reader),
+        Row::Ends => ends(rt, alloc, live, reader),
+        Row::Feeds => feeds(rt, alloc, live, reader),
+        Row::Revisions => revisions(rt, alloc, live, reader),
+    }
+}
+
+fn put<N: LiveName, R: Wait>(rt: &R, alloc: Global, live: &Live<N>) -> Result<u64, KvError> {
+    let key = Key::parse(alloc, "app.port")?;
+    let value = Vec::from_slice(alloc, b"80")?;
+    live.write(rt, &Request::Put { key, value })
+}
+
+fn waits<N: LiveName, R: Wait + Clock + Abort>(rt: &R, reader: &Reader<N>, woken: Option<Woken>) {
+    assert_eq!(rt; reader.wait_timeout(rt, moment()), woken);
+}
+
+#[test]
+fn a_timeout_ends_a_wait(rt: HostRuntime) -> Result<(), Fail> {
+    run(&rt, rt.alloc(), Row::Timeouts)?;
+    Ok(())
+}
+
+// What is new goes before the end.
+fn timeouts<N: LiveName, R: Wait + Clock + Abort>(
+    rt: &R,
+    alloc: Global,
+    live: &Live<N>,
+    reader: Reader<N>,
+) -> Result<(), KvError> {
+    let mut reader = reader;
+    waits(rt, &reader, None);
+    put(rt, alloc, live)?;
+    waits(rt, &reader, Some(Woken::Changed));
+    reader.version()?;
+    waits(rt, &reader, None);
+    live.finish();
+    waits(rt, &reader, Some(Woken::Closed));
+    put(rt, alloc, live)?;
+    waits(rt, &reader, Some(Woken::Changed));
+    Ok(())
+}
+
+#[test]
+fn a_wait_ends_by_news_and_by_the_end(rt: HostRuntime) -> Result<(), Fail> {
+    run(&rt, rt.alloc(), Row::Ends)?;
+    Ok(())
+}
+
+// A seal is news, too.
+fn ends<N: LiveName, R: Wait + Abort>(
+    rt: &R,
+    alloc: Global,
+    live: &Live<N>,
+    reader: Reader<N>,
+) -> Result<(), KvError> {
+    let mut reader = reader;
+    put(rt, alloc, live)?;
+    assert_eq!(rt; reader.wait(rt), Woken::Changed);
+    reader.version()?;
+    live.seal(rt)?;
+    assert_eq!(rt; reader.wait(rt), Woken::Changed);
+    reader.version()?;
+    live.finish();
+    assert_eq!(rt; reader.wait(rt), Woken::Closed);
+    Ok(())
+}
+
+#[test]
+fn a_feed_waits_from_its_refresh_on(rt: HostRuntime) -> Result<(), Fail> {
+    run(&rt, rt.alloc(), Row::Feeds)?;
+    Ok(())
+}
+
+fn open_feed<N: LiveName>(reader: Reader<N>, filters: &Filters) -> Result<Feed<N>, KvError> {
+    match reader.watch(filters, UPDATES) {
+        Ok(feed) => Ok(feed),
+        Err((_, refusal)) => Err(refusal),
+    }
+}
+
+fn feeds<N: LiveName, R: Wait + Clock + Abort>(
+    rt: &R,
+    alloc: Global,
+    live: &Live<N>,
+    reader: Reader<N>,
+) -> Result<(), KvError> {
+    let mut feed = open_feed(reader, &Filters::parse(alloc, "app.>")?)?;
+    assert_eq!(rt; feed.wait_timeout(rt, moment()), None);
+    put(rt, alloc, live)?;
+    assert_eq!(rt; feed.wait(rt), Woken::Changed);
+    feed.refresh()?;
+    assert_eq!(rt; feed.wait_timeout(rt, moment()), None);
+    live.finish();
+    assert_eq!(rt; feed.wait(rt), Woken::Closed);
+    Ok(())
+}
+
+fn revision_of(found: Option<Version>) -> Option<u64> {
+    match found {
+        Some(version) => Some(version.revision()),
+        None => None,
+    }
+}
+
+fn finds<N: LiveName, R: Wait + Abort>(
+    rt: &R,
+    reader: &mut Reader<N>,
+    revision: u64,
+    found: Option<u64>,
+) -> Result<(), KvError> {
+    assert_eq!(rt; revision_of(reader.wait_for(rt, revision)?), found);
+    Ok(())
+}
+
+#[test]
+fn a_revision_is_waited_for_to_the_end(rt: HostRuntime) -> Result<(), Fail> {
+    run(&rt, rt.alloc(), Row::Revisions)?;
+    Ok(())
+}
+
+fn revisions<N: LiveName, R: Wait + Abort>(
+    rt: &R,
+    alloc: Global,
+    live: &Live<N>,
+    reader: Reader<N>,
+) -> Result<(), KvError> {
+    let mut reader = reader;
+    finds(rt, &mut reader, 0, Some(0))?;
+    put(rt, alloc, live)?;
+    put(rt, alloc, live)?;
+    finds(rt, &mut reader, 1, Some(2))?;
+    live.finish();
+    finds(rt, &mut reader, 3, None)?;
+    finds(rt, &mut reader, 2, Some(2))
+}
