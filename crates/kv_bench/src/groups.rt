@@ -14,10 +14,15 @@ use std::time::CpuClock;
 /// A group of figures.
 #[derive(Clone, Copy)]
 pub enum Group {
+    /// The calls of a bucket, on one thread.
     Calls,
+    /// Compactions.
     Compact,
+    /// Puts, gets and copies beside maps under a lock.
     Beside,
+    /// Memory for each key or write.
     Memory(memory::What),
+    /// Threads that read or follow beside one that writes.
     Threads(Task),
     /// All of them, and no figure is told.
     Check,

@@ -95,7 +95,8 @@ impl Round {
         Ok(())
     }
 
-    /// Pauses after a write, where there are pauses, and tells whether the time is over, at which it looks now and then.
+    /// Pauses after a write, where there are pauses, and tells whether the time is over, at which it looks now and
+    /// then.
     pub fn is_enough<R: Clock>(&self, rt: &R, turn: usize) -> Result<bool, Fault> {
         match self.task {
             Task::Read => Ok(turn % 128 == 127 && self.time(rt)? >= self.nanos),
@@ -108,8 +109,8 @@ impl Round {
     }
 }
 
-/// What a thread did: how often, in how many nanoseconds since the round began, how many of these a processor was at it,
-/// and when, where that is asked.
+/// What a thread did: how often, in how many nanoseconds since the round began, how many of these a processor was at
+/// it, and when, where that is asked.
 #[derive(Drop)]
 pub struct Done {
     pub count: usize,

@@ -8,7 +8,8 @@ use Rattle.kv_store.specs.Stored.{Stored}
 use Rattle.kv_watch.specs.Following.{Following, InReach, IsOpening}
 use Rattle.kv_model.specs.State.{State, Watch, open_at, open_count}
 
--- a watch that is held: its number, what the version was when it was opened, that version as long as it is kept, and its cursor
+-- a watch that is held: its number, what the version was when it was opened, that version as long as it is kept, and
+-- its cursor
 pub record Holding : Type 0 where
   pub number : ℕ
   pub base : Stored
@@ -21,7 +22,9 @@ pub record Bucketed : Type 0 where
   pub watches : List Holding
   pub opened : ℕ
 
--- what is held stands for an open watch: its cursor shows what the watch does, and is in reach for the version of its beginning and the present one, behind as many items as the watch was handed: so no open watch is behind the floor. The version of its beginning is kept as long as it owes initial entries
+-- what is held stands for an open watch: its cursor shows what the watch does, and is in reach for the version of its
+-- beginning and the present one, behind as many items as the watch was handed: so no open watch is behind the floor.
+-- The version of its beginning is kept as long as it owes initial entries
 pub record Follows (acts : List Act) (version : Stored) (holding : Holding) (watch : Watch) : Type 0 where
   pub filters : holding.cursor.filters ≡ watch.filters
   pub options : holding.cursor.options ≡ watch.options
@@ -42,7 +45,8 @@ IsHeld acts version (Some holding) None = ⊥
 IsHeld acts version None (Some watch) = ⊥
 IsHeld acts version (Some holding) (Some watch) = Follows acts version holding watch
 
--- a bucket represents a state: its version stands for the acts under the state's configuration, it has opened as many watches, and what it holds stands for those that are open, each once
+-- a bucket represents a state: its version stands for the acts under the state's configuration, it has opened as many
+-- watches, and what it holds stands for those that are open, each once
 pub record Represents (state : State) (bucket : Bucketed) : Type 0 where
   pub config : bucket.version.config ≡ state.config
   pub version : StandsFor state.acts bucket.version

@@ -28,9 +28,9 @@ fn lesser(least: Option<u64>, number: u64) -> u64
 }
 
 impl Bucket {
-    /// Compacts to the floor, as `Version::compact` says. `BadFloor` where its floor is bad; else `WatchBehind` with the
-    /// least number of a watch that has still to hand out an entry that came after its opening and is at or below the
-    /// floor; and only then want of memory. A refused compaction changes nothing.
+    /// Compacts to the floor, as `Version::compact` says. `BadFloor` where its floor is bad; else `WatchBehind` with
+    /// the least number of a watch that has still to hand out an entry that came after its opening and is at or below
+    /// the floor; and only then want of memory. A refused compaction changes nothing.
     pub fn compact(&mut self, floor: u64) -> Result<(), KvError>
         ensures ok { OnOk result (IsStep self.old (Compact floor) (Compacted floor) self.new) }
         ensures refused { IfErr result

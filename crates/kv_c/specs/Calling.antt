@@ -93,7 +93,8 @@ abbrev pub Refreshes : Option Stored → Option Content → Option Content → T
 Refreshes (Some v) (Some (Feed old)) (Some (Feed new)) = IsRefreshed v old new
 Refreshes of old new = ⊥
 
--- the code of a feed that is to go on: 36 where that version has fewer writes than its own, else 21 where it lags behind that one's floor
+-- the code of a feed that is to go on: 36 where that version has fewer writes than its own, else 21 where it lags
+-- behind that one's floor
 abbrev pub refreshed_code : List Act → List Act → ℕ → Stored → Fed → ℕ
 refreshed_code began acts n v f = if nat_le f.present.last v.last then
     (if lags v.floor began acts n f then 21 else 0) else 36

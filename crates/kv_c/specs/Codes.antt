@@ -18,7 +18,8 @@ abbrev pub code_by : {X : Type 0} → (X → ℕ) → Result X KvError → ℕ
 code_by {X} code (Ok x) = code x
 code_by {X} code (Err e) = code_of e
 
--- the number that a refusal tells: the key's last revision, the watch that is behind, or the floor that a feed lags behind
+-- the number that a refusal tells: the key's last revision, the watch that is behind, or the floor that a feed lags
+-- behind
 abbrev pub number_in : KvError → Option ℕ
 number_in (WrongLastRevision last) = Some last
 number_in (WatchBehind watch) = Some watch

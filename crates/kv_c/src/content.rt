@@ -10,9 +10,11 @@ use kv_bucket::{Bucket, Version};
 /// What a handle holds while it is open.
 #[derive(Drop)]
 pub enum Content {
+    /// A bucket of one thread.
     Bucket(Bucket),
     /// What a bucket had accepted by a moment.
     View(Version),
+    /// A watch over views.
     Feed(Feed),
 }
 

@@ -15,8 +15,8 @@ use std::alloc::Global;
 use std::marker::Model;
 use std::snapshot::Snapshot;
 
-/// A watch: the version that it was opened on, as contracts see it and as long as initial entries are owed, the one that
-/// it has gone on to, and how far it has come.
+/// A watch: the version that it was opened on, as contracts see it and as long as initial entries are owed, the one
+/// that it has gone on to, and how far it has come.
 #[derive(Drop)]
 pub struct Feed {
     base: Snapshot<Version>,

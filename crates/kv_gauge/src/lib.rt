@@ -1,5 +1,5 @@
-//! Measures a bucket of one thread: its calls, compactions and memory; with the keys, the clock and the lines of figures of
-//! whoever measures more.
+//! Measures a bucket of one thread: its calls, compactions and memory; with the keys, the clock and the lines of
+//! figures of whoever measures more.
 #![tactic(auto)]
 
 pub mod calls;

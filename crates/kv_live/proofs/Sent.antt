@@ -1,5 +1,7 @@
--- What may cross threads: a reader, a feed and a receipt may be handed to another, and a receipt and a bucket under its lock shared, where the name of its opening may. Whoever starts threads over them cites
--- these, and `Sent` of kv_store for versions; one `search` through the fields of them all finds no proof within its bounds.
+-- What may cross threads: a reader, a feed and a receipt may be handed to another, and a receipt and a bucket under its
+-- lock shared, where the name of its opening may. Whoever starts threads over them cites
+-- these, and `Sent` of kv_store for versions; one `search` through the fields of them all finds no proof within its
+-- bounds.
 use denote.RattleType.{RattleType}
 use denote.Param.Send.{IsSend, IsSync, sendable}
 use Rattle.std.proofs.Crossing.{crosses}

@@ -8,7 +8,8 @@ use Rattle.kv_model.specs.declared.options.Options.{Options}
 use Rattle.kv_model.specs.Given.{Item, given, is_behind}
 use Rattle.kv_live.specs.Known.{Known, IsUnread}
 
--- a feed: its reader, the acts when it was opened, those that its version stands for, what it matches and how it shows it, and how many items it handed out
+-- a feed: its reader, the acts when it was opened, those that its version stands for, what it matches and how it shows
+-- it, and how many items it handed out
 pub record Feeding : Type 0 where
   pub reader : Known
   pub began : List Act
@@ -25,7 +26,8 @@ given_by h feed = given h feed.began feed.acts feed.filters feed.options
 abbrev pub next_of : ℕ → Feeding → Option Item
 next_of h feed = slice_get (given_by h feed) feed.handed
 
--- a feed lags behind a floor where the floor is above the last revision of the feed's acts, or a live item at or below it is still to be handed out
+-- a feed lags behind a floor where the floor is above the last revision of the feed's acts, or a live item at or below
+-- it is still to be handed out
 abbrev pub lags : ℕ → ℕ → Feeding → Bool
 lags h floor feed = nat_lt (length (writes_of feed.acts)) floor || is_behind floor feed.handed h feed.began feed.acts
     feed.filters feed.options
@@ -34,7 +36,8 @@ lags h floor feed = nat_lt (length (writes_of feed.acts)) floor || is_behind flo
 abbrev pub HasSeenMore : Known → Known → Type 0
 HasSeenMore before after = IsPrefix before.seen after.seen × (after.told ≡ before.told)
 
--- a feed went on to all that its reader has seen by now, which begins with the feed's former acts and with all that the reader was told of; nothing else of it changed
+-- a feed went on to all that its reader has seen by now, which begins with the feed's former acts and with all that the
+-- reader was told of; nothing else of it changed
 pub record IsRefreshed (before after : Feeding) : Type 0 where
   pub reader : HasSeenMore before.reader after.reader
   pub grows : IsPrefix before.acts after.acts
@@ -64,7 +67,8 @@ abbrev pub after_item : Feeding → Option Item → Feeding
 after_item feed None = feed
 after_item feed (Some item) = record feed { handed = feed.handed + 1 }
 
--- a feed went on by refreshes, accepted or refused: to acts that begin with all that its reader was told of, if it went on at all; nothing else of it changed
+-- a feed went on by refreshes, accepted or refused: to acts that begin with all that its reader was told of, if it went
+-- on at all; nothing else of it changed
 pub record WentOn (before after : Feeding) : Type 0 where
   pub reader : HasSeenMore before.reader after.reader
   pub grows : IsPrefix before.acts after.acts
@@ -78,7 +82,8 @@ pub record HandsNext (h : ℕ) (before : Feeding) (item : Option Item) (after : 
   pub value : item ≡ next_of h went
   pub counts : after ≡ after_item went item
 
--- a call on a feed, and what it handed out: a refresh that was accepted or refused, a receipt that was learned, a take, or a `next`, which handed out an item or was refused
+-- a call on a feed, and what it handed out: a refresh that was accepted or refused, a receipt that was learned, a take,
+-- or a `next`, which handed out an item or was refused
 abbrev pub IsStep : ℕ → Feeding → Option Item → Feeding → Type 0
 IsStep h before item after =
     ((item ≡ None) × IsRefreshed before after)
@@ -88,7 +93,8 @@ IsStep h before item after =
     ⊎ (HandsNext h before item after
     ⊎ ((item ≡ None) × WentOn before after)))))
 
--- a feed went on to acts that begin with all that its reader was told of: by a refresh that was accepted, or by at least one act
+-- a feed went on to acts that begin with all that its reader was told of: by a refresh that was accepted, or by at
+-- least one act
 abbrev pub HasGoneOn : Feeding → Feeding → Type 0
 HasGoneOn before after = IsRefreshed before after ⊎ (WentOn before after × (length before.acts < length after.acts))
 
@@ -110,7 +116,8 @@ last_of feed (step ∷ steps) = last_of step.after steps
 abbrev pub items_of : List Step → List Item
 items_of steps = filter_map (λ step. step.item) steps
 
--- the watch theorem for a feed: what it handed out are, in order, the first items of what it is given from its beginning by the acts that it last went on to, and it counts them
+-- the watch theorem for a feed: what it handed out are, in order, the first items of what it is given from its
+-- beginning by the acts that it last went on to, and it counts them
 pub record HandsOut (h : ℕ) (feed : Feeding) (items : List Item) : Type 0 where
   pub prefix : IsPrefix feed.began feed.acts
   pub within : feed.handed ≤ length (given_by h feed)

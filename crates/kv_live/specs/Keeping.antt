@@ -14,7 +14,8 @@ use Rattle.kv_model.specs.Answers.{Answer}
 use Rattle.kv_bucket.specs.Held.{Bucketed, Represents}
 use Rattle.kv_model.specs.State.{State, Watch, after, answer_to, may_compact}
 
--- a bucket, the acts that are published of its opening, whether the store is open: then it shows these acts to the readers of the opening; and what the history has
+-- a bucket, the acts that are published of its opening, whether the store is open: then it shows these acts to the
+-- readers of the opening; and what the history has
 pub record Kept : Type 0 where
   pub bucket : Bucketed
   pub published : List Act
@@ -29,7 +30,8 @@ kept_of bucket posted = record {
   noted = posted.noted;
 }
 
--- a refused call leaves what lies under the lock as it was, but for the store, which may have ended where memory was refused: then the history has an act that is not published
+-- a refused call leaves what lies under the lock as it was, but for the store, which may have ended where memory was
+-- refused: then the history has an act that is not published
 abbrev pub IsLeft : Kept → KvError → Kept → Type 0
 IsLeft old error new = (new ≡ old) ⊎ ((error ≡ OutOfMemory) ×
     ((lost : Act) × (new ≡ record old { is_open = false; noted = old.published ++ lost ∷ [] })))
@@ -38,7 +40,8 @@ IsLeft old error new = (new ≡ old) ⊎ ((error ≡ OutOfMemory) ×
 abbrev pub StaysOpen : Kept → Kept → Type 0
 StaysOpen old new = (old.is_open ≡ true) × (new.is_open ≡ true)
 
--- the value under the lock is at a state of the model: its bucket represents it, and the acts of the state are those that are published
+-- the value under the lock is at a state of the model: its bucket represents it, and the acts of the state are those
+-- that are published
 pub record IsAt (state : State) (kept : Kept) : Type 0 where
   pub represents : Represents state kept.bucket
   pub published : kept.published ≡ state.acts

@@ -13,7 +13,8 @@ is_of revision EndMarker = false
 abbrev pub items_of_revision : ℕ → List Item → List Item
 items_of_revision revision items = filter (is_of revision) items
 
--- a feed owes a write that is the last of acts which it went on to, where it is live for the feed (behind the writes of its beginning), it matches, and it is shown
+-- a feed owes a write that is the last of acts which it went on to, where it is live for the feed (behind the writes of
+-- its beginning), it matches, and it is shown
 pub record Owes (feed : Feeding) (told : List Act) (w : Write) : Type 0 where
   pub reached : IsPrefix (told ++ Wrote w ∷ []) feed.acts
   pub live : length (writes_of feed.began) < w.revision

@@ -2,7 +2,8 @@
 use Rattle.std.specs.Prelude.{◌≡◌, ◌⊎◌, Bool, true, false, List, [], ◌∷◌, ◌++◌}
 use Rattle.kv_model.specs.Acts.{Act}
 
--- the acts that are published; whether the store is open: then it shows these acts to each reader of its opening; and what the history was last seen to have
+-- the acts that are published; whether the store is open: then it shows these acts to each reader of its opening; and
+-- what the history was last seen to have
 pub record Posted : Type 0 where
   pub acts : List Act
   pub is_open : Bool

@@ -56,6 +56,7 @@ fn what_woke(said: u64, noted: u64) -> Option<Woken> {
 }
 
 impl Bell {
+    /// A bell that has not rung. It costs an entry.
     pub fn new(alloc: Global) -> Result<Bell, KvError>
         ensures { IfErr result (λ e. e ≡ OutOfMemory) }
     {

@@ -68,6 +68,7 @@ impl<N: LiveName> Front<N> {
         }
     }
 
+    /// How many acts it has seen.
     pub fn len(&self) -> u64
         ensures { result ≡ length self.now }
     {

@@ -91,6 +91,7 @@ pub struct Blank {
 }
 
 impl Blank {
+    /// A history without acts, under a name of its own.
     pub fn new() -> Blank {
         let (sight, mut first, _second) = Seen::open(Start::alone(), 0, 0);
         Blank {
@@ -109,6 +110,7 @@ pub struct Head<N: LiveName> {
 }
 
 impl<N: LiveName> Head<N> {
+    /// The right end of the history that has this length.
     pub fn new(length: Length) -> Head<N>
         requires { length ≡ head_of N.opening.book }
     {

@@ -134,8 +134,8 @@ impl<N: LiveName> Keeper<N> {
         Ok(())
     }
 
-    /// Compacts to the floor, as `Bucket::compact` does, and publishes it. A watch of the bucket that is behind the floor
-    /// refuses it; a feed is told by its next refresh where it lags behind it.
+    /// Compacts to the floor, as `Bucket::compact` does, and publishes it. A watch of the bucket that is behind the
+    /// floor refuses it; a feed is told by its next refresh where it lags behind it.
     pub fn compact<R: Wait>(&mut self, rt: &R, floor: u64) -> Result<(), KvError>
         ensures ok { OnOk result (IsKeptStep self.old (Compact floor) (Compacted floor) self.new) }
         ensures refused { IfErr result
@@ -198,8 +198,8 @@ impl<N: LiveName> Keeper<N> {
         self.bucket.stop(number)
     }
 
-    /// Whether the store is open. It is from the opening on, and stays so until memory is refused to a write, a seal or a
-    /// compaction; nothing is published after that.
+    /// Whether the store is open. It is from the opening on, and stays so until memory is refused to a write, a seal or
+    /// a compaction; nothing is published after that.
     pub fn is_open(&self) -> bool
         ensures value { result ≡ self.now.is_open }
         ensures stands { IsOpenUnlessLost self.now.is_open self.now.published self.now.noted }

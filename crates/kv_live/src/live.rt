@@ -160,7 +160,8 @@ fn write_and_tell<N: LiveName, R: Wait>(
     Ok((revision, keeper.receipt()))
 }
 
-// Compacts. What is answered is what the rules give at a state of the acts that were published before, which are lawful.
+// Compacts. What is answered is what the rules give at a state of the acts that were published before, which are
+// lawful.
 fn compact_on<N: LiveName, R: Wait>(
     rt: &R,
     keeper: &mut Keeper<N>,

@@ -32,6 +32,7 @@ impl Model for Shelf {
 }
 
 impl Shelf {
+    /// A version, with the beginning of the history that it stands for.
     pub fn new(version: Version, glimpse: Glimpse) -> Shelf
         requires { StandsFor glimpse.sight.log version }
         ensures { result ≡ record { version = version; glimpse = glimpse } }
@@ -39,7 +40,7 @@ impl Shelf {
         Shelf { version, glimpse }
     }
 
-    /// Its parts.
+    /// The version.
     pub fn version(&self) -> &Version
         ensures value { result.now ≡ self.now.version }
         ensures stands { StandsFor self.now.glimpse.sight.log self.now.version }
@@ -47,12 +48,14 @@ impl Shelf {
         &self.version
     }
 
+    /// The beginning of the history that the version stands for.
     pub fn glimpse(&self) -> &Glimpse
         ensures { result.now ≡ self.now.glimpse }
     {
         &self.glimpse
     }
 
+    /// The version, which leaves the rest behind.
     pub fn into_version(self) -> Version
         ensures value { result ≡ self.version }
         ensures stands { StandsFor self.glimpse.sight.log self.version }

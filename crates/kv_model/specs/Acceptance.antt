@@ -29,7 +29,8 @@ abbrev pub unless_last_or_none : Option ℕ → List ℕ → List Act → Option
 unless_last_or_none None key acts = None
 unless_last_or_none (Some revision) key acts = unless_last revision key acts
 
--- why the key does not allow it, if it doesn't: a create asks that it has no value, an update that this is its last revision, and so do a delete and a purge with a revision
+-- why the key does not allow it, if it doesn't: a create asks that it has no value, an update that this is its last
+-- revision, and so do a delete and a purge with a revision
 abbrev pub objection : Asked → List Act → Option KvError
 objection (put key value) acts = None
 objection (create key value) acts = if has_value key acts then Some KeyExists else None

@@ -7,7 +7,8 @@ use Rattle.kv_model.specs.Retained.{is_kept}
 abbrev pub is_stored : ℕ → List Act → Write → Bool
 is_stored h acts w = nat_lt (floor_of acts) w.revision || is_kept h (when_compacted acts) w
 
--- the stored writes: the accepted ones above the floor, and of those at or below it the ones that were retained when the last compaction was made
+-- the stored writes: the accepted ones above the floor, and of those at or below it the ones that were retained when
+-- the last compaction was made
 abbrev pub stored_writes : ℕ → List Act → List Write
 stored_writes h acts = filter (is_stored h acts) (writes_of acts)
 

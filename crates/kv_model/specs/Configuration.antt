@@ -11,7 +11,8 @@ pub record Configuration : Type 0 where
   pub write_limit : ℕ
   pub revision_limit : ℕ
 
--- 1 to 64 entries of a key are kept, a value has up to 1,048,576 bytes, 1 to 1,000,000 writes are stored, and the last revision is 1 to 4,294,967,295
+-- 1 to 64 entries of a key are kept, a value has up to 1,048,576 bytes, 1 to 1,000,000 writes are stored, and the last
+-- revision is 1 to 4,294,967,295
 abbrev pub has_legal_numbers : Configuration → Bool
 has_legal_numbers config =
     (nat_le 1 config.history && nat_le config.history 64)

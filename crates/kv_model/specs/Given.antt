@@ -60,7 +60,8 @@ ending History = EndMarker ∷ []
 ending Updates = []
 ending (From revision) = EndMarker ∷ []
 
--- what a watch is given that began after the acts `began`, once there are the acts `acts`: the shown initial entries, the end marker, and the shown matching writes after those of its beginning
+-- what a watch is given that began after the acts `began`, once there are the acts `acts`: the shown initial entries,
+-- the end marker, and the shown matching writes after those of its beginning
 abbrev pub given : ℕ → List Act → List Act → List (List ℕ) → Options → List Item
 given h began acts filters options =
     all_shown options (matching filters (initial h options.start began))
@@ -79,7 +80,8 @@ abbrev pub has_live_below : ℕ → ℕ → List Item → Bool
 has_live_below beginning floor items = list_any (λ revision. nat_lt beginning revision && nat_le revision floor)
     (item_revisions items)
 
--- a watch that was handed so many items is behind a floor where a live item at or below the floor is still to be handed out
+-- a watch that was handed so many items is behind a floor where a live item at or below the floor is still to be handed
+-- out
 abbrev pub is_behind : ℕ → ℕ → ℕ → List Act → List Act → List (List ℕ) → Options → Bool
 is_behind floor handed h began acts filters options =
     has_live_below (length (writes_of began)) floor (drop handed (given h began acts filters options))

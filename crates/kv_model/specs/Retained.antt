@@ -9,7 +9,8 @@ use Rattle.kv_model.specs.Acts.{Act, Wrote, Seal, Compact, Write, is_put, is_pur
 abbrev pub is_cleared : ℕ → List Write → Bool
 is_cleared floor ws = option_map_or (λ w. not (is_put w.op) && nat_le w.revision floor) (last_or None ws) false
 
--- the writes of a key behind one more act: a write of the key comes behind them, and a compaction that clears the key leaves none
+-- the writes of a key behind one more act: a write of the key comes behind them, and a compaction that clears the key
+-- leaves none
 abbrev pub writes_after : List ℕ → List Write → Act → List Write
 writes_after key ws (Wrote w) = if bytes_eq w.key key then ws ++ w ∷ [] else ws
 writes_after key ws Seal = ws
@@ -20,7 +21,8 @@ abbrev pub writes_from : List ℕ → List Write → List Act → List Write
 writes_from key ws [] = ws
 writes_from key ws (act ∷ acts) = writes_from key (writes_after key ws act) acts
 
--- the writes of a key, in order, behind the last compaction that cleared it: a cleared key is as one that was never written
+-- the writes of a key, in order, behind the last compaction that cleared it: a cleared key is as one that was never
+-- written
 abbrev pub writes_of_key : List ℕ → List Act → List Write
 writes_of_key key acts = writes_from key [] acts
 
@@ -28,7 +30,8 @@ writes_of_key key acts = writes_from key [] acts
 abbrev pub last_write : List ℕ → List Act → Option Write
 last_write key acts = last_or None (writes_of_key key acts)
 
--- the last revision of a key: that of its last write, 0 where it was never written, or was cleared and not written since
+-- the last revision of a key: that of its last write, 0 where it was never written, or was cleared and not written
+-- since
 abbrev pub last_revision : List ℕ → List Act → ℕ
 last_revision key acts = option_map_or (λ w. w.revision) (last_write key acts) 0
 

@@ -15,7 +15,8 @@ use Rattle.kv_model.specs.declared.call.Call.{Call}
 use Rattle.kv_model.specs.declared.call.Call.TheVariants as calls
 use Rattle.kv_model.specs.Answers.{Answer, Revision, Sealed, AnsweredEntry, Entries, Keys, Numbers, Watching, Ended, Compacted, Refused, answer_item}
 
--- a watch: the acts when it was opened, what it matches and how it shows it, how many items were handed out, and whether it is open
+-- a watch: the acts when it was opened, what it matches and how it shows it, how many items were handed out, and
+-- whether it is open
 pub record Watch : Type 0 where
   pub began : List Act
   pub filters : List (List ℕ)

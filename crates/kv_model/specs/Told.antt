@@ -32,7 +32,8 @@ IsOther number (ask.Take asked) = asked ≡ number → ⊥
 IsOther number (ask.Stop asked) = asked ≡ number → ⊥
 IsOther number call = ⊤
 
--- how a watch goes on: it keeps its beginning, its filters and its options, its count never falls, and once it is stopped it stays so and counts no more
+-- how a watch goes on: it keeps its beginning, its filters and its options, its count never falls, and once it is
+-- stopped it stays so and counts no more
 pub record GoesOn (before watch : Watch) : Type 0 where
   pub began : watch.began ≡ before.began
   pub filters : watch.filters ≡ before.filters
@@ -41,7 +42,10 @@ pub record GoesOn (before watch : Watch) : Type 0 where
   pub stays_stopped : before.is_open ≡ false → watch.is_open ≡ false
   pub counts_no_more : before.is_open ≡ false → watch.handed ≡ before.handed
 
--- the watch theorem for one watch, which one of the calls opened when the acts were `began`: among the answers, the items from its takes are, in order, the first of what it is given by the acts so far; where a take is answered Empty, they are all of what it is given by then; it counts them; a stop of it answers how many they are, and none comes after; and no entry comes twice, since the revisions of the entries rise where the acts are lawful
+-- the watch theorem for one watch, which one of the calls opened when the acts were `began`: among the answers, the
+-- items from its takes are, in order, the first of what it is given by the acts so far; where a take is answered Empty,
+-- they are all of what it is given by then; it counts them; a stop of it answers how many they are, and none comes
+-- after; and no entry comes twice, since the revisions of the entries rise where the acts are lawful
 pub record TellsOpened (s : State) (calls : List Call) (answers : List Answer) (began : List Act)
     (filters : List (List ℕ)) (options : Options) (number : ℕ) : Type 0 where
   pub prefix : IsPrefix (items_for number calls answers)
@@ -64,7 +68,10 @@ TellsEachWatch s calls answers = (before later : List Call) (filters : List (Lis
     calls ≡ before ++ ask.Watch filters options ∷ later → slice_get answers (length before) ≡ Some (Watching number) →
     TellsOpened s calls answers (run s before).acts filters options number
 
--- the watch theorem for one watch that was there before the calls: among the answers, the items from its takes are, in order, the next of what it is given by the acts so far, behind those that it counted before; where a take is answered Empty, none is left by then; it counts them on; a stop of it answers the count, and none comes after; and no entry comes twice
+-- the watch theorem for one watch that was there before the calls: among the answers, the items from its takes are, in
+-- order, the next of what it is given by the acts so far, behind those that it counted before; where a take is answered
+-- Empty, none is left by then; it counts them on; a stop of it answers the count, and none comes after; and no entry
+-- comes twice
 pub record TellsOn (s : State) (calls : List Call) (answers : List Answer) (number : ℕ) (watch : Watch) : Type 0 where
   pub prefix : IsPrefix (items_for number calls answers)
       (drop watch.handed (given_to s.config.history (run s calls).acts watch))

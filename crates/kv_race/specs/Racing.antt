@@ -36,13 +36,15 @@ is_at revision EndMarker = false
 abbrev pub shown_alone : List (List ℕ) → Options → Write → List Item
 shown_alone filters options w = all_shown options (matching filters (w ∷ []))
 
--- where a request was answered by a revision, the items of that revision are what the watch shows of the request's own write: one entry or none, and nothing else
+-- where a request was answered by a revision, the items of that revision are what the watch shows of the request's own
+-- write: one entry or none, and nothing else
 abbrev pub IsSeen : List (List ℕ) → Options → List Item → Asked → Result ℕ KvError → Type 0
 IsSeen filters options items request (Ok revision) = filter (is_at revision) items ≡ shown_alone filters options
     (written_by request revision)
 IsSeen filters options items request (Err error) = ⊤
 
--- where a request was answered by a revision, the write of that revision is the request's own; a refusal is one that the rules give after some lawful acts, or memory ran out
+-- where a request was answered by a revision, the write of that revision is the request's own; a refusal is one that
+-- the rules give after some lawful acts, or memory ran out
 abbrev pub IsWritten : Configuration → List Act → Asked → Result ℕ KvError → Type 0
 IsWritten config acts request (Ok revision) = accepted_at revision acts ≡ Some (written_by request revision)
 IsWritten config acts request (Err error) = RefusedSomewhere config request error
@@ -59,13 +61,15 @@ revisions_in replies = flat_map (filter_map result_ok) replies
 abbrev pub AreNumbered : List (List (Result ℕ KvError)) → ℕ → Type 0
 AreNumbered replies writes = IsPermutation (revisions_in replies) (range_with_len 1 writes)
 
--- what a watch saw, which began on the empty bucket: all that it is given by these acts; and of each reply's write just what it shows of it
+-- what a watch saw, which began on the empty bucket: all that it is given by these acts; and of each reply's write just
+-- what it shows of it
 pub record IsWatched (config : Configuration) (acts : List Act) (scripts : List (List Asked))
     (replies : List (List (Result ℕ KvError))) (watch : List (List ℕ) × Options) (seen : List Answer) : Type 0 where
   pub all : seen ≡ map reply_to (given config.history [] acts watch.0 watch.1)
   pub once : EachReply (IsSeen watch.0 watch.1 (given config.history [] acts watch.0 watch.1)) scripts replies
 
--- a race: one reply for each request, one list of items for each watch, and one list of acts. The last version stands for it. Its writes are those of the replies, each once and no other, and each watch saw all that it is given by it
+-- a race: one reply for each request, one list of items for each watch, and one list of acts. The last version stands
+-- for it. Its writes are those of the replies, each once and no other, and each watch saw all that it is given by it
 pub record IsRaced (config : Configuration) (scripts : List (List Asked)) (watches : List (List (List ℕ) × Options))
     (replies : List (List (Result ℕ KvError))) (seen : List (List Answer)) (version : Stored) : Type 0 where
   pub same_config : version.config ≡ config

@@ -16,7 +16,8 @@ use Rattle.kv_race.specs.Watching.{Are}
 abbrev pub Answered : Type 0
 Answered = Result (ℕ × List Act) KvError
 
--- an accepted request was published at the revision answered, and the receipt tells the acts up to its write; a refused one was refused by the rules after some lawful acts
+-- an accepted request was published at the revision answered, and the receipt tells the acts up to its write; a refused
+-- one was refused by the rules after some lawful acts
 abbrev pub IsTold : Configuration → Asked → Answered → Type 0
 IsTold config request (Ok told) = (before : List Act) × PublishesWrite config request told.0 before told.1
 IsTold config request (Err error) = RefusedSomewhere config request error
@@ -30,7 +31,8 @@ reply_of (Err error) = Err error
 abbrev pub Begin : List Act → List Answered → Type 0
 Begin acts answers = All (λ answer. IfOk answer (λ told. IsPrefix told.1 acts)) answers
 
--- a feed was followed: it is the same watch, and where it had handed out nothing, all that it has handed out by now was written down
+-- a feed was followed: it is the same watch, and where it had handed out nothing, all that it has handed out by now was
+-- written down
 pub record IsFollowed (h : ℕ) (before after : Feeding) (seen : List Reply) : Type 0 where
   pub began : after.began ≡ before.began
   pub filters : after.filters ≡ before.filters
@@ -48,7 +50,8 @@ pub record IsShown (config : Configuration) (answers : List (List Answered)) (ac
   pub stands : StandsFor acts version
   pub told : BeginAll acts answers
 
--- a watch has ended with a version: where all that it had handed out was written down, all that it is given by the version's acts is now
+-- a watch has ended with a version: where all that it had handed out was written down, all that it is given by the
+-- version's acts is now
 pub record IsEnded (config : Configuration) (answers : List (List Answered)) (feed : Feeding) (before : List Reply)
     (acts : List Act) (version : Stored) (seen : List Reply) : Type 0 where
   pub shown : IsShown config answers acts version

@@ -4,7 +4,8 @@ use Rattle.kv_keys.specs.declared.error.KvError.{KvError}
 use Rattle.kv_model.specs.Requests.{Asked}
 
 module _ {D T : Type 0} (may_answer : D → Asked → Result (ℕ × T) KvError → D → Type 0) where
-  -- all requests were written to a desk, in order and each once: each got one of these answers, and what it left is this desk
+  -- all requests were written to a desk, in order and each once: each got one of these answers, and what it left is
+  -- this desk
   abbrev pub Works : D → List Asked → List (Result (ℕ × T) KvError) → D → Type 0
   Works desk [] [] left = left ≡ desk
   Works desk [] (answer ∷ answers) left = ⊥

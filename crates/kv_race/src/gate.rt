@@ -3,15 +3,19 @@
 /// A thread of a race: the worker or the watcher of a number, from 0.
 #[derive(Clone, Copy, Debug, PartialEq, Eq)]
 pub enum Who {
+    /// It writes.
     Worker(usize),
+    /// It follows a watch.
     Watcher(usize),
 }
 
 /// Stands before and after each write of a worker and each round of a watcher, `n` of which counts from 0 for each of
 /// them. A test can wait in it for other threads; how long a race then takes is the gate's affair.
 pub trait Gate: Sync {
+    /// Just before that write, or that round.
     fn before(&self, who: Who, n: u64);
 
+    /// Just after it.
     fn after(&self, who: Who, n: u64);
 }
 

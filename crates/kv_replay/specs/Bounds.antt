@@ -2,7 +2,8 @@
 use Rattle.std.specs.Prelude.{◌≡◌, ◌≤◌, ◌⊎◌, ℕ}
 use Rattle.std.proofs.Common.{inl, inr, arith, ◌∙◌}
 
--- between two moments, at which a reader was asked and may still be asked so many times in all: that number never grows, and it stays unless the reader failed between them
+-- between two moments, at which a reader was asked and may still be asked so many times in all: that number never
+-- grows, and it stays unless the reader failed between them
 pub record Counts (failed : Type 0) (before after : ℕ) : Type 0 where
   pub at_most : after ≤ before
   pub exact : failed ⊎ (after ≡ before)

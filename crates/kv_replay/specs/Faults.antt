@@ -9,7 +9,8 @@ IsWriteOrMemory OutOfMemory = ⊤
 IsWriteOrMemory WriteFault = ⊤
 IsWriteOrMemory error = ⊥
 
--- why a run ends early under a configuration of this outcome: its refusal, and nothing else, where it is not legal; else want of memory, or a device that failed
+-- why a run ends early under a configuration of this outcome: its refusal, and nothing else, where it is not legal;
+-- else want of memory, or a device that failed
 abbrev pub EndsRun : {X : Type 0} → KvError → Result X KvError → Type 0
 EndsRun {X} OutOfMemory outcome = IsOk outcome
 EndsRun {X} BadBucket outcome = outcome ≡ Err BadBucket

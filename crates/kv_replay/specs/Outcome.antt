@@ -1,4 +1,5 @@
--- What a replay did: `unread` and `left` are the bytes that the source had and has, `held` and `holds` those of the sink, where they are known.
+-- What a replay did: `unread` and `left` are the bytes that the source had and has, `held` and `holds` those of the
+-- sink, where they are known.
 use Rattle.std.specs.Prelude.{◌≡◌, ◌⊎◌, ℕ, List, [], ◌∷◌, ◌++◌, Option}
 use Rattle.std.specs.Io.{StartsWith}
 use Rattle.std.specs.Io.KnownBytes.{Appends, Consumes, IsAtEnd}

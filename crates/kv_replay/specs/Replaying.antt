@@ -8,7 +8,8 @@ use Rattle.kv_replay.specs.Outcome.{Replays, Breaks, Stops, StopsWhole}
 use Rattle.kv_replay.specs.Text.{script_text, whole_text}
 use Rattle.kv_model.specs.Configuration.{Configuration, configure}
 
--- `unread` and `left` are the bytes that the source had and has, `held` and `holds` those of the sink, where they are known
+-- `unread` and `left` are the bytes that the source had and has, `held` and `holds` those of the sink, where they are
+-- known
 pub record Ran (form : Form) (config : Configuration) (unread left held holds : Option (List ℕ))
     (result : Result ⊤ KvError) : Type 0 where
   -- all was read, and its text was written

@@ -8,7 +8,8 @@ use Rattle.kv_replay.specs.Text.{Step, steps_text, steps_next}
 abbrev pub Does : State → List Step → List ℕ → List ℕ → Bucketed → Type 0
 Does state steps before now bucket = (now ≡ before ++ steps_text steps) × Represents (steps_next state steps) bucket
 
--- the first calls were made, and these were answered, but perhaps for the last of them; where there are calls, one has no answer
+-- the first calls were made, and these were answered, but perhaps for the last of them; where there are calls, one has
+-- no answer
 pub record EndsEarly (state : State) (steps : List Step) (before now : List ℕ) (bucket : Bucketed) : Type 0 where
   pub answered : ℕ
   pub made : ℕ

@@ -1,4 +1,5 @@
--- The text of a whole script: each line is read, done on the state that the lines before it left, and answered, where values stand in lines and answers in one form.
+-- The text of a whole script: each line is read, done on the state that the lines before it left, and answered, where
+-- values stand in lines and answers in one form.
 use Rattle.std.specs.Prelude.{ℕ, suc, zero, Bool, true, false, if◌then◌else◌, List, [], ◌∷◌, Result, Ok, Err}
 use Rattle.std.specs.Io.BufRead.{strip_last}
 use Rattle.std.specs.List.{flat_map}

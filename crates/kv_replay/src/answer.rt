@@ -60,8 +60,9 @@ fn answer_command(
 
 /// Answers a line without its end, and without the carriage return before that.
 ///
-/// Values stand in the line and in its answers in this form. The answer lines are appended. After want of memory the first calls of the line were made, and these were answered
-/// but perhaps for the last. Only `take` makes more than one, and each that it made was answered.
+/// Values stand in the line and in its answers in this form. The answer lines are appended. After want of memory the
+/// first calls of the line were made, and these were answered but perhaps for the last. Only `take` makes more than
+/// one, and each that it made was answered.
 pub fn answer_line(
     alloc: Global,
     form: Form,

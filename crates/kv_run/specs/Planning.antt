@@ -10,7 +10,8 @@ use Rattle.kv_script.specs.Commands.{Meaning, Write, Watch, is_skipped, line_com
 use Rattle.kv_script.specs.declared.form.Form.{Form}
 use Rattle.kv_script.specs.Text.{refusal_text}
 
--- the most writes that it takes; the answers to the lines that are refused, and the writes and the watches that the others ask for, each in the order of the lines
+-- the most writes that it takes; the answers to the lines that are refused, and the writes and the watches that the
+-- others ask for, each in the order of the lines
 pub record Planned : Type 0 where
   pub most : ℕ
   pub refused : List ℕ

@@ -1,4 +1,5 @@
--- What a status of the program says: `unread` and `left` are the bytes that the reader had and has, `held` and `holds` those of the writer, where they are known.
+-- What a status of the program says: `unread` and `left` are the bytes that the reader had and has, `held` and `holds`
+-- those of the writer, where they are known.
 use Rattle.std.specs.Prelude.{◌≡◌, ◌≢◌, ◌⊎◌, ⊤, ℕ, List, [], ◌∷◌, ◌++◌, take, codes, Option, Some, None, Result, Ok, Err}
 use Rattle.std.specs.Io.KnownBytes.{Appends}
 use Rattle.clap.specs.Kinds.{IsAmong, Kinds}
@@ -67,7 +68,8 @@ module _ (kinds : Kinds) (form : Form) (race : Option ℕ) (config : Configurati
         (kinds ≡ []) × ((RanAs form race config unread left held holds (Err error) × (status_of error ≡ 1))
         × ((error ≡ ReadFault → ReaderFailed) × (error ≡ WriteFault → WriterFailed)))
 
-    -- why it ended early: the run ended, the writer failed while a text was shown, or memory ran out before anything was read or written
+    -- why it ended early: the run ended, the writer failed while a text was shown, or memory ran out before anything
+    -- was read or written
     abbrev pub EndsBy : KvError → Type 0
     EndsBy error =
         RunEnds error

@@ -1,4 +1,5 @@
--- What a race over a script did: `unread` and `left` are the bytes that the source had and has, `held` and `holds` those of the sink, where they are known.
+-- What a race over a script did: `unread` and `left` are the bytes that the source had and has, `held` and `holds`
+-- those of the sink, where they are known.
 use Rattle.std.specs.Prelude.{◌≡◌, ◌⊎◌, ⊤, ℕ, List, [], ◌++◌, Option, Result, Ok, Err, IsOk, OnOk, OnErr, IfErr, IsErrOf}
 use Rattle.std.specs.Io.{StartsWith}
 use Rattle.std.specs.Io.KnownBytes.{Appends, Consumes, IsAtEnd}
@@ -23,7 +24,8 @@ no_text plan line = []
 abbrev pub plan_of : Form → Configuration → List ℕ → Planned
 plan_of form config input = planned form config.write_limit (lines_of input)
 
--- a text of a plan: the answers to its refused lines, and then what a race of its dealt requests and its watches answered
+-- a text of a plan: the answers to its refused lines, and then what a race of its dealt requests and its watches
+-- answered
 pub record IsTextOf (form : Form) (config : Configuration) (workers : ℕ) (plan : Planned) (text : List ℕ) : Type 0 where
   pub replies : List (List (Result ℕ KvError))
   pub seen : List (List Answer)
@@ -62,7 +64,9 @@ module _ (form : Form) (config : Configuration) (workers : ℕ) (unread left hel
     pub begins : BeginsText form config workers (plan_of form config input) text
     pub written : Appends held holds text
 
--- why a race ends early where this is what its configuration and its number of workers come to: their refusal, and nothing else, where they are not legal; else want of memory, a store that let no reader enter, or a device that failed
+-- why a race ends early where this is what its configuration and its number of workers come to: their refusal, and
+-- nothing else, where they are not legal; else want of memory, a store that let no reader enter, or a device that
+-- failed
 abbrev pub EndsRace : {X : Type 0} → KvError → Result X KvError → Type 0
 EndsRace {X} OutOfMemory outcome = IsOk outcome
 EndsRace {X} BadBucket outcome = outcome ≡ Err BadBucket

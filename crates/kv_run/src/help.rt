@@ -46,4 +46,4 @@ Each command is shown with its answer in docs/script.md.
 ";
 
 /// The text of `--version`: the program's version, and the kit that it is proved with.
-pub const VERSION: &str = "kvbucket 0.1.0, proved with rattle-kit-13b logic dac8208d650f15bf\n";
+pub const VERSION: &str = "kvbucket 0.1.0, proved with rattle-kit-13f logic dac8208d650f15bf\n";

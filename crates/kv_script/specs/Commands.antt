@@ -178,7 +178,8 @@ present_words_command words = if list_all is_present words then words_command wo
 abbrev pub as_they_stood : List (List ℕ) → List ℕ
 as_they_stood words = join_with_byte 32 words
 
--- put K VALUE, create K VALUE, in text: the value is all words behind the key, as they stood in the line, and there has to be one
+-- put K VALUE, create K VALUE, in text: the value is all words behind the key, as they stood in the line, and there has
+-- to be one
 abbrev pub put_text_command : (List ℕ → List ℕ → Asked) → List (List ℕ) → Result Meaning KvError
 put_text_command makes (key ∷ first ∷ more) =
     if is_present key then for_key key (Write (makes key (as_they_stood (first ∷ more)))) else Err BadCommand

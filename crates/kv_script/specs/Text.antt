@@ -1,4 +1,5 @@
--- The text of each answer: one compact object on a line, its members in the byte order of their names. `quoted` is a text as JSON writes it; keys, names, base64 and digits have nothing that it escapes.
+-- The text of each answer: one compact object on a line, its members in the byte order of their names. `quoted` is a
+-- text as JSON writes it; keys, names, base64 and digits have nothing that it escapes.
 use Rattle.std.specs.Prelude.{ℕ, List, [], ◌∷◌, map, codes, decimal, if◌then◌else◌, Bool, true, false, Option, Some, None}
 use Rattle.std.specs.Int.{to_be_bytes, w32}
 use Rattle.std.specs.Str.{is_utf8}
@@ -38,7 +39,8 @@ value_members Base64 (Some value) more = (codes "value", quoted (encode_of stand
 value_members Text (Some value) more = if is_utf8 value then (codes "value", quoted value) ∷ more else more
 value_members form None more = more
 
--- the members of an entry, and more behind them; the size is the number of bytes of the value, also where it isn't shown
+-- the members of an entry, and more behind them; the size is the number of bytes of the value, also where it isn't
+-- shown
 abbrev pub entry_members : Form → Entry → List Member → List Member
 entry_members form entry more =
     base64_members form entry.value

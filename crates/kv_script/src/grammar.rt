@@ -104,8 +104,9 @@ fn command_in(alloc: Global, form: Form, line: &str) -> Result<Command, KvError>
     }
 }
 
-/// Reads a line, without its end, that is not to be skipped, and whose value stands in this form. A line that is no command is refused before its key or
-/// filters are read, and those before options that clash. Memory goes to the list of the words and to the command.
+/// Reads a line, without its end, that is not to be skipped, and whose value stands in this form. A line that is no
+/// command is refused before its key or filters are read, and those before options that clash. Memory goes to the list
+/// of the words and to the command.
 #[tactic(auto, unfolding(crate::specs::Commands::line_command))]
 pub fn parse(alloc: Global, form: Form, line: &[u8]) -> Result<Command, KvError>
     ensures { Gives result (line_command form line.now) }

@@ -146,8 +146,8 @@ fn taken_value(
     }
 }
 
-/// An entry that a watch hands out, by its parts, with its value in this form. `size` is the number of bytes of the value, also where it isn't
-/// shown.
+/// An entry that a watch hands out, by its parts, with its value in this form. `size` is the number of bytes of the
+/// value, also where it isn't shown.
 pub fn append_taken_entry(
     alloc: Global,
     form: Form,

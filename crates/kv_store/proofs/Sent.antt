@@ -1,4 +1,5 @@
--- What may cross threads: a version may be handed to another thread, and shared. Whoever starts threads over versions cites these; one `search` through the fields of them all
+-- What may cross threads: a version may be handed to another thread, and shared. Whoever starts threads over versions
+-- cites these; one `search` through the fields of them all
 -- finds no proof within its bounds. They go from the nodes of a trie upwards, so that each search is short.
 use denote.RattleType.{RattleType}
 use denote.Param.Send.{IsSend, IsSync, sendable}

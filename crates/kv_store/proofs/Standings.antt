@@ -176,7 +176,8 @@ module _ (acts : List Act) (old new : Stored) (w : Write) (s : StandsFor acts ol
     sealed = more.sealed ∙ s.sealed ∙ sym (is_sealed-wrote acts w);
   }
 
--- where the rules accept a request and the version that follows has its write, they accept that write, and that version stands for the acts with it
+-- where the rules accept a request and the version that follows has its write, they accept that write, and that version
+-- stands for the acts with it
 pub stands_after : (acts : List Act) (old new : Stored) (request : Asked) (w : Write) (last : ℕ) → last ≡ old.last → StandsFor acts old → accept old.config request acts ≡ Ok (next_write request acts) → w ≡ record { key = key_of request; op = op_of request; value = value_of request; revision = last + 1 } → is_key w.key ≡ true → HasOneMore w old new → (v : Write) × ((accept old.config request acts ≡ Ok v) × StandsFor (acts ++ Wrote v ∷ []) new)
 stands_after acts old new request w last is s accepts made key more =
     let next : w ≡ next_write request acts = rw (is ∙ s.last) at made in

@@ -1,7 +1,8 @@
 -- Where a revision stands in its trie.
 use Rattle.std.specs.Prelude.{ℕ, ◌+◌, ◌*◌, ◌/◌, ◌%◌}
 
--- a revision's digits of five bits, the highest first, and above them its two highest bits: so what was written one after another stands side by side
+-- a revision's digits of five bits, the highest first, and above them its two highest bits: so what was written one
+-- after another stands side by side
 unfoldable pub place_of_revision : ℕ → ℕ
 place_of_revision n =
     n % 32 * 33554432

@@ -7,7 +7,9 @@ use Rattle.kv_model.specs.Reads.{unless_empty, write_at_of}
 use Rattle.kv_model.specs.Retained.{kept, retained, revisions}
 use Rattle.kv_store.specs.Stored.{Stored, kept_at, write_at}
 
--- a version stands for lawful acts under its legal configuration: it has by revision the writes that are stored after them, of each key the kept revisions in order, and nothing else; its floor is that of their last compaction, and it is sealed where they hold a seal
+-- a version stands for lawful acts under its legal configuration: it has by revision the writes that are stored after
+-- them, of each key the kept revisions in order, and nothing else; its floor is that of their last compaction, and it
+-- is sealed where they hold a seal
 pub record StandsFor (acts : List Act) (version : Stored) : Type 0 where
   pub legal : IsLegal version.config
   pub lawful : IsLawful version.config acts

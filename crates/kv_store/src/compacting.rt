@@ -14,7 +14,8 @@ use kv_keys::KvError;
 use std::alloc::Global;
 
 impl Version {
-    /// Whether the version can't be compacted to the floor: it is 0, above the last revision, or below the floor so far.
+    /// Whether the version can't be compacted to the floor: it is 0, above the last revision, or below the floor so
+    /// far.
     pub fn is_bad_floor(&self, floor: u64) -> bool
         ensures { (acts : List Act) → StandsFor acts self.now → result ≡ is_bad_floor floor acts }
     {
@@ -34,8 +35,8 @@ impl Version {
 
     /// The version with this floor. A key whose latest entry is a marker at or below the floor is cleared, as if it had
     /// never been written; and of the writes at or below the floor only those stay stored that are retained then. No
-    /// revision is used, and a sealed bucket may be compacted. `BadFloor` where the floor is 0, above the last revision,
-    /// or below the floor so far; and only then want of memory.
+    /// revision is used, and a sealed bucket may be compacted. `BadFloor` where the floor is 0, above the last
+    /// revision, or below the floor so far; and only then want of memory.
     ///
     /// It looks at each key and at each stored write once, makes anew the nodes above what goes, and shares the rest
     /// with `self`.

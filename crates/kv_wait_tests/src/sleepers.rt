@@ -1,5 +1,5 @@
-//! Followers that sleep: what wakes them, that each is handed everything, and that nobody waits for them. Their threads wait
-//! for one another, so no request for memory is refused to them.
+//! Followers that sleep: what wakes them, that each is handed everything, and that nobody waits for them. Their threads
+//! wait for one another, so no request for memory is refused to them.
 
 ghost use Rattle.std.specs.Prelude.{◌≡◌};
 

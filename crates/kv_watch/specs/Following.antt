@@ -9,7 +9,9 @@ use Rattle.kv_model.specs.declared.event.Event.TheVariants as events
 use Rattle.kv_model.specs.declared.options.Options.{Options}
 use Rattle.kv_model.specs.Given.{Item, EndMarker, matching, all_shown, initial, ending, given, is_behind, item_revisions}
 
--- what a cursor keeps: which initial entries it still owes, by their revisions, and whether it owes the end marker; up to which revision it has looked at live writes; one more than the revision of the last live entry that it handed out; and how many items it handed out
+-- what a cursor keeps: which initial entries it still owes, by their revisions, and whether it owes the end marker; up
+-- to which revision it has looked at live writes; one more than the revision of the last live entry that it handed out;
+-- and how many items it handed out
 pub record Following : Type 0 where
   pub filters : List (List ℕ)
   pub options : Options
@@ -36,7 +38,8 @@ live_to began acts cursor = all_shown cursor.options
 abbrev pub live_count : ℕ → List Act → ℕ → Following → ℕ
 live_count h began n cursor = n - length (initial_to h began cursor) - length (ending cursor.options.start)
 
--- one more than the revision of the last live entry among the first n items; where there is none, one more than the last revision of the beginning
+-- one more than the revision of the last live entry among the first n items; where there is none, one more than the
+-- last revision of the beginning
 abbrev pub next_behind : ℕ → List Act → List Act → ℕ → Following → ℕ
 next_behind h began acts n cursor = suc (unwrap_or
     (last_or None (item_revisions (take (live_count h began n cursor) (live_to began acts cursor))))
@@ -52,7 +55,10 @@ abbrev pub shown_behind : ℕ → List Act → List (List ℕ) → Options → L
 shown_behind revision acts filters options = all_shown options
     (matching filters (filter (λ w. nat_lt revision w.revision) (writes_of acts)))
 
--- a cursor that handed out n items is in place by the acts of its watch's beginning and the present ones, for versions that stand for them: it owes the initial entries that are not among the first n items, the end marker if it isn't, and of the live entries all but the first ones; of those its next revision is one behind the last, and perhaps it has looked further
+-- a cursor that handed out n items is in place by the acts of its watch's beginning and the present ones, for versions
+-- that stand for them: it owes the initial entries that are not among the first n items, the end marker if it isn't,
+-- and of the live entries all but the first ones; of those its next revision is one behind the last, and perhaps it has
+-- looked further
 pub record InPlace (began acts : List Act) (n : ℕ) (base now : Stored) (cursor : Following) : Type 0 where
   pub base_stands : StandsFor began base
   pub now_stands : StandsFor acts now
@@ -69,7 +75,8 @@ pub record InPlace (began acts : List Act) (n : ℕ) (base now : Stored) (cursor
   pub seen : cursor.seen ≤ length (writes_of acts)
   pub next : cursor.next ≡ next_behind base.config.history began acts n cursor
 
--- a cursor is in reach where it is in place, and no live item at or below the floor of the present version is still to be handed out
+-- a cursor is in reach where it is in place, and no live item at or below the floor of the present version is still to
+-- be handed out
 pub record InReach (began acts : List Act) (n : ℕ) (base now : Stored) (cursor : Following) : Type 0 where
   pub place : InPlace began acts n base now cursor
   pub ahead : is_behind now.floor n base.config.history began acts cursor.filters cursor.options ≡ false

@@ -21,9 +21,10 @@ use std::alloc::Global;
 use std::marker::Model;
 
 /// How far a watch has come in what it is given. It keeps no version: each call is handed the present one, and the one
-/// that it was opened on, which may be left out once all initial entries were handed out. It is exact where the cursor is in reach for these two: in place, with no live entry at or
-/// below the floor of the present one still to be handed out. It is so at its opening, stays so behind each item, and
-/// for every later version of the bucket whose floor it is not behind (see `laws::in_reach_later`).
+/// that it was opened on, which may be left out once all initial entries were handed out. It is exact where the cursor
+/// is in reach for these two: in place, with no live entry at or below the floor of the present one still to be handed
+/// out. It is so at its opening, stays so behind each item, and for every later version of the bucket whose floor it is
+/// not behind (see `laws::in_reach_later`).
 ///
 /// It owes its initial entries as a list of revisions, made when it is opened: a take of one is a single look-up. Of
 /// live writes it remembers how far it has looked.

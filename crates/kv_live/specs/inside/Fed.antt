@@ -12,7 +12,8 @@ use Rattle.kv_live.specs.inside.Shelves.{Shelved}
 abbrev pub acts_on : Shelved → List Act
 acts_on shelf = shelf.glimpse.sight.log
 
--- the cursor of a feed is in reach for the version of its opening and the one that it went on to, under this configuration; its reader has seen what it went on to
+-- the cursor of a feed is in reach for the version of its opening and the one that it went on to, under this
+-- configuration; its reader has seen what it went on to
 pub record IsFed (config : Configuration) (reader : Known) (base current : Shelved) (cursor : Following) : Type 0 where
   pub same_config : base.version.config ≡ config
   pub seen : IsPrefix (acts_on current) reader.seen

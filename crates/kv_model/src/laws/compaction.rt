@@ -36,8 +36,8 @@ pub fn all_are_stored()
         IsLawful config acts → floor_of acts ≡ 0 → stored_writes h acts ≡ writes_of acts }
 {}
 
-/// The stored writes are what the acts leave one by one: an accepted write comes behind them, and a compaction removes those
-/// at or below its floor that are then not kept.
+/// The stored writes are what the acts leave one by one: an accepted write comes behind them, and a compaction removes
+/// those at or below its floor that are then not kept.
 pub fn stored_are_left_one_by_one()
     ensures whole { (config : Configuration) (h : ℕ) (acts : List Act) →
         IsLawful config acts → stored_writes h acts ≡ left_one_by_one h [] [] acts }

@@ -96,8 +96,8 @@ pub fn others_change_nothing()
         items_in number_here here calls_here ≡ items_in number_there there calls_there }
 {}
 
-/// Without the calls of other watches, and without openings and reads, a watch is handed the same items, where no call is a
-/// compaction: whether one is refused depends on the other watches, and so may what is accepted after it.
+/// Without the calls of other watches, and without openings and reads, a watch is handed the same items, where no call
+/// is a compaction: whether one is refused depends on the other watches, and so may what is accepted after it.
 pub fn alone_is_the_same()
     ensures { (state : State) (watch : AWatch) (number : ℕ) (calls : List Call) →
         list_any compacts calls ≡ false → watch_at number state.watches ≡ Some watch →

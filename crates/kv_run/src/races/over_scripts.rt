@@ -38,9 +38,9 @@ fn check(config: &Config, workers: usize) -> Result<(), KvError>
 /// answered and what each watch handed out to a sink. Values stand in both in this form.
 ///
 /// The script has writes, which are dealt to the workers in turn, and at most 32 watches. Of the writes no more are
-/// taken than the bucket stores: each further one is JournalFull. Other lines are refused: the answers to them come first. Then come the replies, worker by worker, and then the items, watch by watch. Nothing is
-/// written before all was read. The configuration is refused before anything is read, and so is the number of workers
-/// (BadConfig).
+/// taken than the bucket stores: each further one is JournalFull. Other lines are refused: the answers to them come
+/// first. Then come the replies, worker by worker, and then the items, watch by watch. Nothing is written before all
+/// was read. The configuration is refused before anything is read, and so is the number of workers (BadConfig).
 pub fn race_script<R: Threads + Wait + Sync, S: BoundedInput, K: Output>(
     rt: &R,
     alloc: Global,

@@ -6,7 +6,8 @@ use Rattle.kv_model.specs.Acts.{Write, is_purge}
 use Rattle.kv_model.specs.Retained.{last_n}
 use Rattle.kv_store.specs.Stored.{Stored, kept_at, write_at}
 
--- the kept revisions of a key after one more write of it: that one behind those before it, none of them where it is a purge, and of all these the last h
+-- the kept revisions of a key after one more write of it: that one behind those before it, none of them where it is a
+-- purge, and of all these the last h
 abbrev pub next_kept : ℕ → Op → ℕ → List ℕ → List ℕ
 next_kept h op revision before = last_n h ((if is_purge op then [] else before) ++ revision ∷ [])
 
@@ -18,7 +19,8 @@ kept_before key version = unwrap_or (kept_at key version) []
 abbrev pub kept_after : Write → Stored → List ℕ
 kept_after w version = next_kept version.config.history w.op w.revision (kept_before w.key version)
 
--- the new version has this write beside those of the old one, the next kept revisions of its key, and of each other key the same
+-- the new version has this write beside those of the old one, the next kept revisions of its key, and of each other key
+-- the same
 pub record HasOneMore (w : Write) (old new : Stored) : Type 0 where
   pub config : new.config ≡ old.config
   pub last : new.last ≡ old.last + 1

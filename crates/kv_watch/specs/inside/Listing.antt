@@ -3,7 +3,8 @@ use Rattle.std.specs.Prelude.{ℕ, List, [], ◌∷◌, ◌++◌, if◌then◌el
 use Rattle.std.specs.Str.{bytes_eq}
 use Rattle.kv_model.specs.Acts.{Write, is_purge}
 
--- the revisions since the last purge of a key, after one more write: a purge drops those before it, and a write of another key changes nothing
+-- the revisions since the last purge of a key, after one more write: a purge drops those before it, and a write of
+-- another key changes nothing
 abbrev pub revisions_after : List ℕ → List ℕ → Write → List ℕ
 revisions_after before key w = if bytes_eq w.key key then (if is_purge w.op then [] else before) ++ w.revision
     ∷ [] else before
