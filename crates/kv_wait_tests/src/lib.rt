@@ -2,6 +2,8 @@
 #![tactic(auto)]
 
 #[cfg(test)]
+mod rounds;
+#[cfg(test)]
 mod sleepers;
 #[cfg(test)]
 mod waits;

@@ -29,7 +29,7 @@ fn put<N: LiveName, R: Wait>(
     live.write(rt, &Request::Put { key, value })
 }
 
-fn write_three<N: LiveName, R: Wait>(
+pub(crate) fn write_three<N: LiveName, R: Wait>(
     rt: &R,
     alloc: Global,
     live: &Live<N>,
@@ -92,7 +92,7 @@ fn handed_beside_a_writer<N: LiveName + Send + Sync, R: Threads + Wait + Sync>(
     Ok((handed(one)?, handed(two)?))
 }
 
-fn feeds<N: LiveName>(
+pub(crate) fn feeds<N: LiveName>(
     alloc: Global,
     readers: Vec<Reader<N>>,
 ) -> Result<(Feed<N>, Feed<N>), KvError> {

@@ -3,7 +3,7 @@ use denote.Param.Send.{sendable}
 use Rattle.std.proofs.Crossing.{crosses}
 use Rattle.kv_keys.proofs.error.KvError.TheSendSync as error
 use Rattle.kv_live.proofs.Sent.{feed_send}
-use Rattle.kv_live_tests.proofs.examples.service.serve_a_follower.Goals as goal
+use Rattle.kv_wait_tests.proofs.rounds.share.Goals as goal
 
 pub join-followed-requires-send-F : goal.join-followed-requires-send-F
 join-followed-requires-send-F g c κs within =

@@ -1,4 +1,4 @@
-use Rattle.kv_live_tests.proofs.examples.service.served.Given as goal
+use Rattle.kv_wait_tests.proofs.rounds.served.Given as goal
 
 -- the opening that was just made
 abbrev pub ghosts-opened_and_served : goal.ghosts-opened_and_served
