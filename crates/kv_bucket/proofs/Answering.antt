@@ -15,9 +15,11 @@ use Rattle.kv_store.specs.Stored.{Stored}
 use Rattle.kv_model.specs.declared.event.Event.{Event}
 use Rattle.kv_model.specs.declared.options.Options.{Options}
 use Rattle.kv_watch.specs.Following.{Following, InReach, IsOpening, given_to as all_of}
-use Rattle.kv_model.specs.Given.{Item, AnEntry, EndMarker, event_of}
+use Rattle.kv_model.specs.Given.{Item, AnEntry, EndMarker}
+use Rattle.kv_model.specs.further.Events.{event_of}
 use Rattle.kv_model.specs.declared.call.Call.TheVariants as ask
-use Rattle.kv_model.specs.Answers.{Revision, Watching, Ended, Refused, answer_item, event_answered}
+use Rattle.kv_model.specs.Answers.{Revision, Watching, Ended, Refused, answer_item}
+use Rattle.kv_model.specs.further.Events.{event_answered}
 use Rattle.kv_bucket.specs.Held.{Holding, Bucketed, Follows, Represents, has_number, held_at}
 use Rattle.kv_model.specs.State.{after_handed, State, Watch, watch_at, next_of, open_at, set_watch, opened, has_room, after_item, after_take, after_stop, after_write, answer_write, answer_take, answer_stop, after, answer_to}
 use Rattle.kv_model.proofs.Finds.{find_at, find_none, find_some}

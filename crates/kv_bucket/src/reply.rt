@@ -3,7 +3,7 @@
 ghost use Rattle.std.specs.Prelude.{◌≡◌, IfErr, IfOk};
 ghost use Rattle.kv_keys.specs.declared.error.KvError.TheVariants.{OutOfMemory};
 ghost use Rattle.kv_bucket.specs.Replies.{answer_of};
-ghost use Rattle.kv_model.specs.Answers.{event_answered};
+ghost use Rattle.kv_model.specs.further.Events.{event_answered};
 
 use crate::seen::Seen;
 use kv_keys::{Key, KvError};

@@ -8,8 +8,10 @@ use Rattle.kv_c.specs.Feeding.{Fed, HasHanded, HandsNext, IsRefreshed, lags, nex
 use Rattle.kv_c.specs.Handing.{told}
 use Rattle.kv_c.specs.declared.handing.Item.{Item as Told}
 use Rattle.kv_model.specs.Acts.{Act, writes_of}
-use Rattle.kv_model.specs.Answers.{answer_item, event_answered}
-use Rattle.kv_model.specs.Given.{Item, AnEntry, EndMarker, event_of, is_behind}
+use Rattle.kv_model.specs.Answers.{answer_item}
+use Rattle.kv_model.specs.further.Events.{event_answered}
+use Rattle.kv_model.specs.Given.{Item, AnEntry, EndMarker, is_behind}
+use Rattle.kv_model.specs.further.Events.{event_of}
 use Rattle.kv_model.specs.declared.event.Event.{Event}
 use Rattle.kv_store.specs.Stored.{Stored}
 use Rattle.kv_watch.proofs.Reaching.{in_reach_later}

@@ -10,7 +10,8 @@ use Rattle.kv_store.specs.Standing.{StandsFor}
 use Rattle.std.proofs.lemmas.Bool.{lt-ltb, ltb-false}
 use Rattle.kv_bucket.proofs.Least.{not_less}
 use Rattle.kv_model.specs.declared.options.Options.{Options}
-use Rattle.kv_model.specs.Given.{Item, event_of, given, is_behind}
+use Rattle.kv_model.specs.Given.{Item, given, is_behind}
+use Rattle.kv_model.specs.further.Events.{event_of}
 use Rattle.kv_watch.specs.Following.{Following, InReach}
 use Rattle.kv_watch.proofs.Reaching.{in_reach_later}
 use Rattle.kv_live.specs.inside.Fed.{IsFed, acts_on, feeding_of}

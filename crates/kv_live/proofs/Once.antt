@@ -13,7 +13,7 @@ use Rattle.kv_model.specs.declared.options.Options.{Options}
 use Rattle.kv_model.specs.declared.options.Start.{Start}
 use Rattle.kv_model.specs.declared.options.Start.TheVariants.{Latest, History, Updates, From}
 use Rattle.kv_model.specs.Given.{Entry, Item, AnEntry, matching, initial, all_shown, entry_of, ending, given}
-use Rattle.kv_model.specs.Showing.{is_initial, is_shown}
+use Rattle.kv_model.specs.further.Showing.{is_initial, is_shown}
 use Rattle.kv_model.proofs.GivenLaws.{matching_initial}
 use Rattle.kv_watch.proofs.Walks.{shown_front}
 use Rattle.kv_live.specs.Feeding.{Feeding, given_by}

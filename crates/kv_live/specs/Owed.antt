@@ -2,7 +2,7 @@
 use Rattle.std.specs.Prelude.{◌≡◌, ℕ, ◌<◌, ◌==◌, Bool, true, false, List, [], ◌∷◌, ◌++◌, length, filter}
 use Rattle.kv_model.specs.Acts.{Act, Wrote, Write, IsPrefix, writes_of}
 use Rattle.kv_model.specs.Given.{Item, AnEntry, EndMarker, entry_of}
-use Rattle.kv_model.specs.Showing.{is_shown}
+use Rattle.kv_model.specs.further.Showing.{is_shown}
 use Rattle.kv_live.specs.Feeding.{Feeding}
 
 abbrev pub is_of : ℕ → Item → Bool

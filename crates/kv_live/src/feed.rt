@@ -9,7 +9,7 @@ ghost use Rattle.kv_model.specs.Acceptance.{IsLawful};
 ghost use Rattle.kv_model.specs.Acts.{Act, Write, IsPrefix, floor_of};
 ghost use Rattle.kv_store.specs.Standing.{StandsFor};
 ghost use Rattle.kv_watch.specs.Following.{InReach, IsOpening};
-ghost use Rattle.kv_model.specs.Given.{event_of};
+ghost use Rattle.kv_model.specs.further.Events.{event_of};
 ghost use Rattle.kv_store.specs.Stored.{Stored};
 ghost use Rattle.kv_watch.specs.Taking.{item_taken};
 ghost use Rattle.kv_live.specs.inside.Fed.{acts_on, opened};

@@ -9,7 +9,8 @@ use Rattle.kv_model.specs.declared.write.Op.TheVariants.{Put, Delete}
 use Rattle.kv_model.specs.Acceptance.{accept}
 use Rattle.kv_model.specs.Acts.{Act, Wrote, Compact as Compacts, Seal, Write}
 use Rattle.kv_model.specs.Answers.{Compacted, AnsweredEntry, Numbers, Marker, Empty, Ended, Refused}
-use Rattle.kv_model.specs.Compaction.{stored_writes, left_one_by_one}
+use Rattle.kv_model.specs.Compaction.{stored_writes}
+use Rattle.kv_model.specs.further.OneByOne.{left_one_by_one}
 use Rattle.kv_model.specs.Configuration.{Configuration}
 use Rattle.kv_model.specs.declared.options.Options.{Options}
 use Rattle.kv_model.specs.declared.options.Start.TheVariants.{Latest}
@@ -17,7 +18,7 @@ use Rattle.kv_model.specs.declared.call.Call.{Call}
 use Rattle.kv_model.specs.declared.call.Call.TheVariants as ask
 use Rattle.kv_model.specs.declared.call.Call.TheVariants.{Compact, GetAt, History, Status, Take, Stop}
 use Rattle.kv_model.specs.Given.{Entry, AnEntry}
-use Rattle.kv_model.specs.Meeting.{bears_on}
+use Rattle.kv_model.specs.further.Meeting.{bears_on}
 use Rattle.kv_model.specs.Requests.{put, create, update}
 use Rattle.kv_model.specs.Retained.{last_revision, revisions}
 use Rattle.kv_model.specs.Runs.{answers_to, items_in}

@@ -14,7 +14,7 @@ use Rattle.kv_model.specs.declared.call.Call.TheVariants as ask
 use Rattle.kv_model.specs.Answers.{Empty}
 use Rattle.kv_model.specs.Runs.{run, answers_to, items_in}
 use Rattle.kv_model.specs.State.{State, Watch, watch_at, given_to, empty, answer_to}
-use Rattle.kv_model.specs.Told.{Told, TellsWatch, GoesOn, TellsOn}
+use Rattle.kv_model.specs.further.Counts.{Told, TellsWatch, GoesOn, TellsOn}
 use Rattle.kv_model.proofs.Others.{leaves_run}
 use Rattle.kv_model.proofs.Theorem.{increasing_left, empty_is, empty_at, ended_all, as_opened}
 use Rattle.kv_model.proofs.Told.{nothing_yet, told_run}

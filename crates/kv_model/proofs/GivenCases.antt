@@ -9,7 +9,8 @@ use Rattle.kv_model.specs.declared.event.Event.TheVariants.{Entry, Marker}
 use Rattle.kv_model.specs.declared.options.Options.{Options}
 use Rattle.kv_model.specs.declared.options.Start.{Start}
 use Rattle.kv_model.specs.declared.options.Start.TheVariants.{Latest, History, Updates, From}
-use Rattle.kv_model.specs.Given.{entry_of, event_of, given}
+use Rattle.kv_model.specs.Given.{entry_of, given}
+use Rattle.kv_model.specs.further.Events.{event_of}
 
 -- a write whose value is its key
 abbrev write : List ℕ → Op → ℕ → Write

@@ -11,7 +11,7 @@ use Rattle.kv_model.specs.Retained.{is_kept}
 use Rattle.kv_model.specs.declared.options.Options.{Options}
 use Rattle.kv_model.specs.declared.options.Start.{Start}
 use Rattle.kv_model.specs.declared.options.Start.TheVariants.{Latest, History, Updates, From}
-use Rattle.kv_model.specs.Showing.{is_initial}
+use Rattle.kv_model.specs.further.Showing.{is_initial}
 use Rattle.kv_model.specs.Given.{Item, matching, shown, all_shown, item_revisions, revision_of, initial, ending, given}
 use Rattle.kv_model.proofs.Members.{filter-filter}
 use Rattle.kv_model.proofs.Numbered.{CountsFrom, CountsFrom-left, CountsFrom-right, writes_of-append, counts_from_lawful}

@@ -13,7 +13,7 @@ use Rattle.kv_model.specs.Given.{Item}
 use Rattle.kv_model.specs.declared.call.Call.{Call}
 use Rattle.kv_model.specs.declared.call.Call.TheVariants as ask
 use Rattle.kv_model.specs.State.{after_handed, State, Watch, watch_at, next_of, open_at, if_open, has_room, add_watch, opened, handed_one, stopped, after_write, after_item, after_take, after_stop, answer_take, after, answer_to}
-use Rattle.kv_model.specs.Meeting.{Own, Taking, Stopping, Meeting, may_add_act, compacts, own_call, bears_on, meets, meetings_of}
+use Rattle.kv_model.specs.further.Meeting.{Own, Taking, Stopping, Meeting, may_add_act, compacts, own_call, bears_on, meets, meetings_of}
 use Rattle.kv_model.specs.Runs.{item_in, item_for, items_in}
 use Rattle.kv_model.proofs.Numbers.{at_set_same}
 use Rattle.kv_model.proofs.Others.{config_step, others_step}

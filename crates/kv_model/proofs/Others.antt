@@ -14,7 +14,7 @@ use Rattle.kv_model.specs.declared.call.Call.TheVariants as ask
 use Rattle.kv_model.specs.Answers.{Watching, Ended, Refused}
 use Rattle.kv_model.specs.Runs.{run, answers_to, item_for, items_in}
 use Rattle.kv_model.specs.State.{State, Watch, watch_at, next_of, open_at, has_room, set_watch, add_watch, opened, handed_one, stopped, may_compact, after_write, after_item, after_take, after_stop, after_compact, answer_stop, after, answer_to}
-use Rattle.kv_model.specs.Told.{GoesOn, IsOther}
+use Rattle.kv_model.specs.further.Counts.{GoesOn, IsOther}
 use Rattle.kv_model.proofs.Numbers.{at_set_same, at_set_other, at_push_some, at_push_here, open_is}
 
 -- the watch of a number goes on as the one that there was

@@ -13,7 +13,7 @@ use Rattle.kv_model.specs.declared.call.Call.{Call}
 use Rattle.kv_model.specs.declared.call.Call.TheVariants.{Write, Get, History, Keys, Status, Watch, Take, Stop}
 use Rattle.kv_model.specs.declared.call.Call.TheVariants as ask
 use Rattle.kv_model.specs.Answers.{Revision, Sealed, AnsweredEntry, Entries, Keys as AllKeys, Numbers, Watching, Marker, Empty, Ended, Refused}
-use Rattle.kv_model.specs.Meeting.{Taking, Stopping, bears_on, meets, meetings_of}
+use Rattle.kv_model.specs.further.Meeting.{Taking, Stopping, bears_on, meets, meetings_of}
 use Rattle.kv_model.specs.Runs.{run, answers_to, items_in}
 use Rattle.kv_model.specs.State.{State, Watch as AWatch, empty, has_room, stopped}
 use Rattle.kv_model.specs.Told.{TellsOpened}

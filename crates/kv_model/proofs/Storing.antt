@@ -9,7 +9,8 @@ use Rattle.std.proofs.lemmas.Slice.Eq.{bytes_eq-Decides}
 use Rattle.std.proofs.lemmas.List.Elements.{Contains-append_cases, filter-append, filter_agree, filter_map-append}
 use Rattle.kv_model.specs.Acceptance.{IsAccepted, IsLawful, LawfulFrom}
 use Rattle.kv_model.specs.Acts.{Act, Wrote, Seal, Compact, Write, is_purge, writes_of, floor_in, floor_of, is_compaction, when_compacted}
-use Rattle.kv_model.specs.Compaction.{is_stored, stored_writes, removes, stored_after, left_one_by_one, is_bad_floor}
+use Rattle.kv_model.specs.Compaction.{is_stored, stored_writes, is_bad_floor}
+use Rattle.kv_model.specs.further.OneByOne.{removes, stored_after, left_one_by_one}
 use Rattle.kv_model.specs.Configuration.{Configuration}
 use Rattle.kv_model.specs.Retained.{is_cleared, kept, is_kept, last_n, retained, revisions, since_purge, writes_of_key}
 use Rattle.kv_model.proofs.Keeping.{kept_cleared, kept_other, kept_revisions_same, kept_seal, kept_spared}

@@ -16,7 +16,8 @@ use Rattle.kv_model.specs.declared.call.Call.TheVariants as ask
 use Rattle.kv_model.specs.Answers.{Watching, Empty, Ended, answer_item}
 use Rattle.kv_model.specs.Runs.{run, answers_to, item_for, items_for, items_in}
 use Rattle.kv_model.specs.State.{State, Watch, watch_at, given_to, next_of, open_at, opened, answer_take, after, answer_to}
-use Rattle.kv_model.specs.Told.{Told, TellsWatch, GoesOn, TellsOpened, TellsEachWatch}
+use Rattle.kv_model.specs.further.Counts.{Told, TellsWatch, GoesOn}
+use Rattle.kv_model.specs.Told.{TellsOpened, TellsEachWatch}
 use Rattle.kv_model.proofs.Numbers.{at_past, open_is}
 use Rattle.kv_model.proofs.Others.{config_run, run-append, opened_is, leaves_run, none_after_stop, stopped_now}
 use Rattle.kv_model.proofs.Told.{told_run}

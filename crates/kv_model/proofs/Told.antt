@@ -16,7 +16,7 @@ use Rattle.kv_model.specs.declared.call.Call.TheVariants as ask
 use Rattle.kv_model.specs.Answers.{answer_item}
 use Rattle.kv_model.specs.Runs.{run, item_in, item_for, items_in}
 use Rattle.kv_model.specs.State.{State, Watch, watch_at, empty, given_to, next_of, open_at, has_room, set_watch, add_watch, opened, handed_one, stopped, may_compact, after_write, after_item, after_take, after_stop, after_compact, answer_take, after, answer_to}
-use Rattle.kv_model.specs.Told.{Told, IsTold, TellsWatch}
+use Rattle.kv_model.specs.further.Counts.{Told, IsTold, TellsWatch}
 use Rattle.kv_model.proofs.GivenLaws.{given-append, no_fewer_writes}
 use Rattle.kv_model.proofs.Numbers.{at_set_same, at_set_other, at_push, at_push_some, open_is, take_push}
 

@@ -2,8 +2,6 @@
 use Rattle.std.specs.Prelude.{ℕ, List, Option, Some, None}
 use Rattle.kv_keys.specs.declared.error.KvError.{KvError}
 use Rattle.kv_model.specs.declared.status.Status.{Status}
-use Rattle.kv_model.specs.declared.event.Event.{Event}
-use Rattle.kv_model.specs.declared.event.Event.TheVariants as events
 use Rattle.kv_model.specs.Given.{Entry, Item, AnEntry, EndMarker}
 
 pub data Answer : Type 0 where
@@ -25,9 +23,3 @@ abbrev pub answer_item : Option Item → Answer
 answer_item None = Empty
 answer_item (Some (AnEntry entry)) = AnsweredEntry entry
 answer_item (Some EndMarker) = Marker
-
--- the item of an answer to a take, by its revision alone; none where the answer is Empty or a refusal
-abbrev pub event_answered : Answer → Option Event
-event_answered (AnsweredEntry entry) = Some (events.Entry entry.revision)
-event_answered Marker = Some events.Marker
-event_answered _ = None

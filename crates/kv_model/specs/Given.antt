@@ -8,8 +8,6 @@ use Rattle.kv_model.specs.Retained.{latest, retained}
 use Rattle.kv_model.specs.declared.options.Start.{Start}
 use Rattle.kv_model.specs.declared.options.Start.TheVariants.{Latest, History, Updates, From}
 use Rattle.kv_model.specs.declared.options.Options.{Options}
-use Rattle.kv_model.specs.declared.event.Event.{Event}
-use Rattle.kv_model.specs.declared.event.Event.TheVariants as events
 
 -- an entry as a watch shows it: the size is that of the value, also where the value is not shown
 pub record Entry : Type 0 where
@@ -85,8 +83,3 @@ has_live_below beginning floor items = list_any (λ revision. nat_lt beginning r
 abbrev pub is_behind : ℕ → ℕ → ℕ → List Act → List Act → List (List ℕ) → Options → Bool
 is_behind floor handed h began acts filters options =
     has_live_below (length (writes_of began)) floor (drop handed (given h began acts filters options))
-
--- an item by its revision alone
-abbrev pub event_of : Item → Event
-event_of (AnEntry entry) = events.Entry entry.revision
-event_of EndMarker = events.Marker

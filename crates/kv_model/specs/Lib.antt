@@ -7,9 +7,8 @@ pub mod Compaction
 pub mod Reads
 pub mod Flags
 pub mod Given
-pub mod Showing
 pub mod Answers
 pub mod State
 pub mod Runs
 pub mod Told
-pub mod Meeting
+pub mod further

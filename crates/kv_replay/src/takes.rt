@@ -1,7 +1,8 @@
 //! Answers to takes.
 
 ghost use Rattle.std.specs.Prelude.{◌≡◌, ◌++◌, IfOk, OnOk, OnErr, IfErr, IsErrOf};
-ghost use Rattle.kv_model.specs.Answers.{answer_item, event_answered};
+ghost use Rattle.kv_model.specs.Answers.{answer_item};
+ghost use Rattle.kv_model.specs.further.Events.{event_answered};
 ghost use Rattle.kv_bucket.specs.Held.{Represents};
 ghost use Rattle.kv_model.specs.State.{State, after, answer_to};
 ghost use Rattle.kv_model.specs.declared.call.Call.TheVariants.{Take};

@@ -28,8 +28,9 @@ use Rattle.kv_model.specs.declared.options.Options.{Options}
 use Rattle.kv_model.specs.declared.options.Start.{Start}
 use Rattle.kv_model.specs.declared.options.Start.TheVariants.{Latest, History, Updates, From}
 use Rattle.kv_watch.specs.Following.{Following, InPlace, marker_if, shown_behind, one_more, behind}
-use Rattle.kv_model.specs.Given.{Item, AnEntry, EndMarker, Entry, entry_of, matching, all_shown, initial, ending, item_revisions, revision_of, event_of}
-use Rattle.kv_model.specs.Showing.{is_shown}
+use Rattle.kv_model.specs.Given.{Item, AnEntry, EndMarker, Entry, entry_of, matching, all_shown, initial, ending, item_revisions, revision_of}
+use Rattle.kv_model.specs.further.Events.{event_of}
+use Rattle.kv_model.specs.further.Showing.{is_shown}
 use Rattle.kv_watch.specs.Taking.{entry_item}
 use Rattle.kv_model.proofs.GivenLaws.{matching_initial, no_fewer_writes}
 use Rattle.kv_watch.proofs.Lists.{drop-append, head_of_drop, get_from_drop, rest_from_drop, take_push, last_or-push, last_front, no_last}

@@ -13,7 +13,7 @@ use Rattle.kv_model.specs.declared.event.Event.{Event}
 use Rattle.kv_model.specs.declared.event.Event.TheVariants as events
 use Rattle.kv_model.specs.declared.options.Options.{Options}
 use Rattle.kv_model.specs.Given.{Entry, Item, AnEntry, EndMarker, entry_of, matching, all_shown, initial, ending, given, has_live_below, is_behind, item_revisions, revision_of}
-use Rattle.kv_model.specs.Showing.{is_shown}
+use Rattle.kv_model.specs.further.Showing.{is_shown}
 use Rattle.kv_model.proofs.Counted.{shown_rises}
 use Rattle.kv_model.proofs.GivenLaws.{given-append, matching_initial, no_fewer_writes}
 use Rattle.kv_model.proofs.Numbered.{CountsFrom, CountsFrom-right, writes_of-append}

@@ -11,9 +11,10 @@ use Rattle.kv_model.specs.Retained.{writes_of_key, last_write, since_purge, revi
 use Rattle.kv_model.specs.declared.event.Event.{Event}
 use Rattle.kv_model.specs.declared.event.Event.TheVariants as events
 use Rattle.kv_model.specs.declared.options.Options.{Options}
-use Rattle.kv_model.specs.Given.{AnEntry, matching, all_shown, entry_of, initial, ending, given, event_of}
+use Rattle.kv_model.specs.Given.{AnEntry, matching, all_shown, entry_of, initial, ending, given}
+use Rattle.kv_model.specs.further.Events.{event_of}
 use Rattle.kv_watch.specs.inside.Listing.{revisions_after}
-use Rattle.kv_model.specs.Showing.{is_initial, is_shown}
+use Rattle.kv_model.specs.further.Showing.{is_initial, is_shown}
 use Rattle.kv_watch.specs.inside.Showing.{events_where, wrote_all}
 use Rattle.kv_model.proofs.Keeping.{since_purge-push, writes_of_key-push}
 use Rattle.kv_model.proofs.Members.{filter-filter}

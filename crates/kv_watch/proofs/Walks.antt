@@ -14,7 +14,7 @@ use Rattle.kv_model.proofs.Numbered.{CountsFrom, counts_from_lawful}
 use Rattle.kv_model.specs.declared.options.Options.{Options}
 use Rattle.kv_watch.specs.Following.{shown_behind}
 use Rattle.kv_model.specs.Given.{AnEntry, entry_of, matching, all_shown}
-use Rattle.kv_model.specs.Showing.{is_shown}
+use Rattle.kv_model.specs.further.Showing.{is_shown}
 
 -- of writes that count from m + 1 on, those behind revision k
 behind_from : (k m : ℕ) (ws : List Write) → CountsFrom (suc m) ws → filter (λ w. nat_lt k w.revision) ws ≡ drop (k - m) ws

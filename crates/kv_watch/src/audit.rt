@@ -4,9 +4,10 @@
 ghost use Rattle.std.specs.Prelude.{◌≡◌, ◌==◌, ◌++◌, ◌≤◌, ◌&&◌, IfOk, IfErr, OnOk, [], ◌∷◌, length, map, take};
 ghost use Rattle.kv_model.specs.Acts.{is_purge};
 ghost use Rattle.kv_model.specs.Retained.{is_kept, is_latest, kept, last_n, last_write, revisions};
-ghost use Rattle.kv_model.specs.Given.{ending, event_of, given};
+ghost use Rattle.kv_model.specs.Given.{ending, given};
+ghost use Rattle.kv_model.specs.further.Events.{event_of};
 ghost use Rattle.kv_watch.specs.inside.Listing.{revisions_after};
-ghost use Rattle.kv_model.specs.Showing.{is_initial, is_shown};
+ghost use Rattle.kv_model.specs.further.Showing.{is_initial, is_shown};
 ghost use Rattle.kv_watch.specs.inside.Showing.{events_where, wrote_all};
 ghost use Rattle.std.specs.List.{list_any};
 ghost use Rattle.std.specs.Option.{option_copied};

@@ -7,7 +7,8 @@ ghost use Rattle.kv_model.specs.Acts.{Act, writes_of};
 ghost use Rattle.kv_store.specs.Standing.{StandsFor};
 ghost use Rattle.kv_store.specs.Stored.{Stored, write_at};
 ghost use Rattle.kv_watch.specs.Following.{given_to, behind, next_behind, InPlace, InReach, IsOpening};
-ghost use Rattle.kv_model.specs.Given.{event_of, is_behind};
+ghost use Rattle.kv_model.specs.further.Events.{event_of};
+ghost use Rattle.kv_model.specs.Given.{is_behind};
 ghost use Rattle.kv_watch.specs.Taking.{entry_item, item_taken};
 
 use crate::live::next_live;

@@ -3,7 +3,7 @@
 ghost use Rattle.std.specs.Prelude.{◌≡◌};
 ghost use Rattle.std.specs.Option.{option_copied};
 ghost use Rattle.kv_model.specs.Given.{entry_of};
-ghost use Rattle.kv_model.specs.Showing.{is_shown};
+ghost use Rattle.kv_model.specs.further.Showing.{is_shown};
 ghost use Rattle.kv_watch.specs.Taking.{entry_shown};
 
 use kv_keys::{Filters, Key};

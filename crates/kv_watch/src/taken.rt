@@ -2,7 +2,7 @@
 
 ghost use Rattle.std.specs.Prelude.{◌≡◌};
 ghost use Rattle.std.specs.Option.{option_map};
-ghost use Rattle.kv_model.specs.Given.{event_of};
+ghost use Rattle.kv_model.specs.further.Events.{event_of};
 ghost use Rattle.kv_watch.specs.Taking.{item_taken};
 
 use crate::shown::Shown;

@@ -11,9 +11,10 @@ ghost use Rattle.kv_model.specs.declared.call.Call.{Call};
 ghost use Rattle.kv_model.specs.declared.call.Call.TheVariants.{Watch, Take, Stop};
 ghost use Rattle.kv_model.specs.Answers.{Watching, Empty, Ended, Refused};
 ghost use Rattle.kv_model.specs.Runs.{run, answers_to, items_in};
-ghost use Rattle.kv_model.specs.Meeting.{may_add_act, compacts, bears_on, meetings_of};
+ghost use Rattle.kv_model.specs.further.Meeting.{may_add_act, compacts, bears_on, meetings_of};
 ghost use Rattle.kv_model.specs.State.{State, Watch as AWatch, watch_at, open_count, empty, after, answer_to};
-ghost use Rattle.kv_model.specs.Told.{GoesOn, IsOther, TellsWatch, TellsOn, TellsEachWatch};
+ghost use Rattle.kv_model.specs.further.Counts.{GoesOn, IsOther, TellsWatch, TellsOn};
+ghost use Rattle.kv_model.specs.Told.{TellsEachWatch};
 
 /// Each watch was handed the first items of what it is given, as many as it counts.
 pub fn counts_what_is_told()

@@ -1,5 +1,5 @@
 use Rattle.std.proofs.Common.{◌≡◌, ◌++◌}
-use Rattle.kv_model.specs.Showing.{is_shown}
+use Rattle.kv_model.specs.further.Showing.{is_shown}
 use Rattle.kv_watch.proofs.SlowSteps.{events_from}
 use Rattle.kv_watch.proofs.audit.push_live.Given as goal
 

@@ -1,7 +1,7 @@
 use Rattle.std.proofs.Common.{◌≡◌, ◌∙◌, None, List, take, subst, sym}
 use Rattle.std.specs.Option.{option_map}
 use Rattle.kv_model.specs.Acts.{Act, Write}
-use Rattle.kv_model.specs.Given.{event_of}
+use Rattle.kv_model.specs.further.Events.{event_of}
 use Rattle.kv_live.specs.inside.Fed.{feeding_of}
 use Rattle.kv_live.specs.Feeding.{Feeding, given_by, next_of}
 use Rattle.kv_live.specs.Owed.{Owes, HasOnce}

@@ -1,0 +1,5 @@
+pub mod Counts
+pub mod Events
+pub mod Meeting
+pub mod OneByOne
+pub mod Showing
