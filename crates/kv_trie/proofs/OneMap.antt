@@ -1,5 +1,5 @@
 -- Pairs that ascend are fixed by what is found at each key.
-use Rattle.std.proofs.Common.{true, false, ◌≡◌, ℕ, Bool, cond, List, [], ◌∷◌, Some, None, Ordering, refl, sym, ap, ap₂, ◌∙◌}
+use Rattle.std.proofs.Common.{true, false, ◌≡◌, ℕ, Bool, cond, List, [], ◌∷◌, Some, Ordering, refl, sym, ap, ap₂, ◌∙◌}
 use Rattle.std.specs.declared.cmp.Ordering.TheVariants.{Less, Equal, Greater}
 use Rattle.std.specs.Ordering.{is_eq, ordering_reverse}
 use Rattle.std.specs.Cmp.{IsTotalOrder}
@@ -12,15 +12,10 @@ use Rattle.std.proofs.lemmas.List.Elements.{same_from_all_zip}
 use Rattle.kv_trie.specs.Form.{Each, Ascends, order}
 use Rattle.kv_trie.specs.Same.{HaveOneEntry}
 use Rattle.kv_trie.proofs.Changes.{order_tied, equal_from_is_eq}
-use Rattle.kv_trie.proofs.Form.{Each-weaker, lookup-none}
+use Rattle.kv_trie.proofs.Lists.{below_all}
 use Rattle.kv_trie.proofs.Maps.{order_total, found_in_order, past_first}
 
 module _ {K V : Type 0} {R : K → K → Ordering} (total : IsTotalOrder R) where
-  -- a key below the first of a list is not found in it
-  below_all : (k : K) (e : K × V) (es : List (K × V)) → R k e.0 ≡ Less → Each (λ f. R e.0 f.0 ≡ Less) es → lookup (is_at (R k)) (e ∷ es) ≡ None
-  below_all k e es l a =
-      rw l (lookup-none (is_at (R k)) es (Each-weaker (λ f. R e.0 f.0 ≡ Less) (λ f. is_at (R k) f.0 ≡ false) (λ f m. ap is_eq (total.trans k e.0 f.0 l m)) es a))
-
   -- the first is found
   found_first : (e : K × V) (es : List (K × V)) → lookup (is_at (R e.0)) (e ∷ es) ≡ Some e.1
   found_first e es = rw (tied_itself total e.0) refl
@@ -44,11 +39,11 @@ module _ {K V : Type 0} {R : K → K → Ordering} (total : IsTotalOrder R) wher
 
   first_step : (x y : K × V) (xs ys : List (K × V)) (o : Ordering) → R x.0 y.0 ≡ o → Ascends R (x ∷ xs) → Ascends R (y ∷ ys) → ((q : K) → lookup (is_at (R q)) (x ∷ xs) ≡ lookup (is_at (R q)) (y ∷ ys)) → (((q : K) → lookup (is_at (R q)) xs ≡ lookup (is_at (R q)) ys) → AllZip (HaveOneEntry R) xs ys) → AllZip (HaveOneEntry R) (x ∷ xs) (y ∷ ys)
   first_step x y xs ys Less o a b h r =
-      let never : true ≡ false = ap is_some (sym (found_first x xs) ∙ h x.0 ∙ below_all x.0 y ys o b.0) in
+      let never : true ≡ false = ap is_some (sym (found_first x xs) ∙ h x.0 ∙ below_all total x.0 y ys o b.0) in
       cc
   first_step x y xs ys Greater o a b h r =
       let below : R y.0 x.0 ≡ Less = total.antisymm y.0 x.0 ∙ ap ordering_reverse o in
-      let never : true ≡ false = ap is_some (sym (found_first y ys) ∙ sym (h y.0) ∙ below_all y.0 x xs below a.0) in
+      let never : true ≡ false = ap is_some (sym (found_first y ys) ∙ sym (h y.0) ∙ below_all total y.0 x xs below a.0) in
       cc
   first_step x y xs ys Equal o a b h r =
       let there : lookup (is_at (R x.0)) (y ∷ ys) ≡ Some y.1 = rw o refl in

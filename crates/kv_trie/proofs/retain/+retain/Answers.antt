@@ -7,7 +7,8 @@ use Rattle.kv_trie.specs.Form.{pairs_of, contract}
 use Rattle.kv_trie.specs.Retain.{is_wanted}
 use Rattle.kv_trie.specs.Stored.{shape_of, child_shapes}
 use Rattle.kv_trie.proofs.Branches.{is_branch, children_fit}
-use Rattle.kv_trie.proofs.Removal.{whole_from_forms, list_parts}
+use Rattle.kv_trie.proofs.Lists.{list_parts}
+use Rattle.kv_trie.proofs.Removal.{whole_from_forms}
 use Rattle.kv_trie.proofs.Retaining.{partly_none, partly_missing, partly_whole, partly_changed, partly_count, child_form, child_count, found, branch_left, some_pairs, whole_left, nothing_left, no_pairs, is_empty, not_empty}
 use Rattle.kv_trie.proofs.Stored.{shape_of-Branch, shape_of-List}
 use Rattle.kv_trie.proofs.retain.+retain.Goals as goal
