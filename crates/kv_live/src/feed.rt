@@ -53,20 +53,6 @@ struct Held {
     current: Shelf,
 }
 
-// Whether a feed with this cursor that is on this shelf lags behind a version with the floor.
-fn lags_behind(current: &Shelf, cursor: &Cursor, floor: u64) -> bool
-    ensures { (feed : Feeding) (opening : Stored) → feed.acts ≡ acts_on current.now →
-        feed.filters ≡ cursor.now.filters → feed.options ≡ cursor.now.options →
-        InReach feed.began feed.acts feed.handed opening current.now.version cursor.now →
-        result ≡ lags opening.config.history floor feed }
-{
-    let version = current.version();
-    if version.revision() < floor {
-        return true;
-    }
-    cursor.behind(version, floor)
-}
-
 impl<N: LiveName> Model for Feed<N> {
     ghost use Rattle.kv_live.specs.inside.Fed.{IsFed, feeding_of};
     ghost use Rattle.kv_live.specs.Feeding.{Feeding};
@@ -184,13 +170,7 @@ impl<N: LiveName> Feed<N> {
         ensures refused { IfErr result
             (λ e. IsStopped N.opening.config.history self.old self.new e × IsNotRefreshed self.old self.new) }
     {
-        let noted = self.reader.noted();
-        let shelf = self.reader.shelf()?;
-        let floor = shelf.version().floor();
-        if lags_behind(&self.held.current, &self.cursor, floor) {
-            self.reader.note(noted);
-            return Err(KvError::Lagged { floor });
-        }
+        let shelf = self.reader.shelf_ahead(&self.held.current, &self.cursor)?;
         let left = mem::replace(&mut self.held.current, shelf);
         Ok(left.into_version())
     }

@@ -1,11 +1,12 @@
 //! Readers, which take no lock and wait for nobody.
 
-ghost use Rattle.std.specs.Prelude.{◌≡◌, ◌⊎◌, ◌≤◌, IfOk, IfErr, IfSome, MatchResult, [], true, false};
+ghost use Rattle.std.specs.Prelude.{◌≡◌, ◌⊎◌, ◌≤◌, IfOk, IfErr, IfSome, MatchOption, MatchResult, [], true, false};
 ghost use Rattle.left_right.specs.Sides.{view};
-ghost use Rattle.kv_keys.specs.declared.error.KvError.TheVariants.{OutOfMemory};
-ghost use Rattle.kv_model.specs.Acts.{IsPrefix};
+ghost use Rattle.kv_keys.specs.declared.error.KvError.TheVariants.{Lagged, OutOfMemory};
+ghost use Rattle.kv_model.specs.Acts.{IsPrefix, floor_of};
 ghost use Rattle.kv_store.specs.Standing.{StandsFor};
 ghost use Rattle.kv_live.specs.Known.{IsUnread};
+ghost use Rattle.kv_live.specs.inside.Fed.{TellsLag};
 ghost use Rattle.kv_live.specs.inside.Shelves.{IsOf};
 
 use crate::bell::{Bell, Woken};
@@ -16,6 +17,7 @@ use crate::rule::{Published, Sees, View};
 use crate::shelf::Shelf;
 use kv_keys::KvError;
 use kv_store::Version;
+use kv_watch::Cursor;
 use left_right::reader::Reader as Seat;
 use std::alloc::Global;
 use std::marker::Model;
@@ -131,28 +133,62 @@ impl<N: LiveName> Reader<N> {
         ensures stands { IfOk result (λ s. StandsFor self.new.seen s.version) }
         ensures err { IfErr result IsUnread }
     {
+        self.look(None)
+    }
+
+    /// What is published, for a feed that is on this shelf with this cursor, unless it lags behind that.
+    pub(crate) fn shelf_ahead(&mut self, current: &Shelf, cursor: &Cursor) -> Result<Shelf, KvError>
+        ensures later { IsPrefix self.old.seen self.new.seen }
+        ensures told { self.new.told ≡ self.old.told }
+        ensures ok { IfOk result
+            (λ s. (s.glimpse.sight.log ≡ self.new.seen) × IsOf N.opening s × IsPrefix self.old.told self.new.seen) }
+        ensures stands { IfOk result (λ s. StandsFor self.new.seen s.version) }
+        ensures ahead { IfOk result (λ _. TellsLag current.now cursor.now (floor_of self.new.seen) false) }
+        ensures err { IfErr result
+            (λ e. IsUnread e ⊎ ((e ≡ Lagged (floor_of self.new.seen))
+            × TellsLag current.now cursor.now (floor_of self.new.seen) true)) }
+    {
+        self.look(Some((current, cursor)))
+    }
+
+    // What is published, unless this follower lags behind it. It notes how often something had been published when it
+    // began, if it was accepted.
+    fn look(&mut self, follower: Option<(&Shelf, &Cursor)>) -> Result<Shelf, KvError>
+        ensures later { IsPrefix self.old.seen self.new.seen }
+        ensures told { self.new.told ≡ self.old.told }
+        ensures ok { IfOk result
+            (λ s. (s.glimpse.sight.log ≡ self.new.seen) × IsOf N.opening s × IsPrefix self.old.told self.new.seen) }
+        ensures stands { IfOk result (λ s. StandsFor self.new.seen s.version) }
+        ensures ahead { IfOk result (λ _. IfSome follower.entry
+            (λ f. TellsLag f.0.now f.1.now (floor_of self.new.seen) false)) }
+        ensures err { IfErr result (λ e. IsUnread e ⊎ ((e ≡ Lagged (floor_of self.new.seen))
+            × MatchOption follower.entry ⊥ (λ f. TellsLag f.0.now f.1.now (floor_of self.new.seen) true))) }
+    {
         let noted = self.bell.count();
-        let shelf = self.look();
+        let shelf = self.enter(follower);
         if shelf.is_ok() {
             self.noted = noted;
         }
         shelf
     }
 
-    fn look(&mut self) -> Result<Shelf, KvError>
+    fn enter(&mut self, follower: Option<(&Shelf, &Cursor)>) -> Result<Shelf, KvError>
         ensures later { IsPrefix self.old.seen self.new.seen }
         ensures told { self.new.told ≡ self.old.told }
         ensures ok { IfOk result
             (λ s. (s.glimpse.sight.log ≡ self.new.seen) × IsOf N.opening s × IsPrefix self.old.told self.new.seen) }
         ensures stands { IfOk result (λ s. StandsFor self.new.seen s.version) }
-        ensures err { IfErr result IsUnread }
+        ensures ahead { IfOk result (λ _. IfSome follower.entry
+            (λ f. TellsLag f.0.now f.1.now (floor_of self.new.seen) false)) }
+        ensures err { IfErr result (λ e. IsUnread e ⊎ ((e ≡ Lagged (floor_of self.new.seen))
+            × MatchOption follower.entry ⊥ (λ f. TellsLag f.0.now f.1.now (floor_of self.new.seen) true))) }
     {
         let Some(seat) = self.seat.take() else {
             unreachable!()
         };
         match seat.enter_as::<Sees<N>>() {
             Ok(reading) => {
-                let shelf = shelf_past(&self.told, reading.get());
+                let shelf = shelf_past(&self.told, follower, reading.get());
                 self.seen = Front::of(reading.get().glimpse());
                 self.seat = Some(reading.leave());
                 shelf
@@ -166,18 +202,6 @@ impl<N: LiveName> Reader<N> {
 
     pub(crate) fn alloc(&self) -> Global {
         self.alloc
-    }
-
-    /// How often something had been published when its last look began that was accepted.
-    pub(crate) fn noted(&self) -> u64 {
-        self.noted
-    }
-
-    /// Takes its last look as one that was not accepted, where this was noted before it.
-    pub(crate) fn note(&mut self, noted: u64)
-        ensures { self.new ≡ self.old }
-    {
-        self.noted = noted;
     }
 
     /// The empty version, as a shelf.
@@ -215,18 +239,43 @@ impl<N: LiveName> Reader<N> {
     }
 }
 
-// A copy of the shelf, unless it is older than what was told. It never is: what was told was published before.
-fn shelf_past<N: LiveName>(told: &Front<N>, shelf: &Shelf) -> Result<Shelf, KvError>
+// A copy of the shelf, unless it is older than what was told, or this follower lags behind it. It never is older: what
+// was told was published before.
+fn shelf_past<N: LiveName>(
+    told: &Front<N>,
+    follower: Option<(&Shelf, &Cursor)>,
+    shelf: &Shelf,
+) -> Result<Shelf, KvError>
     requires { IsOf N.opening shelf.now }
     ensures ok { IfOk result
         (λ s. (s.glimpse.sight ≡ shelf.now.glimpse.sight) × (s.version.config ≡ shelf.now.version.config)
         × IsPrefix told.now shelf.now.glimpse.sight.log) }
     ensures stands { IfOk result (λ s. StandsFor shelf.now.glimpse.sight.log s.version) }
-    ensures err { IfErr result IsUnread }
+    ensures ahead { IfOk result (λ _. IfSome follower.entry
+        (λ f. TellsLag f.0.now f.1.now (floor_of shelf.now.glimpse.sight.log) false)) }
+    ensures err { IfErr result (λ e. IsUnread e ⊎ ((e ≡ Lagged (floor_of shelf.now.glimpse.sight.log))
+        × MatchOption follower.entry ⊥ (λ f. TellsLag f.0.now f.1.now (floor_of shelf.now.glimpse.sight.log) true))) }
 {
     let seen: Front<N> = Front::of(shelf.glimpse());
     if !seen.covers(told) {
         return Err(KvError::NoReader);
     }
+    if let Some((current, cursor)) = follower {
+        let floor = shelf.version().floor();
+        if lags_behind(current, cursor, floor) {
+            return Err(KvError::Lagged { floor });
+        }
+    }
     shelf.again()
+}
+
+// Whether a feed with this cursor that is on this shelf lags behind a version with the floor.
+fn lags_behind(current: &Shelf, cursor: &Cursor, floor: u64) -> bool
+    ensures { TellsLag current.now cursor.now floor result }
+{
+    let version = current.version();
+    if version.revision() < floor {
+        return true;
+    }
+    cursor.behind(version, floor)
 }

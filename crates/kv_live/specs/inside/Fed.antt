@@ -1,10 +1,11 @@
 -- What a feed keeps.
-use Rattle.std.specs.Prelude.{◌≡◌, ℕ, List}
+use Rattle.std.specs.Prelude.{◌≡◌, ℕ, Bool, List}
 use Rattle.kv_model.specs.Acts.{Act, IsPrefix}
 use Rattle.kv_model.specs.Configuration.{Configuration}
 use Rattle.kv_model.specs.declared.options.Options.{Options}
 use Rattle.kv_watch.specs.Following.{Following, InReach}
-use Rattle.kv_live.specs.Feeding.{Feeding}
+use Rattle.kv_store.specs.Stored.{Stored}
+use Rattle.kv_live.specs.Feeding.{Feeding, lags}
 use Rattle.kv_live.specs.Known.{Known}
 use Rattle.kv_live.specs.inside.Shelves.{Shelved}
 
@@ -39,3 +40,10 @@ opened reader acts filters options = record {
   options = options;
   handed = 0;
 }
+
+-- whether a feed that is on this shelf with this cursor lags behind a floor
+abbrev pub TellsLag : Shelved → Following → ℕ → Bool → Type 0
+TellsLag current cursor floor answer = (feed : Feeding) (opening : Stored) → feed.acts ≡ acts_on current →
+    feed.filters ≡ cursor.filters → feed.options ≡ cursor.options →
+    InReach feed.began feed.acts feed.handed opening current.version cursor →
+    answer ≡ lags opening.config.history floor feed

@@ -4,7 +4,7 @@ use Rattle.kv_model.specs.Acts.{Act, IsPrefix}
 use Rattle.kv_store.specs.Standing.{StandsFor}
 use Rattle.kv_live.specs.inside.Shelves.{IsOf}
 use Rattle.kv_live.proofs.Publishing.{sees}
-use Rattle.kv_live.proofs.reader.Reader.look.Goals as goal
+use Rattle.kv_live.proofs.reader.Reader.enter.Goals as goal
 
 pub enter_as-requires : goal.enter_as-requires
 enter_as-requires g c x = sees (IsOf g.N.LiveName.opening) (λ s. s.glimpse.sight.log) _ _ x
