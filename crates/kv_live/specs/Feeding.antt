@@ -1,12 +1,12 @@
 -- What a contract sees of a feed, and what its calls do to it.
-use Rattle.std.specs.Prelude.{◌≡◌, ℕ, ◌+◌, ◌<◌, ◌≤◌, ◌⊎◌, Bool, true, ◌||◌, nat_lt, List, [], ◌∷◌, Option, Some, None, take, length, slice_get}
+use Rattle.std.specs.Prelude.{◌≡◌, ℕ, ◌+◌, ◌<◌, ◌≤◌, ◌⊎◌, Bool, true, false, ◌||◌, nat_lt, List, [], ◌∷◌, Option, Some, None, take, length, slice_get}
 use Rattle.std.specs.List.{filter_map}
 use Rattle.kv_keys.specs.declared.error.KvError.{KvError}
-use Rattle.kv_keys.specs.declared.error.KvError.TheVariants.{Lagged}
+use Rattle.kv_keys.specs.declared.error.KvError.TheVariants.{Lagged, NoReader, OutOfMemory}
 use Rattle.kv_model.specs.Acts.{Act, IsPrefix, floor_of, writes_of}
 use Rattle.kv_model.specs.declared.options.Options.{Options}
 use Rattle.kv_model.specs.Given.{Item, given, is_behind}
-use Rattle.kv_live.specs.Known.{Known, IsUnread}
+use Rattle.kv_live.specs.Known.{Known}
 
 -- a feed: its reader, the acts when it was opened, those that its version stands for, what it matches and how it shows
 -- it, and how many items it handed out
@@ -49,11 +49,13 @@ pub record IsNotRefreshed (before after : Feeding) : Type 0 where
   pub reader : HasSeenMore before.reader after.reader
   pub same : after ≡ record before { reader = after.reader }
 
--- why a feed stays where it is: nothing was read, or it lags behind the floor of what its reader has seen by now
+-- why a feed stays where it is: the store lets no reader enter; or it lags behind the floor of what its reader has seen by
+-- now; or memory was refused, where it doesn't
 abbrev pub IsStopped : ℕ → Feeding → Feeding → KvError → Type 0
 IsStopped h before after error =
-    IsUnread error ⊎ ((error ≡ Lagged (floor_of after.reader.seen)) ×
-    (lags h (floor_of after.reader.seen) before ≡ true))
+    (error ≡ NoReader)
+    ⊎ (((error ≡ Lagged (floor_of after.reader.seen)) × (lags h (floor_of after.reader.seen) before ≡ true))
+    ⊎ ((error ≡ OutOfMemory) × (lags h (floor_of after.reader.seen) before ≡ false)))
 
 -- what was told was added to what its reader knows; nothing else of it changed
 pub record HasLearned (told : List Act) (before after : Feeding) : Type 0 where

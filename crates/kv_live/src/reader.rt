@@ -1,12 +1,13 @@
 //! Readers, which take no lock and wait for nobody.
 
-ghost use Rattle.std.specs.Prelude.{◌≡◌, ◌⊎◌, ◌≤◌, IfOk, IfErr, IfSome, MatchOption, MatchResult, [], true, false};
+ghost use Rattle.std.specs.Prelude.{◌≡◌, ◌⊎◌, ◌≤◌, IfOk, IfErr, IfSome, Some, MatchResult, [], true, false};
+ghost use Rattle.std.specs.Option.{option_map};
 ghost use Rattle.left_right.specs.Sides.{view};
-ghost use Rattle.kv_keys.specs.declared.error.KvError.TheVariants.{Lagged, OutOfMemory};
+ghost use Rattle.kv_keys.specs.declared.error.KvError.TheVariants.{OutOfMemory};
 ghost use Rattle.kv_model.specs.Acts.{IsPrefix, floor_of};
 ghost use Rattle.kv_store.specs.Standing.{StandsFor};
 ghost use Rattle.kv_live.specs.Known.{IsUnread};
-ghost use Rattle.kv_live.specs.inside.Fed.{TellsLag};
+ghost use Rattle.kv_live.specs.inside.Fed.{TellsLag, TellsLagOf, IsNotShown};
 ghost use Rattle.kv_live.specs.inside.Shelves.{IsOf};
 
 use crate::bell::{Bell, Woken};
@@ -144,9 +145,7 @@ impl<N: LiveName> Reader<N> {
             (λ s. (s.glimpse.sight.log ≡ self.new.seen) × IsOf N.opening s × IsPrefix self.old.told self.new.seen) }
         ensures stands { IfOk result (λ s. StandsFor self.new.seen s.version) }
         ensures ahead { IfOk result (λ _. TellsLag current.now cursor.now (floor_of self.new.seen) false) }
-        ensures err { IfErr result
-            (λ e. IsUnread e ⊎ ((e ≡ Lagged (floor_of self.new.seen))
-            × TellsLag current.now cursor.now (floor_of self.new.seen) true)) }
+        ensures err { IfErr result (IsNotShown (Some (current.now, cursor.now)) self.new.seen) }
     {
         self.look(Some((current, cursor)))
     }
@@ -159,10 +158,10 @@ impl<N: LiveName> Reader<N> {
         ensures ok { IfOk result
             (λ s. (s.glimpse.sight.log ≡ self.new.seen) × IsOf N.opening s × IsPrefix self.old.told self.new.seen) }
         ensures stands { IfOk result (λ s. StandsFor self.new.seen s.version) }
-        ensures ahead { IfOk result (λ _. IfSome follower.entry
-            (λ f. TellsLag f.0.now f.1.now (floor_of self.new.seen) false)) }
-        ensures err { IfErr result (λ e. IsUnread e ⊎ ((e ≡ Lagged (floor_of self.new.seen))
-            × MatchOption follower.entry ⊥ (λ f. TellsLag f.0.now f.1.now (floor_of self.new.seen) true))) }
+        ensures ahead { IfOk result
+            (λ _. TellsLagOf (option_map (λ f. (f.0.now, f.1.now)) follower.entry) (floor_of self.new.seen) false) }
+        ensures err { IfErr result
+            (IsNotShown (option_map (λ f. (f.0.now, f.1.now)) follower.entry) self.new.seen) }
     {
         let noted = self.bell.count();
         let shelf = self.enter(follower);
@@ -178,10 +177,10 @@ impl<N: LiveName> Reader<N> {
         ensures ok { IfOk result
             (λ s. (s.glimpse.sight.log ≡ self.new.seen) × IsOf N.opening s × IsPrefix self.old.told self.new.seen) }
         ensures stands { IfOk result (λ s. StandsFor self.new.seen s.version) }
-        ensures ahead { IfOk result (λ _. IfSome follower.entry
-            (λ f. TellsLag f.0.now f.1.now (floor_of self.new.seen) false)) }
-        ensures err { IfErr result (λ e. IsUnread e ⊎ ((e ≡ Lagged (floor_of self.new.seen))
-            × MatchOption follower.entry ⊥ (λ f. TellsLag f.0.now f.1.now (floor_of self.new.seen) true))) }
+        ensures ahead { IfOk result
+            (λ _. TellsLagOf (option_map (λ f. (f.0.now, f.1.now)) follower.entry) (floor_of self.new.seen) false) }
+        ensures err { IfErr result
+            (IsNotShown (option_map (λ f. (f.0.now, f.1.now)) follower.entry) self.new.seen) }
     {
         let Some(seat) = self.seat.take() else {
             unreachable!()
@@ -251,10 +250,10 @@ fn shelf_past<N: LiveName>(
         (λ s. (s.glimpse.sight ≡ shelf.now.glimpse.sight) × (s.version.config ≡ shelf.now.version.config)
         × IsPrefix told.now shelf.now.glimpse.sight.log) }
     ensures stands { IfOk result (λ s. StandsFor shelf.now.glimpse.sight.log s.version) }
-    ensures ahead { IfOk result (λ _. IfSome follower.entry
-        (λ f. TellsLag f.0.now f.1.now (floor_of shelf.now.glimpse.sight.log) false)) }
-    ensures err { IfErr result (λ e. IsUnread e ⊎ ((e ≡ Lagged (floor_of shelf.now.glimpse.sight.log))
-        × MatchOption follower.entry ⊥ (λ f. TellsLag f.0.now f.1.now (floor_of shelf.now.glimpse.sight.log) true))) }
+    ensures ahead { IfOk result (λ _. TellsLagOf (option_map (λ f. (f.0.now, f.1.now)) follower.entry)
+        (floor_of shelf.now.glimpse.sight.log) false) }
+    ensures err { IfErr result
+        (IsNotShown (option_map (λ f. (f.0.now, f.1.now)) follower.entry) shelf.now.glimpse.sight.log) }
 {
     let seen: Front<N> = Front::of(shelf.glimpse());
     if !seen.covers(told) {

@@ -1,6 +1,8 @@
 -- What a feed keeps.
-use Rattle.std.specs.Prelude.{◌≡◌, ℕ, Bool, List}
-use Rattle.kv_model.specs.Acts.{Act, IsPrefix}
+use Rattle.std.specs.Prelude.{◌≡◌, ℕ, Bool, true, false, List, Option, Some, None, ◌⊎◌}
+use Rattle.kv_keys.specs.declared.error.KvError.{KvError}
+use Rattle.kv_keys.specs.declared.error.KvError.TheVariants.{Lagged, NoReader, OutOfMemory}
+use Rattle.kv_model.specs.Acts.{Act, IsPrefix, floor_of}
 use Rattle.kv_model.specs.Configuration.{Configuration}
 use Rattle.kv_model.specs.declared.options.Options.{Options}
 use Rattle.kv_watch.specs.Following.{Following, InReach}
@@ -47,3 +49,16 @@ TellsLag current cursor floor answer = (feed : Feeding) (opening : Stored) → f
     feed.filters ≡ cursor.filters → feed.options ≡ cursor.options →
     InReach feed.began feed.acts feed.handed opening current.version cursor →
     answer ≡ lags opening.config.history floor feed
+
+-- the same where there may be no feed, which lags behind nothing
+abbrev pub TellsLagOf : Option (Shelved × Following) → ℕ → Bool → Type 0
+TellsLagOf None floor answer = answer ≡ false
+TellsLagOf (Some feed) floor answer = TellsLag feed.0 feed.1 floor answer
+
+-- why nothing was handed over to a feed, if any, when its reader has seen these acts: the store let it not enter; or the
+-- feed lags behind their floor; or memory was refused, where it doesn't
+abbrev pub IsNotShown : Option (Shelved × Following) → List Act → KvError → Type 0
+IsNotShown feed seen error =
+    (error ≡ NoReader)
+    ⊎ (((error ≡ Lagged (floor_of seen)) × TellsLagOf feed (floor_of seen) true)
+    ⊎ ((error ≡ OutOfMemory) × TellsLagOf feed (floor_of seen) false))
