@@ -85,13 +85,25 @@ fn has_the_rest(rt: &impl Abort, alloc: Global, version: &Version) -> Result<(),
 #[test]
 fn compaction(rt: HostRuntime) -> Result<(), Fail> {
     let version = five(&rt, rt.alloc())?;
-    assert_eq!(rt; floor(&version), 0);
-    has_bad_floor(&rt, rt.alloc(), &version, 0);
-    has_bad_floor(&rt, rt.alloc(), &version, 6);
-    let compacted = compact(&rt, rt.alloc(), &version, 4)?;
-    has_the_rest(&rt, rt.alloc(), &compacted)?;
-    goes_on(&rt, rt.alloc(), &compacted)?;
+    compacts(&rt, rt.alloc(), &version)?;
     Ok(())
+}
+
+fn compacts(rt: &impl Abort, alloc: Global, version: &Version) -> Result<(), KvError> {
+    assert_eq!(rt; floor(version), 0);
+    has_bad_floor(rt, alloc, version, 0);
+    has_bad_floor(rt, alloc, version, 6);
+    let compacted = compact(rt, alloc, version, 4)?;
+    has_the_rest_and_goes_on(rt, alloc, &compacted)
+}
+
+fn has_the_rest_and_goes_on(
+    rt: &impl Abort,
+    alloc: Global,
+    compacted: &Version,
+) -> Result<(), KvError> {
+    has_the_rest(rt, alloc, compacted)?;
+    goes_on(rt, alloc, compacted)
 }
 
 // A cleared key is written again, and the floor never falls.
@@ -104,11 +116,16 @@ fn goes_on(rt: &impl Abort, alloc: Global, compacted: &Version) -> Result<(), Kv
 #[test]
 fn compaction_in_place(rt: HostRuntime) -> Result<(), Fail> {
     let mut version = five(&rt, rt.alloc())?;
-    compact_in_place(&rt, rt.alloc(), &mut version, 4)?;
-    has_the_rest(&rt, rt.alloc(), &version)?;
+    compacts_in_place(&rt, rt.alloc(), &mut version)?;
+    Ok(())
+}
+
+fn compacts_in_place(rt: &impl Abort, alloc: Global, version: &mut Version) -> Result<(), KvError> {
+    compact_in_place(rt, alloc, version, 4)?;
+    has_the_rest(rt, alloc, version)?;
     assert!(rt;
         matches!(
-            compact_in_place(&rt, rt.alloc(), &mut version, 3),
+            compact_in_place(rt, alloc, version, 3),
             Err(KvError::BadFloor)
         )
     );
@@ -134,12 +151,17 @@ fn full(rt: &impl Abort, alloc: Global) -> Result<Version, KvError> {
 #[test]
 fn compaction_frees_the_journal(rt: HostRuntime) -> Result<(), Fail> {
     let version = full(&rt, rt.alloc())?;
-    let version = compact(&rt, rt.alloc(), &version, 2)?;
+    frees_the_journal(&rt, rt.alloc(), &version)?;
+    Ok(())
+}
+
+fn frees_the_journal(rt: &impl Abort, alloc: Global, version: &Version) -> Result<(), KvError> {
+    let version = compact(rt, alloc, version, 2)?;
     let steps = [
         ("a", Ask::Put(""), Ok(3)),
         ("a", Ask::Put(""), Err(KvError::JournalFull)),
     ];
-    run(&rt, rt.alloc(), version, &steps)?;
+    run(rt, alloc, version, &steps)?;
     Ok(())
 }
 
@@ -170,9 +192,14 @@ fn compacted_to(
 #[test]
 fn a_cleared_key_is_as_one_never_written(rt: HostRuntime) -> Result<(), Fail> {
     let version = deleted(&rt, rt.alloc())?;
-    compacted_to(&rt, rt.alloc(), &version, 1, 2)?;
-    let cleared = compacted_to(&rt, rt.alloc(), &version, 2, 0)?;
+    clears_the_key(&rt, rt.alloc(), &version)?;
+    Ok(())
+}
+
+fn clears_the_key(rt: &impl Abort, alloc: Global, version: &Version) -> Result<(), KvError> {
+    compacted_to(rt, alloc, version, 1, 2)?;
+    let cleared = compacted_to(rt, alloc, version, 2, 0)?;
     let steps = [("k", Ask::Update("3", 0), Ok(4))];
-    run(&rt, rt.alloc(), cleared, &steps)?;
+    run(rt, alloc, cleared, &steps)?;
     Ok(())
 }

@@ -121,17 +121,40 @@ fn writes_that_nobody_sees(rt: HostRuntime) -> Result<(), Fail> {
 #[test]
 fn writes_beside_a_snapshot(rt: HostRuntime) -> Result<(), Fail> {
     let mut here = first_here(&rt, rt.alloc())?;
-    let held = later_here(&rt, rt.alloc(), &mut here)?;
-    tells_the_first(&rt, rt.alloc(), &held)?;
-    tells_all(&rt, rt.alloc(), &here)?;
+    writes_beside(&rt, rt.alloc(), &mut here)?;
     Ok(())
+}
+
+fn writes_beside(rt: &impl Abort, alloc: Global, here: &mut Version) -> Result<(), KvError> {
+    let held = later_here(rt, alloc, here)?;
+    tells_both(rt, alloc, &held, here)
+}
+
+fn tells_both(
+    rt: &impl Abort,
+    alloc: Global,
+    held: &Version,
+    here: &Version,
+) -> Result<(), KvError> {
+    tells_the_first(rt, alloc, held)?;
+    tells_all(rt, alloc, here)
 }
 
 #[test]
 fn writes_to_a_sealed_version(rt: HostRuntime) -> Result<(), Fail> {
-    let mut here = sealed(&rt, rt.alloc(), &kv(rt.alloc())?)?;
+    let mut here = empty_and_sealed(&rt, rt.alloc())?;
+    refuses(&rt, rt.alloc(), &mut here)?;
+    Ok(())
+}
+
+fn empty_and_sealed(rt: &impl Abort, alloc: Global) -> Result<Version, KvError> {
+    let empty = kv(alloc)?;
+    sealed(rt, alloc, &empty)
+}
+
+fn refuses(rt: &impl Abort, alloc: Global, here: &mut Version) -> Result<(), KvError> {
     let refused = [("a", Ask::Put("1"), Err(KvError::Sealed))];
-    run_here(&rt, rt.alloc(), &mut here, &refused)?;
-    assert_eq!(rt; newest(&here), 0);
+    run_here(rt, alloc, here, &refused)?;
+    assert_eq!(rt; newest(here), 0);
     Ok(())
 }

@@ -83,16 +83,24 @@ fn first_refusal_of_a_sealed_bucket(rt: HostRuntime) -> Result<(), Fail> {
         ("a", Ask::Update("", 7), Err(KvError::Sealed)),
         ("n", Ask::Purge(None), Err(KvError::Sealed)),
     ];
-    let version = sealed(&rt, rt.alloc(), &full(&rt, rt.alloc())?)?;
-    run(&rt, rt.alloc(), version, &steps)?;
+    run(&rt, rt.alloc(), full_and_sealed(&rt, rt.alloc())?, &steps)?;
     Ok(())
+}
+
+fn full_and_sealed(rt: &impl Abort, alloc: Global) -> Result<Version, KvError> {
+    let full = full(rt, alloc)?;
+    sealed(rt, alloc, &full)
 }
 
 #[test]
 fn a_seal_of_a_sealed_bucket(rt: HostRuntime) -> Result<(), Fail> {
-    let once = sealed(&rt, rt.alloc(), &full(&rt, rt.alloc())?)?;
-    let twice = sealed(&rt, rt.alloc(), &once)?;
-    tell_the_same(&rt, rt.alloc(), &once, &twice)?;
+    let once = full_and_sealed(&rt, rt.alloc())?;
+    is_sealed_again(&rt, rt.alloc(), &once)?;
+    Ok(())
+}
+
+fn is_sealed_again(rt: &impl Abort, alloc: Global, once: &Version) -> Result<(), KvError> {
+    let twice = sealed(rt, alloc, once)?;
     let status = Status {
         history: 1,
         last: 2,
@@ -101,7 +109,7 @@ fn a_seal_of_a_sealed_bucket(rt: HostRuntime) -> Result<(), Fail> {
         values: 2,
     };
     assert_eq!(rt; numbers(&twice), status);
-    Ok(())
+    tell_the_same(rt, alloc, once, &twice)
 }
 
 fn zeros(alloc: Global, count: usize) -> Result<Vec<u8>, KvError> {

@@ -153,6 +153,11 @@ fn selects(
 fn wildcards(rt: HostRuntime) -> Result<(), Fail> {
     let writes = [(Op::Put, "a"), (Op::Put, "a.b"), (Op::Put, "a.b.c")];
     let version = all_written(rt.alloc(), 1, &writes)?;
+    wildcards_match(&rt, rt.alloc(), &version)?;
+    Ok(())
+}
+
+fn wildcards_match(rt: &impl Abort, alloc: Global, version: &Version) -> Result<(), KvError> {
     let rows = [
         ("a.>", "a.b a.b.c "),
         ("a.*", "a.b "),
@@ -163,7 +168,7 @@ fn wildcards(rt: HostRuntime) -> Result<(), Fail> {
         ("b", ""),
     ];
     for (filter, keys) in rows {
-        lists(&rt, rt.alloc(), &version, filter, keys)?;
+        lists(rt, alloc, version, filter, keys)?;
     }
     Ok(())
 }
@@ -178,9 +183,14 @@ fn keys_come_by_their_latest_revisions(rt: HostRuntime) -> Result<(), Fail> {
         (Op::Delete, "a"),
     ];
     let version = all_written(rt.alloc(), 5, &writes)?;
-    lists(&rt, rt.alloc(), &version, ">", "b c ")?;
-    lists(&rt, rt.alloc(), &version, "c", "c ")?;
-    lists(&rt, rt.alloc(), &version, "a", "")?;
+    latest_come_last(&rt, rt.alloc(), &version)?;
+    Ok(())
+}
+
+fn latest_come_last(rt: &impl Abort, alloc: Global, version: &Version) -> Result<(), KvError> {
+    lists(rt, alloc, version, ">", "b c ")?;
+    lists(rt, alloc, version, "c", "c ")?;
+    lists(rt, alloc, version, "a", "")?;
     Ok(())
 }
 
@@ -200,9 +210,14 @@ fn purge_keeps_its_marker(rt: HostRuntime) -> Result<(), Fail> {
         (Op::Put, "k"),
     ];
     let version = all_written(rt.alloc(), 64, &writes)?;
+    begins_with_the_purge(&rt, rt.alloc(), &version)?;
+    Ok(())
+}
+
+fn begins_with_the_purge(rt: &impl Abort, alloc: Global, version: &Version) -> Result<(), KvError> {
     let numbers = [(Op::Purge, 3), (Op::Put, 4)];
-    retains(&rt, rt.alloc(), &version, "k", &numbers)?;
-    knows_not(&rt, rt.alloc(), &version, "other");
+    retains(rt, alloc, version, "k", &numbers)?;
+    knows_not(rt, alloc, version, "other");
     Ok(())
 }
 
@@ -215,13 +230,18 @@ fn hostile_places(rt: HostRuntime) -> Result<(), Fail> {
         (Op::Put, "zinke"),
     ];
     let version = all_written(rt.alloc(), 2, &writes)?;
-    retains(&rt, rt.alloc(), &version, "altarage", &[(Op::Purge, 3)])?;
+    both_are_told_apart(&rt, rt.alloc(), &version)?;
+    Ok(())
+}
+
+fn both_are_told_apart(rt: &impl Abort, alloc: Global, version: &Version) -> Result<(), KvError> {
+    retains(rt, alloc, version, "altarage", &[(Op::Purge, 3)])?;
     let numbers = [(Op::Put, 2), (Op::Put, 4)];
-    retains(&rt, rt.alloc(), &version, "zinke", &numbers)?;
-    lists(&rt, rt.alloc(), &version, ">", "zinke ")?;
+    retains(rt, alloc, version, "zinke", &numbers)?;
+    lists(rt, alloc, version, ">", "zinke ")?;
     let latest = Start::Latest;
-    selects(&rt, rt.alloc(), &version, "zinke", latest, &[4])?;
-    selects(&rt, rt.alloc(), &version, "zinke,altarage", latest, &[3, 4])?;
+    selects(rt, alloc, version, "zinke", latest, &[4])?;
+    selects(rt, alloc, version, "zinke,altarage", latest, &[3, 4])?;
     Ok(())
 }
 
@@ -233,8 +253,13 @@ fn places_that_collide(rt: HostRuntime) -> Result<(), Fail> {
         (Op::Delete, "altarage"),
     ];
     let version = all_written(rt.alloc(), 1, &writes)?;
-    lists(&rt, rt.alloc(), &version, ">", "zinke ")?;
-    retains(&rt, rt.alloc(), &version, "altarage", &[(Op::Delete, 3)])?;
+    one_is_deleted(&rt, rt.alloc(), &version)?;
+    Ok(())
+}
+
+fn one_is_deleted(rt: &impl Abort, alloc: Global, version: &Version) -> Result<(), KvError> {
+    lists(rt, alloc, version, ">", "zinke ")?;
+    retains(rt, alloc, version, "altarage", &[(Op::Delete, 3)])?;
     Ok(())
 }
 
@@ -248,17 +273,15 @@ fn selections(rt: HostRuntime) -> Result<(), Fail> {
         (Op::Put, "a.b"),
     ];
     let version = all_written(rt.alloc(), 2, &writes)?;
+    starts_select(&rt, rt.alloc(), &version)?;
+    Ok(())
+}
+
+fn starts_select(rt: &impl Abort, alloc: Global, version: &Version) -> Result<(), KvError> {
     let filters = "a.*,*.b";
-    selects(&rt, rt.alloc(), &version, filters, Start::Latest, &[4, 5])?;
-    selects(
-        &rt,
-        rt.alloc(),
-        &version,
-        filters,
-        Start::History,
-        &[3, 4, 5],
-    )?;
-    selects(&rt, rt.alloc(), &version, ">", Start::From(4), &[4, 5])?;
+    selects(rt, alloc, version, filters, Start::Latest, &[4, 5])?;
+    selects(rt, alloc, version, filters, Start::History, &[3, 4, 5])?;
+    selects(rt, alloc, version, ">", Start::From(4), &[4, 5])?;
     Ok(())
 }
 
@@ -277,6 +300,11 @@ fn three_keys(alloc: Global) -> Result<Version, KvError> {
 #[test]
 fn keys_by_their_names(rt: HostRuntime) -> Result<(), Fail> {
     let version = three_keys(rt.alloc())?;
+    names_select(&rt, rt.alloc(), &version)?;
+    Ok(())
+}
+
+fn names_select(rt: &impl Abort, alloc: Global, version: &Version) -> Result<(), KvError> {
     let rows: [(&str, Start, &[u64]); 10] = [
         ("a.b", Start::Latest, &[5]),
         ("a.b", Start::History, &[3, 5]),
@@ -292,7 +320,7 @@ fn keys_by_their_names(rt: HostRuntime) -> Result<(), Fail> {
         ("a.b,a.b,a.b", Start::History, &[3, 5]),
     ];
     for (filters, start, wanted) in rows {
-        selects(&rt, rt.alloc(), &version, filters, start, wanted)?;
+        selects(rt, alloc, version, filters, start, wanted)?;
     }
     Ok(())
 }
@@ -300,6 +328,15 @@ fn keys_by_their_names(rt: HostRuntime) -> Result<(), Fail> {
 #[test]
 fn names_beside_wildcards(rt: HostRuntime) -> Result<(), Fail> {
     let version = three_keys(rt.alloc())?;
+    names_and_wildcards_select(&rt, rt.alloc(), &version)?;
+    Ok(())
+}
+
+fn names_and_wildcards_select(
+    rt: &impl Abort,
+    alloc: Global,
+    version: &Version,
+) -> Result<(), KvError> {
     let rows: [(&str, Start, &[u64]); 5] = [
         ("c,a.*", Start::History, &[2, 3, 5]),
         ("a.b,*.b", Start::Latest, &[4, 5]),
@@ -308,7 +345,7 @@ fn names_beside_wildcards(rt: HostRuntime) -> Result<(), Fail> {
         ("*", Start::Latest, &[2]),
     ];
     for (filters, start, wanted) in rows {
-        selects(&rt, rt.alloc(), &version, filters, start, wanted)?;
+        selects(rt, alloc, version, filters, start, wanted)?;
     }
     Ok(())
 }
@@ -316,7 +353,12 @@ fn names_beside_wildcards(rt: HostRuntime) -> Result<(), Fail> {
 #[test]
 fn nothing_is_there(rt: HostRuntime) -> Result<(), Fail> {
     let version = all_written(rt.alloc(), 1, &[])?;
-    selects(&rt, rt.alloc(), &version, "a,b", Start::Latest, &[])?;
-    selects(&rt, rt.alloc(), &version, "a,>", Start::Latest, &[])?;
+    nothing_is_selected(&rt, rt.alloc(), &version)?;
+    Ok(())
+}
+
+fn nothing_is_selected(rt: &impl Abort, alloc: Global, version: &Version) -> Result<(), KvError> {
+    selects(rt, alloc, version, "a,b", Start::Latest, &[])?;
+    selects(rt, alloc, version, "a,>", Start::Latest, &[])?;
     Ok(())
 }

@@ -122,6 +122,11 @@ fn parts_of_a_write(rt: HostRuntime) -> Result<(), Fail> {
 #[test]
 fn numbers_of_a_version(rt: HostRuntime) -> Result<(), Fail> {
     let version = small(&rt, rt.alloc())?;
+    tells_its_numbers(&rt, rt.alloc(), &version)?;
+    Ok(())
+}
+
+fn tells_its_numbers(rt: &impl Abort, alloc: Global, version: &Version) -> Result<(), KvError> {
     let status = Status {
         history: 2,
         last: 4,
@@ -155,10 +160,19 @@ fn has_none(rt: &impl Abort, version: &Version, revision: u64) {
 #[test]
 fn writes_by_revision(rt: HostRuntime) -> Result<(), Fail> {
     let version = small(&rt, rt.alloc())?;
-    assert!(rt; is_stored(&version, 1, b"one"));
-    assert!(rt; is_stored(&version, 4, b""));
+    has_writes_by_revision(&rt, rt.alloc(), &version)?;
+    Ok(())
+}
+
+fn has_writes_by_revision(
+    rt: &impl Abort,
+    alloc: Global,
+    version: &Version,
+) -> Result<(), KvError> {
+    assert!(rt; is_stored(version, 1, b"one"));
+    assert!(rt; is_stored(version, 4, b""));
     for revision in [0, 5, u64::MAX] {
-        has_none(&rt, &version, revision);
+        has_none(rt, version, revision);
     }
     Ok(())
 }
@@ -185,8 +199,13 @@ fn has_kept(
 #[test]
 fn revisions_by_key(rt: HostRuntime) -> Result<(), Fail> {
     let version = small(&rt, rt.alloc())?;
-    has_kept(&rt, rt.alloc(), &version, "a", Some(&[2, 4]), 4)?;
-    has_kept(&rt, rt.alloc(), &version, "n", None, 0)?;
+    has_revisions_by_key(&rt, rt.alloc(), &version)?;
+    Ok(())
+}
+
+fn has_revisions_by_key(rt: &impl Abort, alloc: Global, version: &Version) -> Result<(), KvError> {
+    has_kept(rt, alloc, version, "a", Some(&[2, 4]), 4)?;
+    has_kept(rt, alloc, version, "n", None, 0)?;
     Ok(())
 }
 
@@ -215,17 +234,31 @@ fn op_in_trie(version: &Version, revision: u32) -> Option<Op> {
 #[test]
 fn the_trie_by_key(rt: HostRuntime) -> Result<(), Fail> {
     let version = small(&rt, rt.alloc())?;
-    let a = key(rt.alloc(), "a")?;
-    assert_eq!(rt; keys_in_trie(&version), 2);
-    assert_eq!(rt; kept_in_trie(&version, &a), Some(2));
+    has_a_trie_by_key(&rt, rt.alloc(), &version)?;
+    Ok(())
+}
+
+fn has_a_trie_by_key(rt: &impl Abort, alloc: Global, version: &Version) -> Result<(), KvError> {
+    let a = key(alloc, "a")?;
+    assert_eq!(rt; keys_in_trie(version), 2);
+    assert_eq!(rt; kept_in_trie(version, &a), Some(2));
     Ok(())
 }
 
 #[test]
 fn the_trie_by_revision(rt: HostRuntime) -> Result<(), Fail> {
     let version = small(&rt, rt.alloc())?;
-    assert_eq!(rt; writes_in_trie(&version), 4);
-    assert_eq!(rt; op_in_trie(&version, 4), Some(Op::Delete));
+    has_a_trie_by_revision(&rt, rt.alloc(), &version)?;
+    Ok(())
+}
+
+fn has_a_trie_by_revision(
+    rt: &impl Abort,
+    alloc: Global,
+    version: &Version,
+) -> Result<(), KvError> {
+    assert_eq!(rt; writes_in_trie(version), 4);
+    assert_eq!(rt; op_in_trie(version, 4), Some(Op::Delete));
     Ok(())
 }
 
@@ -264,22 +297,49 @@ fn filters(alloc: Global, text: &str) -> Result<Filters, KvError> {
 
 #[test]
 fn wanted_by_a_filter(rt: HostRuntime) -> Result<(), Fail> {
-    let a = key(rt.alloc(), "a")?;
-    let all = filter(rt.alloc(), "*")?;
-    assert!(rt; wants(&all, &a));
-    assert_eq!(rt; asked_by_name(rt.alloc(), &all)?, None);
-    let alone = filter(rt.alloc(), "a")?;
-    assert_eq!(rt; asked_by_name(rt.alloc(), &alone)?, Some(1));
+    wants_by_filter(&rt, rt.alloc(), "*", None)?;
+    wants_by_filter(&rt, rt.alloc(), "a", Some(1))?;
+    Ok(())
+}
+
+// The filter wants `a`, and asks for so many keys by their names.
+fn wants_by_filter(
+    rt: &impl Abort,
+    alloc: Global,
+    text: &str,
+    named: Option<u64>,
+) -> Result<(), KvError> {
+    let filter = filter(alloc, text)?;
+    asks_by_name(rt, alloc, &filter, named, true)
+}
+
+fn asks_by_name<W: Wanted>(
+    rt: &impl Abort,
+    alloc: Global,
+    wanted: &W,
+    named: Option<u64>,
+    wants_a: bool,
+) -> Result<(), KvError> {
+    assert_eq!(rt; asked_by_name(alloc, wanted)?, named);
+    let a = key(alloc, "a")?;
+    assert_eq!(rt; wants(wanted, &a), wants_a);
     Ok(())
 }
 
 #[test]
 fn wanted_by_filters(rt: HostRuntime) -> Result<(), Fail> {
-    let a = key(rt.alloc(), "a")?;
-    let others = filters(rt.alloc(), "b,a.>")?;
-    assert!(rt; !wants(&others, &a));
-    assert_eq!(rt; asked_by_name(rt.alloc(), &others)?, None);
-    let named = filters(rt.alloc(), "b,a.b,b")?;
-    assert_eq!(rt; asked_by_name(rt.alloc(), &named)?, Some(2));
+    wants_others(&rt, rt.alloc(), "b,a.>", None)?;
+    wants_others(&rt, rt.alloc(), "b,a.b,b", Some(2))?;
     Ok(())
+}
+
+// The list of filters doesn't want `a`, and asks for so many keys by their names.
+fn wants_others(
+    rt: &impl Abort,
+    alloc: Global,
+    text: &str,
+    named: Option<u64>,
+) -> Result<(), KvError> {
+    let filters = filters(alloc, text)?;
+    asks_by_name(rt, alloc, &filters, named, false)
 }

@@ -21,8 +21,13 @@ fn create_after_marker(rt: HostRuntime) -> Result<(), Fail> {
         ("a", Ask::Create("4"), Ok(5)),
     ];
     let version = run(&rt, rt.alloc(), kv(rt.alloc())?, &steps)?;
-    let a = key(rt.alloc(), "a")?;
-    assert!(rt; has_value(&version, &a, b"4"));
+    has_last_create(&rt, rt.alloc(), &version)?;
+    Ok(())
+}
+
+fn has_last_create(rt: &impl Abort, alloc: Global, version: &Version) -> Result<(), KvError> {
+    let a = key(alloc, "a")?;
+    assert!(rt; has_value(version, &a, b"4"));
     Ok(())
 }
 
@@ -47,8 +52,13 @@ fn compare_and_set(rt: HostRuntime) -> Result<(), Fail> {
         ("n", Ask::Purge(Some(4)), Ok(6)),
     ];
     let version = run(&rt, rt.alloc(), kv(rt.alloc())?, &steps)?;
-    let k = key(rt.alloc(), "k")?;
-    assert_eq!(rt; last_revision(&version, &k), 5);
+    ends_by_a_delete(&rt, rt.alloc(), &version)?;
+    Ok(())
+}
+
+fn ends_by_a_delete(rt: &impl Abort, alloc: Global, version: &Version) -> Result<(), KvError> {
+    let k = key(alloc, "k")?;
+    assert_eq!(rt; last_revision(version, &k), 5);
     Ok(())
 }
 
@@ -91,9 +101,14 @@ fn markers_of_keys_that_never_were(rt: HostRuntime) -> Result<(), Fail> {
         ("n", Ask::Purge(Some(0)), Ok(4)),
     ];
     let version = run(&rt, rt.alloc(), kv(rt.alloc())?, &steps)?;
-    let sight = look(rt.alloc(), &version)?;
+    has_four_markers(&rt, rt.alloc(), &version)?;
+    Ok(())
+}
+
+fn has_four_markers(rt: &impl Abort, alloc: Global, version: &Version) -> Result<(), KvError> {
+    let sight = look(alloc, version)?;
     assert!(rt; has_ops(&sight, &[Op::Delete, Op::Purge, Op::Delete, Op::Purge]));
-    assert_eq!(rt; numbers(&version).values, 4);
+    assert_eq!(rt; numbers(version).values, 4);
     Ok(())
 }
 
@@ -132,7 +147,12 @@ fn get_at_a_revision(rt: HostRuntime) -> Result<(), Fail> {
         ("n", Ask::Put("5"), Ok(5)),
     ];
     let version = run(&rt, rt.alloc(), keeping(rt.alloc(), 2)?, &steps)?;
-    let k = key(rt.alloc(), "k")?;
-    has_third_alone(&rt, &version, &k);
+    has_the_third(&rt, rt.alloc(), &version)?;
+    Ok(())
+}
+
+fn has_the_third(rt: &impl Abort, alloc: Global, version: &Version) -> Result<(), KvError> {
+    let k = key(alloc, "k")?;
+    has_third_alone(rt, version, &k);
     Ok(())
 }

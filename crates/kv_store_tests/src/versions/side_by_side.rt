@@ -1,16 +1,7 @@
-//! Versions side by side: each stays as it is, whatever is made of it.
+//! Versions side by side: each stays as it is, whatever is made of it. Each function makes one version, and hands it on
+//! to the next one beside those before it.
 
 use super::*;
-
-// Versions that were made of one another.
-#[derive(Drop)]
-struct Versions {
-    empty: Version,
-    written: Version,
-    snapshot: Version,
-    deleted: Version,
-    sealed: Version,
-}
 
 fn snapshot(version: &Version) -> Result<Version, KvError> {
     match version.snapshot() {
@@ -19,29 +10,67 @@ fn snapshot(version: &Version) -> Result<Version, KvError> {
     }
 }
 
-// What comes after the first two.
-fn later(
-    rt: &impl Abort,
-    alloc: Global,
-    empty: Version,
-    put: Version,
-) -> Result<Versions, KvError> {
-    let snapshot = snapshot(&put)?;
-    let deleted = written(rt, alloc, &put, "a", Ask::Delete(None))?;
-    let sealed = sealed(rt, alloc, &deleted)?;
-    Ok(Versions {
-        empty,
-        written: put,
-        snapshot,
-        deleted,
-        sealed,
-    })
+#[test]
+fn versions_side_by_side(rt: HostRuntime) -> Result<(), Fail> {
+    beginning_empty(&rt, rt.alloc())?;
+    Ok(())
 }
 
-fn four_versions(rt: &impl Abort, alloc: Global) -> Result<Versions, KvError> {
+fn beginning_empty(rt: &impl Abort, alloc: Global) -> Result<(), KvError> {
     let empty = kv(alloc)?;
-    let written = written(rt, alloc, &empty, "a", Ask::Put("1"))?;
-    later(rt, alloc, empty, written)
+    beside_empty(rt, alloc, &empty)
+}
+
+fn beside_empty(rt: &impl Abort, alloc: Global, empty: &Version) -> Result<(), KvError> {
+    let put = written(rt, alloc, empty, "a", Ask::Put("1"))?;
+    beside_put(rt, alloc, empty, &put)
+}
+
+fn beside_put(
+    rt: &impl Abort,
+    alloc: Global,
+    empty: &Version,
+    put: &Version,
+) -> Result<(), KvError> {
+    let same = snapshot(put)?;
+    beside_snapshot(rt, alloc, empty, put, &same)
+}
+
+fn beside_snapshot(
+    rt: &impl Abort,
+    alloc: Global,
+    empty: &Version,
+    put: &Version,
+    same: &Version,
+) -> Result<(), KvError> {
+    let deleted = written(rt, alloc, put, "a", Ask::Delete(None))?;
+    beside_deleted(rt, alloc, &deleted)?;
+    stay(rt, alloc, empty, put, same)
+}
+
+fn beside_deleted(rt: &impl Abort, alloc: Global, deleted: &Version) -> Result<(), KvError> {
+    let sealed = sealed(rt, alloc, deleted)?;
+    has_numbers(rt, &sealed, status(2, 1, true));
+    has_numbers(rt, deleted, status(2, 1, false));
+    has_none(rt, alloc, deleted);
+    Ok(())
+}
+
+// What the versions tell from before the delete and the seal.
+fn stay(
+    rt: &impl Abort,
+    alloc: Global,
+    empty: &Version,
+    put: &Version,
+    same: &Version,
+) -> Result<(), KvError> {
+    has_numbers(rt, empty, status(0, 0, false));
+    has_none(rt, alloc, empty);
+    has_numbers(rt, put, status(1, 1, false));
+    has_numbers(rt, same, status(1, 1, false));
+    assert_eq!(rt; revision_of_a(alloc, same), Ok(1));
+    assert_eq!(rt; entries(alloc, put), Ok(1));
+    tell_the_same(rt, alloc, put, same)
 }
 
 fn status(last: u64, values: u64, sealed: bool) -> Status {
@@ -54,6 +83,11 @@ fn status(last: u64, values: u64, sealed: bool) -> Status {
     }
 }
 
+fn has_numbers(rt: &impl Abort, version: &Version, numbers: Status) {
+    assert_eq!(rt; super::numbers(version), numbers);
+    assert_eq!(rt; version.sealed(), numbers.sealed);
+}
+
 // The revision of the latest entry of `a`.
 fn revision_of_a(alloc: Global, version: &Version) -> Result<u64, KvError> {
     let a = key(alloc, "a")?;
@@ -61,54 +95,12 @@ fn revision_of_a(alloc: Global, version: &Version) -> Result<u64, KvError> {
     Ok(write.revision())
 }
 
-fn has_at(rt: &impl Abort, alloc: Global, version: &Version, revision: u64) {
-    assert_eq!(rt; revision_of_a(alloc, version), Ok(revision));
-}
-
 fn has_none(rt: &impl Abort, alloc: Global, version: &Version) {
     assert_eq!(rt; revision_of_a(alloc, version), Err(KvError::KeyNotFound));
-}
-
-fn is_sealed(rt: &impl Abort, version: &Version, sealed: bool) {
-    assert_eq!(rt; version.sealed(), sealed);
-}
-
-#[test]
-fn four_versions_side_by_side(rt: HostRuntime) -> Result<(), Fail> {
-    let versions = four_versions(&rt, rt.alloc())?;
-    has_none(&rt, rt.alloc(), &versions.empty);
-    has_at(&rt, rt.alloc(), &versions.snapshot, 1);
-    has_none(&rt, rt.alloc(), &versions.deleted);
-    is_sealed(&rt, &versions.sealed, true);
-    is_sealed(&rt, &versions.deleted, false);
-    Ok(())
-}
-
-fn has_numbers(rt: &impl Abort, version: &Version, numbers: Status) {
-    assert_eq!(rt; super::numbers(version), numbers);
-}
-
-#[test]
-fn numbers_side_by_side(rt: HostRuntime) -> Result<(), Fail> {
-    let versions = four_versions(&rt, rt.alloc())?;
-    has_numbers(&rt, &versions.empty, status(0, 0, false));
-    has_numbers(&rt, &versions.written, status(1, 1, false));
-    has_numbers(&rt, &versions.snapshot, status(1, 1, false));
-    has_numbers(&rt, &versions.deleted, status(2, 1, false));
-    has_numbers(&rt, &versions.sealed, status(2, 1, true));
-    Ok(())
 }
 
 // How many entries are seen in the version.
 fn entries(alloc: Global, version: &Version) -> Result<usize, KvError> {
     let sight = look(alloc, version)?;
     Ok(sight.entries.len())
-}
-
-#[test]
-fn a_snapshot_tells_the_same(rt: HostRuntime) -> Result<(), Fail> {
-    let versions = four_versions(&rt, rt.alloc())?;
-    tell_the_same(&rt, rt.alloc(), &versions.written, &versions.snapshot)?;
-    assert_eq!(rt; entries(rt.alloc(), &versions.written), Ok(1));
-    Ok(())
 }
