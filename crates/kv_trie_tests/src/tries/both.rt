@@ -45,42 +45,87 @@ fn put_in_both(
 #[test]
 fn both_or_neither(rt: HostRuntime) -> Result<(), Fail> {
     let mut keys: Trie<Key, u32> = made_here(&rt, rt.alloc(), 11)?;
-    let mut shorts: Trie<Short, u32> = made_here(&rt, rt.alloc(), 11)?;
-    put_in_both(
-        &rt,
-        rt.alloc(),
-        &mut keys,
-        &mut shorts,
-        &NAMES[..11],
-        "zinke",
-        11,
-    )?;
-    let held = hold(&keys)?;
-    let held_shorts = hold(&shorts)?;
-    put_in_both(&rt, rt.alloc(), &mut keys, &mut shorts, &NAMES, "k0", 80)?;
-    has_names(&rt, rt.alloc(), &keys, 80, 11)?;
-    has_names(&rt, rt.alloc(), &shorts, 80, 11)?;
-    has_names(&rt, rt.alloc(), &held, 0, 11)?;
-    has_names(&rt, rt.alloc(), &held_shorts, 0, 11)?;
+    beside_keys(&rt, rt.alloc(), &mut keys)?;
     Ok(())
+}
+
+fn beside_keys(rt: &impl Abort, alloc: Global, keys: &mut Trie<Key, u32>) -> Result<(), KvError> {
+    let mut shorts: Trie<Short, u32> = made_here(rt, alloc, 11)?;
+    put_twice(rt, alloc, keys, &mut shorts)
+}
+
+fn put_twice(
+    rt: &impl Abort,
+    alloc: Global,
+    keys: &mut Trie<Key, u32>,
+    shorts: &mut Trie<Short, u32>,
+) -> Result<(), KvError> {
+    put_in_both(rt, alloc, keys, shorts, &NAMES[..11], "zinke", 11)?;
+    put_beside_keys_held(rt, alloc, keys, shorts)?;
+    have_names(rt, alloc, keys, shorts, 80)
+}
+
+fn put_beside_keys_held(
+    rt: &impl Abort,
+    alloc: Global,
+    keys: &mut Trie<Key, u32>,
+    shorts: &mut Trie<Short, u32>,
+) -> Result<(), KvError> {
+    let held = hold(keys)?;
+    put_beside_shorts_held(rt, alloc, keys, shorts, &held)
+}
+
+fn put_beside_shorts_held(
+    rt: &impl Abort,
+    alloc: Global,
+    keys: &mut Trie<Key, u32>,
+    shorts: &mut Trie<Short, u32>,
+    held_keys: &Trie<Key, u32>,
+) -> Result<(), KvError> {
+    let held = hold(shorts)?;
+    put_beside_both(rt, alloc, keys, shorts, held_keys, &held)
+}
+
+fn put_beside_both(
+    rt: &impl Abort,
+    alloc: Global,
+    keys: &mut Trie<Key, u32>,
+    shorts: &mut Trie<Short, u32>,
+    held_keys: &Trie<Key, u32>,
+    held_shorts: &Trie<Short, u32>,
+) -> Result<(), KvError> {
+    put_in_both(rt, alloc, keys, shorts, &NAMES, "k0", 80)?;
+    have_names(rt, alloc, held_keys, held_shorts, 0)
+}
+
+// Both tries have the twelve names, with this value of the first.
+fn have_names(
+    rt: &impl Abort,
+    alloc: Global,
+    keys: &Trie<Key, u32>,
+    shorts: &Trie<Short, u32>,
+    first: u32,
+) -> Result<(), KvError> {
+    has_names(rt, alloc, keys, first, 11)?;
+    has_names(rt, alloc, shorts, first, 11)
 }
 
 #[test]
 fn both_from_the_start(rt: HostRuntime) -> Result<(), Fail> {
     let mut keys: Trie<Key, u32> = Trie::new();
     let mut shorts: Trie<Short, u32> = Trie::new();
-    for at in 0..NAMES.len() {
-        put_in_both(
-            &rt,
-            rt.alloc(),
-            &mut keys,
-            &mut shorts,
-            &NAMES[..at],
-            NAMES[at],
-            at as u32,
-        )?;
-    }
-    has_names(&rt, rt.alloc(), &keys, 0, 11)?;
-    has_names(&rt, rt.alloc(), &shorts, 0, 11)?;
+    put_each_in_both(&rt, rt.alloc(), &mut keys, &mut shorts)?;
     Ok(())
+}
+
+fn put_each_in_both(
+    rt: &impl Abort,
+    alloc: Global,
+    keys: &mut Trie<Key, u32>,
+    shorts: &mut Trie<Short, u32>,
+) -> Result<(), KvError> {
+    for at in 0..NAMES.len() {
+        put_in_both(rt, alloc, keys, shorts, &NAMES[..at], NAMES[at], at as u32)?;
+    }
+    have_names(rt, alloc, keys, shorts, 0)
 }

@@ -49,10 +49,18 @@ fn discard_first<K: Named>(
 // A key that the trie of the twelve names doesn't have, and then all of them.
 fn discard_all<K: Named>(rt: &impl Abort, alloc: Global) -> Result<(), KvError> {
     let mut trie: Trie<K, u32> = made_here(rt, alloc, 12)?;
-    discard(rt, alloc, &mut trie, &NAMES, "k10")?;
-    has_names(rt, alloc, &trie, 0, 11)?;
-    discard_first(rt, alloc, &mut trie, 12)?;
-    discard(rt, alloc, &mut trie, &[], "k0")?;
+    discard_each(rt, alloc, &mut trie)
+}
+
+fn discard_each<K: Named>(
+    rt: &impl Abort,
+    alloc: Global,
+    trie: &mut Trie<K, u32>,
+) -> Result<(), KvError> {
+    discard(rt, alloc, trie, &NAMES, "k10")?;
+    has_names(rt, alloc, trie, 0, 11)?;
+    discard_first(rt, alloc, trie, 12)?;
+    discard(rt, alloc, trie, &[], "k0")?;
     assert!(rt; trie.root().is_none());
     Ok(())
 }
@@ -68,16 +76,49 @@ fn removals_that_nobody_sees(rt: HostRuntime) -> Result<(), Fail> {
 // A snapshot keeps its keys and values, and so does the next one.
 fn discard_beside<K: Named>(rt: &impl Abort, alloc: Global) -> Result<(), KvError> {
     let mut trie: Trie<K, u32> = made_here(rt, alloc, 12)?;
-    let held = hold(&trie)?;
-    discard(rt, alloc, &mut trie, &NAMES, "k10")?;
-    assert!(rt; is_same(&trie, &held));
-    discard_first(rt, alloc, &mut trie, 11)?;
-    has_names(rt, alloc, &held, 0, 11)?;
-    let one = hold(&trie)?;
-    drop(held);
-    discard(rt, alloc, &mut trie, &["zinke"], "zinke")?;
-    assert_eq!(rt; size(&trie), 0);
-    has_keys(rt, alloc, &one, &["zinke"])
+    discard_beside_twelve(rt, alloc, &mut trie)?;
+    discard_beside_one(rt, alloc, &mut trie)
+}
+
+fn discard_beside_twelve<K: Named>(
+    rt: &impl Abort,
+    alloc: Global,
+    trie: &mut Trie<K, u32>,
+) -> Result<(), KvError> {
+    let held = hold(trie)?;
+    discard_eleven(rt, alloc, trie, &held)
+}
+
+fn discard_eleven<K: Named>(
+    rt: &impl Abort,
+    alloc: Global,
+    trie: &mut Trie<K, u32>,
+    held: &Trie<K, u32>,
+) -> Result<(), KvError> {
+    discard(rt, alloc, trie, &NAMES, "k10")?;
+    assert!(rt; is_same(trie, held));
+    discard_first(rt, alloc, trie, 11)?;
+    has_names(rt, alloc, held, 0, 11)
+}
+
+fn discard_beside_one<K: Named>(
+    rt: &impl Abort,
+    alloc: Global,
+    trie: &mut Trie<K, u32>,
+) -> Result<(), KvError> {
+    let held = hold(trie)?;
+    discard_the_last(rt, alloc, trie, &held)
+}
+
+fn discard_the_last<K: Named>(
+    rt: &impl Abort,
+    alloc: Global,
+    trie: &mut Trie<K, u32>,
+    held: &Trie<K, u32>,
+) -> Result<(), KvError> {
+    discard(rt, alloc, trie, &["zinke"], "zinke")?;
+    assert_eq!(rt; size(trie), 0);
+    has_keys(rt, alloc, held, &["zinke"])
 }
 
 #[test]
@@ -106,11 +147,30 @@ fn discard_thousand(
 // The last trie is held, so the first removal copies the list, and the others change the copy.
 fn thousand_discarded(rt: &impl Abort, alloc: Global, names: &[&str]) -> Result<(), KvError> {
     let mut kept = roomy(alloc)?;
-    let held = all_put(rt, alloc, names, &mut kept)?;
-    let mut trie = hold(&held)?;
-    discard_thousand(rt, alloc, names, &mut trie, &mut kept)?;
+    thousand_held(rt, alloc, names, &mut kept)
+}
+
+fn thousand_held(
+    rt: &impl Abort,
+    alloc: Global,
+    names: &[&str],
+    kept: &mut Vec<Trie<Short, u32>>,
+) -> Result<(), KvError> {
+    let held = all_put(rt, alloc, names, kept)?;
+    discard_beside_thousand(rt, alloc, names, &held, kept)?;
     assert_eq!(rt; size(&held), 1000);
     Ok(())
+}
+
+fn discard_beside_thousand(
+    rt: &impl Abort,
+    alloc: Global,
+    names: &[&str],
+    held: &Trie<Short, u32>,
+    kept: &mut Vec<Trie<Short, u32>>,
+) -> Result<(), KvError> {
+    let mut trie = hold(held)?;
+    discard_thousand(rt, alloc, names, &mut trie, kept)
 }
 
 #[test]

@@ -95,11 +95,14 @@ pub fn has_names<K: Named>(
 // Keys of places of their own, and two of one place; then keys that all have one.
 #[test]
 fn puts_that_nobody_sees(rt: HostRuntime) -> Result<(), Fail> {
-    let keys: Trie<Key, u32> = made_here(&rt, rt.alloc(), 12)?;
-    has_names(&rt, rt.alloc(), &keys, 0, 11)?;
-    let shorts: Trie<Short, u32> = made_here(&rt, rt.alloc(), 12)?;
-    has_names(&rt, rt.alloc(), &shorts, 0, 11)?;
+    twelve_here::<Key>(&rt, rt.alloc())?;
+    twelve_here::<Short>(&rt, rt.alloc())?;
     Ok(())
+}
+
+fn twelve_here<K: Named>(rt: &impl Abort, alloc: Global) -> Result<(), KvError> {
+    let trie: Trie<K, u32> = made_here(rt, alloc, 12)?;
+    has_names(rt, alloc, &trie, 0, 11)
 }
 
 // The first and the last name get new values, and then the trie forgets nothing.
@@ -116,23 +119,61 @@ fn put_again<K: Named>(
 #[test]
 fn puts_beside_a_snapshot(rt: HostRuntime) -> Result<(), Fail> {
     let mut trie: Trie<Key, u32> = made_here(&rt, rt.alloc(), 12)?;
-    let held = hold(&trie)?;
-    put_again(&rt, rt.alloc(), &mut trie)?;
-    has_names(&rt, rt.alloc(), &held, 0, 11)?;
-    drop(held);
-    put_here(&rt, rt.alloc(), &mut trie, &NAMES, "k0", 72)?;
-    has_names(&rt, rt.alloc(), &trie, 72, 71)?;
+    put_with_and_without_it(&rt, rt.alloc(), &mut trie)?;
     Ok(())
+}
+
+fn put_with_and_without_it(
+    rt: &impl Abort,
+    alloc: Global,
+    trie: &mut Trie<Key, u32>,
+) -> Result<(), KvError> {
+    put_beside_it(rt, alloc, trie)?;
+    put_here(rt, alloc, trie, &NAMES, "k0", 72)?;
+    has_names(rt, alloc, trie, 72, 71)
+}
+
+fn put_beside_it(rt: &impl Abort, alloc: Global, trie: &mut Trie<Key, u32>) -> Result<(), KvError> {
+    let held = hold(trie)?;
+    put_again_beside(rt, alloc, trie, &held)
+}
+
+fn put_again_beside(
+    rt: &impl Abort,
+    alloc: Global,
+    trie: &mut Trie<Key, u32>,
+    held: &Trie<Key, u32>,
+) -> Result<(), KvError> {
+    put_again(rt, alloc, trie)?;
+    has_names(rt, alloc, held, 0, 11)
 }
 
 // A snapshot that has fewer keys than what is put behind it keeps them.
 #[test]
 fn more_keys_beside_a_snapshot(rt: HostRuntime) -> Result<(), Fail> {
     let mut trie: Trie<Short, u32> = made_here(&rt, rt.alloc(), 11)?;
-    let held = hold(&trie)?;
-    put_here(&rt, rt.alloc(), &mut trie, &NAMES[..11], NAMES[11], 11)?;
-    has_names(&rt, rt.alloc(), &trie, 0, 11)?;
-    assert_eq!(rt; size(&held), 11);
-    assert_eq!(rt; value_of(rt.alloc(), &held, "zinke")?, None);
+    put_the_last(&rt, rt.alloc(), &mut trie)?;
+    Ok(())
+}
+
+fn put_the_last(
+    rt: &impl Abort,
+    alloc: Global,
+    trie: &mut Trie<Short, u32>,
+) -> Result<(), KvError> {
+    let held = hold(trie)?;
+    put_the_last_beside(rt, alloc, trie, &held)
+}
+
+fn put_the_last_beside(
+    rt: &impl Abort,
+    alloc: Global,
+    trie: &mut Trie<Short, u32>,
+    held: &Trie<Short, u32>,
+) -> Result<(), KvError> {
+    put_here(rt, alloc, trie, &NAMES[..11], NAMES[11], 11)?;
+    has_names(rt, alloc, trie, 0, 11)?;
+    assert_eq!(rt; size(held), 11);
+    assert_eq!(rt; value_of(alloc, held, "zinke")?, None);
     Ok(())
 }

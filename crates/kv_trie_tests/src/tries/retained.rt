@@ -162,10 +162,20 @@ fn shared_children(trie: &Trie<Key, u32>) -> u64 {
 fn parts_are_shared(rt: HostRuntime) -> Result<(), Fail> {
     let all: Trie<Key, u32> = made(rt.alloc(), &WORKED, &[0, 1, 2, 3], 4)?;
     assert_eq!(rt; shared_children(&all), 0);
-    let three = stays(&rt, rt.alloc(), &all, &WORKED, &[0, 1, 2, 3], 3)?;
-    assert_eq!(rt; shared_children(&all), 2);
+    shares_two(&rt, rt.alloc(), &all)?;
+    shares_all(&rt, rt.alloc(), &all)?;
+    Ok(())
+}
+
+fn shares_two(rt: &impl Abort, alloc: Global, all: &Trie<Key, u32>) -> Result<(), KvError> {
+    let three = stays(rt, alloc, all, &WORKED, &[0, 1, 2, 3], 3)?;
+    assert_eq!(rt; shared_children(all), 2);
     drop(three);
-    let four = stays(&rt, rt.alloc(), &all, &WORKED, &[0, 1, 2, 3], 4)?;
+    Ok(())
+}
+
+fn shares_all(rt: &impl Abort, alloc: Global, all: &Trie<Key, u32>) -> Result<(), KvError> {
+    let four = stays(rt, alloc, all, &WORKED, &[0, 1, 2, 3], 4)?;
     assert_eq!(rt; shared_children(&four), 0);
     Ok(())
 }

@@ -62,22 +62,49 @@ fn trie_of_a(rt: &impl Abort, alloc: Global) -> Result<Trie<Key, u32>, KvError> 
 #[test]
 fn values_at_keys(rt: HostRuntime) -> Result<(), Fail> {
     let one = trie_of_a(&rt, rt.alloc())?;
-    let two = put(&rt, rt.alloc(), &one, &["a"], "b", 2)?;
-    let new = put(&rt, rt.alloc(), &two, &["a", "b"], "a", 3)?;
-    assert_eq!(rt; size(&new), 2);
-    has_at(&rt, rt.alloc(), &new, "a", Some(3))?;
-    has_at(&rt, rt.alloc(), &two, "a", Some(1))?;
-    has_at(&rt, rt.alloc(), &one, "b", None)?;
-    has_rest(&rt, rt.alloc(), &new)?;
+    beside_one(&rt, rt.alloc(), &one)?;
     Ok(())
+}
+
+fn beside_one(rt: &impl Abort, alloc: Global, one: &Trie<Key, u32>) -> Result<(), KvError> {
+    let two = put(rt, alloc, one, &["a"], "b", 2)?;
+    beside_two(rt, alloc, one, &two)
+}
+
+fn beside_two(
+    rt: &impl Abort,
+    alloc: Global,
+    one: &Trie<Key, u32>,
+    two: &Trie<Key, u32>,
+) -> Result<(), KvError> {
+    let new = put(rt, alloc, two, &["a", "b"], "a", 3)?;
+    have_their_values(rt, alloc, one, two, &new)
+}
+
+fn have_their_values(
+    rt: &impl Abort,
+    alloc: Global,
+    one: &Trie<Key, u32>,
+    two: &Trie<Key, u32>,
+    new: &Trie<Key, u32>,
+) -> Result<(), KvError> {
+    assert_eq!(rt; size(new), 2);
+    has_at(rt, alloc, new, "a", Some(3))?;
+    has_at(rt, alloc, two, "a", Some(1))?;
+    has_at(rt, alloc, one, "b", None)?;
+    has_rest(rt, alloc, new)
 }
 
 // Without `b` the trie of `a` and `b` is that of `a`, which a second removal leaves as it is.
 fn has_rest(rt: &impl Abort, alloc: Global, both: &Trie<Key, u32>) -> Result<(), KvError> {
     let rest = take(rt, alloc, both, &["a", "b"], "b")?;
-    has_at(rt, alloc, &rest, "b", None)?;
-    let same = take(rt, alloc, &rest, &["a"], "b")?;
-    assert!(rt; is_same(&same, &rest));
+    is_rest(rt, alloc, &rest)
+}
+
+fn is_rest(rt: &impl Abort, alloc: Global, rest: &Trie<Key, u32>) -> Result<(), KvError> {
+    has_at(rt, alloc, rest, "b", None)?;
+    let same = take(rt, alloc, rest, &["a"], "b")?;
+    assert!(rt; is_same(&same, rest));
     assert_eq!(rt; size(&same), 1);
     Ok(())
 }
@@ -107,15 +134,24 @@ fn one_left(
 
 #[test]
 fn ten_keys_of_one_place(rt: HostRuntime) -> Result<(), Fail> {
-    let alone: Trie<Short, u32> = put(&rt, rt.alloc(), &Trie::new(), &[], "k0", 0)?;
     let ten = ten_keys(&rt, rt.alloc())?;
-    let held = hold(&ten)?;
-    let last = one_left(&rt, rt.alloc(), ten)?;
-    assert!(rt; is_same(&last, &alone));
-    assert!(rt; !is_same(&last, &held));
+    shows_ten(&rt, &ten);
+    leaves_one(&rt, rt.alloc(), &ten)?;
+    assert_eq!(rt; size(&ten), 10);
+    Ok(())
+}
+
+fn leaves_one(rt: &impl Abort, alloc: Global, ten: &Trie<Short, u32>) -> Result<(), KvError> {
+    let last = one_left(rt, alloc, hold(ten)?)?;
+    assert!(rt; !is_same(&last, ten));
     assert_eq!(rt; size(&last), 1);
-    assert_eq!(rt; size(&held), 10);
-    shows_ten(&rt, &held);
+    is_alone(rt, alloc, &last)
+}
+
+// The trie is that of the first key alone.
+fn is_alone(rt: &impl Abort, alloc: Global, last: &Trie<Short, u32>) -> Result<(), KvError> {
+    let alone: Trie<Short, u32> = put(rt, alloc, &Trie::new(), &[], "k0", 0)?;
+    assert!(rt; is_same(last, &alone));
     Ok(())
 }
 
@@ -222,9 +258,18 @@ fn all_taken(
 
 fn put_and_taken(rt: &impl Abort, alloc: Global, names: &[&str]) -> Result<(), KvError> {
     let mut kept = roomy(alloc)?;
-    let all = all_put(rt, alloc, names, &mut kept)?;
+    put_and_taken_again(rt, alloc, names, &mut kept)
+}
+
+fn put_and_taken_again(
+    rt: &impl Abort,
+    alloc: Global,
+    names: &[&str],
+    kept: &mut Vec<Trie<Short, u32>>,
+) -> Result<(), KvError> {
+    let all = all_put(rt, alloc, names, kept)?;
     assert_eq!(rt; size(&all), 1000);
-    all_taken(rt, alloc, names, all, &mut kept)
+    all_taken(rt, alloc, names, all, kept)
 }
 
 #[test]
