@@ -243,3 +243,52 @@ fn all_saw_what_is_given<R: Abort>(
     }
     Ok(())
 }
+
+// Runs a race of so many scripts, each of which puts a value under each of these keys, with a watch for each of these
+// filters. So many writes are accepted.
+fn race_of<R: Threads + Wait + Abort + Sync, G: Gate>(
+    rt: &R,
+    alloc: Global,
+    (count, keys): (usize, &[&str]),
+    filters: &[&str],
+    gate: &G,
+    writes: u64,
+) -> Result<(), KvError> {
+    let scripts = scripts_of(alloc, count, keys)?;
+    race_over(rt, alloc, &scripts, filters, gate, writes)
+}
+
+fn race_over<R: Threads + Wait + Abort + Sync, G: Gate>(
+    rt: &R,
+    alloc: Global,
+    scripts: &[Vec<Request>],
+    filters: &[&str],
+    gate: &G,
+    writes: u64,
+) -> Result<(), KvError> {
+    let watches = watches_of(alloc, filters)?;
+    race_beside(rt, alloc, scripts, &watches, gate, writes)
+}
+
+fn race_beside<R: Threads + Wait + Abort + Sync, G: Gate>(
+    rt: &R,
+    alloc: Global,
+    scripts: &[Vec<Request>],
+    watches: &[(Filters, Options)],
+    gate: &G,
+    writes: u64,
+) -> Result<(), KvError> {
+    let report = raced(rt, alloc, scripts, watches, gate)?;
+    is_whole(rt, alloc, watches, &report, writes)
+}
+
+fn is_whole<R: Abort>(
+    rt: &R,
+    alloc: Global,
+    watches: &[(Filters, Options)],
+    report: &Report,
+    writes: u64,
+) -> Result<(), KvError> {
+    assert_eq!(rt; answers_each_once(rt, alloc, report)?, writes);
+    all_saw_what_is_given(rt, alloc, watches, report)
+}

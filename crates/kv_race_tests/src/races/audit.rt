@@ -59,9 +59,15 @@ pub(super) fn audit<R: Threads + Wait + Abort + Sync>(
     alloc: Global,
 ) -> Result<(), KvError> {
     let scripts = scripts_of(alloc, 16, &KEYS)?;
+    audit_over(rt, alloc, &scripts)
+}
+
+fn audit_over<R: Threads + Wait + Abort + Sync>(
+    rt: &R,
+    alloc: Global,
+    scripts: &[Vec<Request>],
+) -> Result<(), KvError> {
     let watches = all_watches(alloc)?;
-    let report = raced(rt, alloc, &scripts, &watches, &NoGate)?;
     assert_eq!(rt; watches.len(), 32);
-    assert_eq!(rt; answers_each_once(rt, alloc, &report)?, 160);
-    all_saw_what_is_given(rt, alloc, &watches, &report)
+    race_beside(rt, alloc, scripts, &watches, &NoGate, 160)
 }

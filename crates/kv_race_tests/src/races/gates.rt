@@ -80,13 +80,10 @@ pub(super) fn all_meet<R: Threads + Wait + Abort + Sync>(
     rt: &R,
     alloc: Global,
 ) -> Result<(), KvError> {
-    let scripts = scripts_of(alloc, 2, &["a"])?;
-    let watches = watches_of(alloc, &[">"])?;
     let gate = no_meeting_yet();
-    let report = raced(rt, alloc, &scripts, &watches, &gate)?;
+    let done = race_of(rt, alloc, (2, &["a"]), &[">"], &gate, 2);
     assert!(rt; !is_raised(&gate.late));
-    assert_eq!(rt; answers_each_once(rt, alloc, &report)?, 2);
-    all_saw_what_is_given(rt, alloc, &watches, &report)
+    done
 }
 
 // The watcher's second round waits for the worker's first write, and the second write for the end of that round.
@@ -133,11 +130,8 @@ pub(super) fn round_between<R: Threads + Wait + Abort + Sync>(
     rt: &R,
     alloc: Global,
 ) -> Result<(), KvError> {
-    let scripts = scripts_of(alloc, 1, &["a", "b"])?;
-    let watches = watches_of(alloc, &[">"])?;
     let gate = nothing_between_yet();
-    let report = raced(rt, alloc, &scripts, &watches, &gate)?;
+    let done = race_of(rt, alloc, (1, &["a", "b"]), &[">"], &gate, 2);
     assert!(rt; !is_raised(&gate.late));
-    assert_eq!(rt; answers_each_once(rt, alloc, &report)?, 2);
-    all_saw_what_is_given(rt, alloc, &watches, &report)
+    done
 }

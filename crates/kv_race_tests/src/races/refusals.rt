@@ -17,10 +17,30 @@ fn refused_once<R: Threads + Wait + Sync>(
     workers: usize,
     watches: usize,
 ) -> Result<(), KvError> {
-    let config = Config::named(alloc, name)?;
     let scripts = scripts_of(alloc, workers, &[])?;
+    refused_over(rt, alloc, name, &scripts, watches)
+}
+
+fn refused_over<R: Threads + Wait + Sync>(
+    rt: &R,
+    alloc: Global,
+    name: &str,
+    scripts: &[Vec<Request>],
+    watches: usize,
+) -> Result<(), KvError> {
     let watches = many_watches(alloc, watches)?;
-    race(rt, alloc, &config, &scripts, &watches, &NoGate)?;
+    refused_beside(rt, alloc, name, scripts, &watches)
+}
+
+fn refused_beside<R: Threads + Wait + Sync>(
+    rt: &R,
+    alloc: Global,
+    name: &str,
+    scripts: &[Vec<Request>],
+    watches: &[(Filters, Options)],
+) -> Result<(), KvError> {
+    let config = Config::named(alloc, name)?;
+    race(rt, alloc, &config, scripts, watches, &NoGate)?;
     Ok(())
 }
 

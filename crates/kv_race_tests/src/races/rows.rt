@@ -48,8 +48,16 @@ pub(super) fn one_worker<R: Threads + Wait + Abort + Sync>(
     alloc: Global,
 ) -> Result<(), KvError> {
     let scripts = only_put_and_delete(alloc)?;
+    one_watched(rt, alloc, &scripts)
+}
+
+fn one_watched<R: Threads + Wait + Abort + Sync>(
+    rt: &R,
+    alloc: Global,
+    scripts: &[Vec<Request>],
+) -> Result<(), KvError> {
     let watches = watches_of(alloc, &[">"])?;
-    let report = raced(rt, alloc, &scripts, &watches, &NoGate)?;
+    let report = raced(rt, alloc, scripts, &watches, &NoGate)?;
     answers_both(rt, &report);
     sees_both(rt, &report);
     keeps_the_delete(rt, alloc, &report.last)
@@ -118,9 +126,6 @@ pub(super) fn four_workers<R: Threads + Wait + Abort + Sync>(
     rt: &R,
     alloc: Global,
 ) -> Result<(), KvError> {
-    let scripts = scripts_of(alloc, 4, &["a", "a.b", "b", "b.c", "a"])?;
-    let watches = watches_of(alloc, &[">", "a.>"])?;
-    let report = raced(rt, alloc, &scripts, &watches, &NoGate)?;
-    assert_eq!(rt; answers_each_once(rt, alloc, &report)?, 20);
-    all_saw_what_is_given(rt, alloc, &watches, &report)
+    let keys = ["a", "a.b", "b", "b.c", "a"];
+    race_of(rt, alloc, (4, &keys), &[">", "a.>"], &NoGate, 20)
 }
