@@ -78,8 +78,7 @@ enum Row {
     Feeds(feeds::Row),
     Told(told::Row),
     Compacting(compacting::Row),
-    Places,
-    LeftBehind,
+    Places(places::Row),
 }
 
 impl Row {
@@ -115,10 +114,14 @@ fn run_once<R: Threads + Wait + Abort + Sync + Clock>(
     alloc: Global,
     row: Row,
 ) -> Result<(), KvError> {
+    let opened = opened_for(alloc, row)?;
+    run_on::<Brand, R>(rt, alloc, opened, row)
+}
+
+fn opened_for(alloc: Global, row: Row) -> Result<Opened, KvError> {
     let mut config = Config::named(alloc, "kv")?;
     config.write_limit = row.write_limit();
-    let opened = Live::open(alloc, &config, row.readers())?;
-    run_on::<Brand, R>(rt, alloc, opened, row)
+    Live::open(alloc, &config, row.readers())
 }
 
 fn run_on<N: LiveName + Send + Sync, R: Threads + Wait + Abort + Sync + Clock>(
@@ -130,10 +133,29 @@ fn run_on<N: LiveName + Send + Sync, R: Threads + Wait + Abort + Sync + Clock>(
     requires { opened.opening ≡ N.opening }
 {
     let (live, readers) = opened.live::<N, R>(rt)?;
-    if let Row::Closed = row {
-        live.close(rt);
-        return opening::after_close(rt, readers);
+    match row {
+        Row::Closed => closed_first(rt, live, readers),
+        _ => closed_last(rt, alloc, live, readers, row),
     }
+}
+
+// The bucket is closed before its readers look.
+fn closed_first<N: LiveName, R: Wait + Abort>(
+    rt: &R,
+    live: Live<N>,
+    readers: Vec<Reader<N>>,
+) -> Result<(), KvError> {
+    live.close(rt);
+    opening::after_close(rt, readers)
+}
+
+fn closed_last<N: LiveName + Send + Sync, R: Threads + Wait + Abort + Sync + Clock>(
+    rt: &R,
+    alloc: Global,
+    live: Live<N>,
+    readers: Vec<Reader<N>>,
+    row: Row,
+) -> Result<(), KvError> {
     let done = run_over(rt, alloc, &live, readers, row);
     live.close(rt);
     done
@@ -147,24 +169,52 @@ fn run_over<N: LiveName + Send + Sync, R: Threads + Wait + Abort + Sync + Clock>
     row: Row,
 ) -> Result<(), KvError> {
     match row {
-        Row::Beginning => opening::beginning(rt, live),
         Row::ManyReaders => opening::all_read(rt, readers, 32),
-        Row::Closed => Ok(()),
-        Row::Lock(row) => lock::run_row(rt, alloc, live, row),
         Row::Feeds(row) => feeds::run_row(rt, alloc, live, readers, row),
         Row::Told(row) => told::run_row(rt, alloc, live, readers, row),
         Row::Compacting(row) => compacting::run_row(rt, alloc, live, readers, row),
-        Row::Places => places::freed(rt, alloc, live, readers),
-        Row::LeftBehind => places::left_behind(rt, alloc, live, readers),
+        Row::Places(row) => places::run_row(rt, alloc, live, readers, row),
+        _ => run_beside(rt, alloc, live, row),
+    }
+}
+
+// Rows that use no reader. The readers are there all the same.
+fn run_beside<N: LiveName, R: Wait + Abort>(
+    rt: &R,
+    alloc: Global,
+    live: &Live<N>,
+    row: Row,
+) -> Result<(), KvError> {
+    match row {
+        Row::Beginning => opening::beginning(rt, live),
+        Row::Lock(row) => lock::run_row(rt, alloc, live, row),
+        _ => Ok(()),
     }
 }
 
 fn two<N: LiveName>(readers: Vec<Reader<N>>) -> Result<(Reader<N>, Reader<N>), KvError> {
     let mut readers = readers;
-    match (readers.pop(), readers.pop()) {
-        (Some(second), Some(first)) => Ok((first, second)),
-        _ => Err(KvError::NoReader),
+    last_two(&mut readers)
+}
+
+fn last_two<N: LiveName>(readers: &mut Vec<Reader<N>>) -> Result<(Reader<N>, Reader<N>), KvError> {
+    let second = last(readers)?;
+    let first = last(readers)?;
+    Ok((first, second))
+}
+
+fn last<N: LiveName>(readers: &mut Vec<Reader<N>>) -> Result<Reader<N>, KvError> {
+    match readers.pop() {
+        Some(reader) => Ok(reader),
+        None => Err(KvError::NoReader),
     }
+}
+
+// The first of two; the second is dropped.
+fn first_alone<N: LiveName>(readers: Vec<Reader<N>>) -> Result<Reader<N>, KvError> {
+    let (first, second) = two(readers)?;
+    drop(second);
+    Ok(first)
 }
 
 fn feed_of_all<N: LiveName>(alloc: Global, reader: Reader<N>) -> Result<Feed<N>, KvError> {

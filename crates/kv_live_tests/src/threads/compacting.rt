@@ -96,17 +96,30 @@ fn two_feeds<N: LiveName, R: Wait + Abort>(
     readers: Vec<Reader<N>>,
 ) -> Result<(), KvError> {
     puts_at(rt, alloc, live, "k", 1)?;
-    let (one, other) = two_opened(alloc, readers)?;
-    followed(rt, alloc, live, one, other)
+    let (first, second) = two(readers)?;
+    one_opened(rt, alloc, live, first, second)
 }
 
-fn two_opened<N: LiveName>(
+fn one_opened<N: LiveName, R: Wait + Abort>(
+    rt: &R,
     alloc: Global,
-    readers: Vec<Reader<N>>,
-) -> Result<(Feed<N>, Feed<N>), KvError> {
-    let (first, second) = two(readers)?;
+    live: &Live<N>,
+    first: Reader<N>,
+    second: Reader<N>,
+) -> Result<(), KvError> {
     let one = feed_of_all(alloc, first)?;
-    Ok((one, feed_of_all(alloc, second)?))
+    both_opened(rt, alloc, live, one, second)
+}
+
+fn both_opened<N: LiveName, R: Wait + Abort>(
+    rt: &R,
+    alloc: Global,
+    live: &Live<N>,
+    one: Feed<N>,
+    second: Reader<N>,
+) -> Result<(), KvError> {
+    let mut other = feed_of_all(alloc, second)?;
+    followed(rt, alloc, live, one, &mut other)
 }
 
 fn followed<N: LiveName, R: Wait + Abort>(
@@ -114,15 +127,13 @@ fn followed<N: LiveName, R: Wait + Abort>(
     alloc: Global,
     live: &Live<N>,
     one: Feed<N>,
-    other: Feed<N>,
+    other: &mut Feed<N>,
 ) -> Result<(), KvError> {
-    let mut other = other;
-    compacted_behind(rt, alloc, live, &mut other)?;
+    compacted_behind(rt, alloc, live, other)?;
     begins_anew(rt, alloc, one)?;
     goes_on(rt, other)
 }
 
-// Two more puts and a compaction through one guard. Before the compaction the feed goes on to the puts.
 fn compacted_behind<N: LiveName, R: Wait + Abort>(
     rt: &R,
     alloc: Global,
@@ -130,9 +141,19 @@ fn compacted_behind<N: LiveName, R: Wait + Abort>(
     feed: &mut Feed<N>,
 ) -> Result<(), KvError> {
     let mut keeper = live.lock(rt);
-    two_more(rt, alloc, &mut keeper)?;
+    compacts_behind(rt, alloc, &mut keeper, feed)
+}
+
+// Two more puts and a compaction through one guard. Before the compaction the feed goes on to the puts.
+fn compacts_behind<N: LiveName, R: Wait + Abort>(
+    rt: &R,
+    alloc: Global,
+    keeper: &mut Keeper<N>,
+    feed: &mut Feed<N>,
+) -> Result<(), KvError> {
+    two_more(rt, alloc, keeper)?;
     refresh(rt, feed)?;
-    compact_through(rt, &mut keeper, 2)
+    compact_through(rt, keeper, 2)
 }
 
 fn two_more<N: LiveName, R: Wait + Abort>(
@@ -141,8 +162,16 @@ fn two_more<N: LiveName, R: Wait + Abort>(
     keeper: &mut Keeper<N>,
 ) -> Result<(), KvError> {
     let request = put(alloc, "k", "")?;
-    feeds::keeps_at(rt, keeper, &request, 2)?;
-    feeds::keeps_at(rt, keeper, &request, 3)
+    keeps_twice(rt, keeper, &request)
+}
+
+fn keeps_twice<N: LiveName, R: Wait + Abort>(
+    rt: &R,
+    keeper: &mut Keeper<N>,
+    request: &Request,
+) -> Result<(), KvError> {
+    feeds::keeps_at(rt, keeper, request, 2)?;
+    feeds::keeps_at(rt, keeper, request, 3)
 }
 
 // The floor is above the last revision of this feed. It hands out what it owes by its own version, stays behind, and is
@@ -150,40 +179,39 @@ fn two_more<N: LiveName, R: Wait + Abort>(
 fn begins_anew<N: LiveName, R: Abort>(rt: &R, alloc: Global, feed: Feed<N>) -> Result<(), KvError> {
     let reader = stopped_behind(rt, feed)?;
     let mut feed = feed_of_all(alloc, reader)?;
-    takes(
-        rt,
-        &mut feed,
-        &[Answer::Entry(3), Answer::Marker, Answer::Empty],
-    );
-    is_on(rt, &feed, (3, 2))
+    begins_at_the_third(rt, &mut feed)
+}
+
+fn begins_at_the_third<N: LiveName, R: Abort>(rt: &R, feed: &mut Feed<N>) -> Result<(), KvError> {
+    takes(rt, feed, &[Answer::Entry(3), Answer::Marker, Answer::Empty]);
+    is_on(rt, feed, (3, 2))
 }
 
 fn stopped_behind<N: LiveName, R: Abort>(rt: &R, feed: Feed<N>) -> Result<Reader<N>, KvError> {
     let mut feed = feed;
-    lags(rt, &mut feed, 2);
-    takes(
-        rt,
-        &mut feed,
-        &[Answer::Entry(1), Answer::Marker, Answer::Empty],
-    );
-    lags(rt, &mut feed, 2);
-    is_on(rt, &feed, (1, 0))?;
+    stays_behind(rt, &mut feed)?;
     Ok(stopped_at(rt, feed, 2))
 }
 
+fn stays_behind<N: LiveName, R: Abort>(rt: &R, feed: &mut Feed<N>) -> Result<(), KvError> {
+    lags(rt, feed, 2);
+    takes(rt, feed, &[Answer::Entry(1), Answer::Marker, Answer::Empty]);
+    lags(rt, feed, 2);
+    is_on(rt, feed, (1, 0))
+}
+
 // This feed owes an entry at the floor, and goes on once that is handed out.
-fn goes_on<N: LiveName, R: Abort>(rt: &R, feed: Feed<N>) -> Result<(), KvError> {
-    let mut feed = feed;
-    lags(rt, &mut feed, 2);
-    is_on(rt, &feed, (3, 0))?;
+fn goes_on<N: LiveName, R: Abort>(rt: &R, feed: &mut Feed<N>) -> Result<(), KvError> {
+    lags(rt, feed, 2);
+    is_on(rt, feed, (3, 0))?;
     takes(
         rt,
-        &mut feed,
+        feed,
         &[Answer::Entry(1), Answer::Marker, Answer::Entry(2)],
     );
-    refresh(rt, &mut feed)?;
-    takes(rt, &mut feed, &[Answer::Entry(3), Answer::Empty]);
-    is_on(rt, &feed, (3, 2))
+    refresh(rt, feed)?;
+    takes(rt, feed, &[Answer::Entry(3), Answer::Empty]);
+    is_on(rt, feed, (3, 2))
 }
 
 #[test]
@@ -207,12 +235,29 @@ fn held_watch<N: LiveName, R: Wait + Abort>(
     live: &Live<N>,
     readers: Vec<Reader<N>>,
 ) -> Result<(), KvError> {
-    let filters = all_keys(alloc)?;
-    puts_at(rt, alloc, live, "k", 1)?;
-    lock::watches_on_guard_as(rt, live, &filters, 1)?;
-    puts_at(rt, alloc, live, "k", 2)?;
+    watched_between_puts(rt, alloc, live)?;
     compacted_around_a_watch(rt, live);
     reads_what_is_left(rt, readers)
+}
+
+fn watched_between_puts<N: LiveName, R: Wait + Abort>(
+    rt: &R,
+    alloc: Global,
+    live: &Live<N>,
+) -> Result<(), KvError> {
+    let filters = all_keys(alloc)?;
+    puts_around_a_watch(rt, alloc, live, &filters)
+}
+
+fn puts_around_a_watch<N: LiveName, R: Wait + Abort>(
+    rt: &R,
+    alloc: Global,
+    live: &Live<N>,
+    filters: &Filters,
+) -> Result<(), KvError> {
+    puts_at(rt, alloc, live, "k", 1)?;
+    lock::watches_on_guard_as(rt, live, filters, 1)?;
+    puts_at(rt, alloc, live, "k", 2)
 }
 
 fn compacted_around_a_watch<N: LiveName, R: Wait + Abort>(rt: &R, live: &Live<N>) {
@@ -232,7 +277,14 @@ fn reads_what_is_left<N: LiveName, R: Abort>(
     readers: Vec<Reader<N>>,
 ) -> Result<(), KvError> {
     let (mut reader, _second) = two(readers)?;
-    let version = read(&mut reader)?;
+    reads_from_the_floor(rt, &mut reader)
+}
+
+fn reads_from_the_floor<N: LiveName, R: Abort>(
+    rt: &R,
+    reader: &mut Reader<N>,
+) -> Result<(), KvError> {
+    let version = read(reader)?;
     assert_eq!(rt; version.floor(), 2);
     assert!(rt; version.write_at(1).is_none());
     assert!(rt; version.write_at(2).is_some());
@@ -253,9 +305,18 @@ fn sleeper<N: LiveName + Send + Sync, R: Threads + Wait + Abort + Sync + Clock>(
 ) -> Result<(), KvError> {
     puts_at(rt, alloc, live, "k", 1)?;
     let (first, _second) = two(readers)?;
-    let feed = all_taken(rt, alloc, first)?;
-    let feed = compacted_beside(rt, live, feed)?;
-    woken_in_vain(rt, feed)
+    followed_asleep(rt, alloc, live, first)
+}
+
+fn followed_asleep<N: LiveName + Send + Sync, R: Threads + Wait + Abort + Sync + Clock>(
+    rt: &R,
+    alloc: Global,
+    live: &Live<N>,
+    reader: Reader<N>,
+) -> Result<(), KvError> {
+    let feed = all_taken(rt, alloc, reader)?;
+    let mut feed = compacted_beside(rt, live, feed)?;
+    woken_in_vain(rt, &mut feed)
 }
 
 fn all_taken<N: LiveName, R: Abort>(
@@ -304,9 +365,8 @@ fn compacted_later<N: LiveName, R: Wait + Abort + Clock>(
 }
 
 // A compaction gives a feed nothing but its floor.
-fn woken_in_vain<N: LiveName, R: Abort>(rt: &R, feed: Feed<N>) -> Result<(), KvError> {
-    let mut feed = feed;
-    refresh(rt, &mut feed)?;
-    takes_one(rt, &mut feed, Answer::Empty);
-    is_on(rt, &feed, (1, 1))
+fn woken_in_vain<N: LiveName, R: Abort>(rt: &R, feed: &mut Feed<N>) -> Result<(), KvError> {
+    refresh(rt, feed)?;
+    takes_one(rt, feed, Answer::Empty);
+    is_on(rt, feed, (1, 1))
 }

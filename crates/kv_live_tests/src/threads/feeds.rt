@@ -39,8 +39,17 @@ fn held_guard<N: LiveName + Send + Sync, R: Threads + Wait + Abort + Sync>(
     readers: Vec<Reader<N>>,
 ) -> Result<(), KvError> {
     let (first, _second) = two(readers)?;
+    followed_beside_a_guard(rt, alloc, live, first)
+}
+
+fn followed_beside_a_guard<N: LiveName + Send + Sync, R: Threads + Wait + Abort + Sync>(
+    rt: &R,
+    alloc: Global,
+    live: &Live<N>,
+    reader: Reader<N>,
+) -> Result<(), KvError> {
     three_puts(rt, alloc, live)?;
-    let feed = opened_beside_the_guard(rt, alloc, live, first)?;
+    let feed = opened_beside_the_guard(rt, alloc, live, reader)?;
     stopped_behind_a_writer(rt, alloc, live, feed)?;
     seal_then_write(rt, alloc, live)
 }
@@ -62,8 +71,20 @@ fn stopped_behind_a_writer<N: LiveName + Send + Sync, R: Threads + Wait + Abort 
     live: &Live<N>,
     feed: Feed<N>,
 ) -> Result<(), KvError> {
-    let feed = written_beside(rt, alloc, live, feed)?;
+    let mut feed = feed;
+    goes_on_behind_a_writer(rt, alloc, live, &mut feed)?;
     stopped_after_five(rt, feed)
+}
+
+// A second thread writes, and the feed goes on to what it wrote.
+fn goes_on_behind_a_writer<N: LiveName + Send + Sync, R: Threads + Wait + Abort + Sync>(
+    rt: &R,
+    alloc: Global,
+    live: &Live<N>,
+    feed: &mut Feed<N>,
+) -> Result<(), KvError> {
+    written_beside(rt, alloc, live)?;
+    goes_on_to_the_fourth(rt, feed)
 }
 
 // This thread has the guard while another opens a feed, and takes all that it is given.
@@ -100,26 +121,22 @@ fn taken_to_the_end<N: LiveName, R: Abort>(
     Ok(feed)
 }
 
-// A second thread writes, and the feed goes on to what it wrote.
 fn written_beside<N: LiveName + Send + Sync, R: Threads + Wait + Abort + Sync>(
     rt: &R,
     alloc: Global,
     live: &Live<N>,
-    feed: Feed<N>,
-) -> Result<Feed<N>, KvError> {
+) -> Result<(), KvError> {
     let (put, ()) = join(rt, || puts_at(rt, alloc, live, "d", 4), || ());
-    put?;
-    gone_on_to_the_fourth(rt, feed)
+    put
 }
 
 // Nothing comes before the refresh.
-fn gone_on_to_the_fourth<N: LiveName, R: Abort>(rt: &R, feed: Feed<N>) -> Result<Feed<N>, KvError> {
-    let mut feed = feed;
-    takes_one(rt, &mut feed, Answer::Empty);
-    refresh(rt, &mut feed)?;
-    takes_one(rt, &mut feed, Answer::Entry(4));
-    takes_one(rt, &mut feed, Answer::Empty);
-    Ok(feed)
+fn goes_on_to_the_fourth<N: LiveName, R: Abort>(rt: &R, feed: &mut Feed<N>) -> Result<(), KvError> {
+    takes_one(rt, feed, Answer::Empty);
+    refresh(rt, feed)?;
+    takes_one(rt, feed, Answer::Entry(4));
+    takes_one(rt, feed, Answer::Empty);
+    Ok(())
 }
 
 fn stopped_after_five<N: LiveName, R: Abort>(rt: &R, feed: Feed<N>) -> Result<(), KvError> {
@@ -193,6 +210,14 @@ fn stops<N: LiveName + Send + Sync, R: Threads + Wait + Abort + Sync>(
 ) -> Result<(), KvError> {
     three_writes(rt, alloc, live)?;
     let (reader, _second) = two(readers)?;
+    opened_in_each_phase(rt, alloc, reader)
+}
+
+fn opened_in_each_phase<N: LiveName, R: Abort>(
+    rt: &R,
+    alloc: Global,
+    reader: Reader<N>,
+) -> Result<(), KvError> {
     let filters = all_keys(alloc)?;
     stopped_in_each_phase(rt, reader, &filters)
 }
@@ -241,9 +266,19 @@ fn kept_guard<N: LiveName + Send + Sync, R: Threads + Wait + Abort + Sync>(
 ) -> Result<(), KvError> {
     three_writes(rt, alloc, live)?;
     let (first, mut second) = two(readers)?;
+    dropped_then_read(rt, alloc, live, first, &mut second)
+}
+
+fn dropped_then_read<N: LiveName + Send + Sync, R: Threads + Wait + Abort + Sync>(
+    rt: &R,
+    alloc: Global,
+    live: &Live<N>,
+    first: Reader<N>,
+    second: &mut Reader<N>,
+) -> Result<(), KvError> {
     followed_and_dropped(rt, alloc, live, first)?;
     puts_at(rt, alloc, live, "d", 5)?;
-    reads_up_to(rt, &mut second, 5)
+    reads_up_to(rt, second, 5)
 }
 
 // A feed that is dropped takes its reader with it, and nobody waits for either.
@@ -254,9 +289,19 @@ fn followed_and_dropped<N: LiveName + Send + Sync, R: Threads + Wait + Abort + S
     reader: Reader<N>,
 ) -> Result<(), KvError> {
     let filters = all_keys(alloc)?;
-    let feed = taken_with_the_marker(rt, reader, &filters)?;
-    let reader = stopped_beside(rt, alloc, live, feed)?;
-    drop(open_feed(reader, &filters)?);
+    followed_twice(rt, alloc, live, reader, &filters)
+}
+
+fn followed_twice<N: LiveName + Send + Sync, R: Threads + Wait + Abort + Sync>(
+    rt: &R,
+    alloc: Global,
+    live: &Live<N>,
+    reader: Reader<N>,
+    filters: &Filters,
+) -> Result<(), KvError> {
+    let feed = taken_with_the_marker(rt, reader, filters)?;
+    let reader = stopped_under_a_guard(rt, alloc, live, feed)?;
+    drop(open_feed(reader, filters)?);
     Ok(())
 }
 
@@ -271,16 +316,33 @@ fn taken_with_the_marker<N: LiveName, R: Abort>(
 }
 
 // This thread writes through its guard, and has it while another thread goes on with the feed.
-fn stopped_beside<N: LiveName + Send + Sync, R: Threads + Wait + Abort + Sync>(
+fn stopped_under_a_guard<N: LiveName + Send + Sync, R: Threads + Wait + Abort + Sync>(
     rt: &R,
     alloc: Global,
     live: &Live<N>,
     feed: Feed<N>,
 ) -> Result<Reader<N>, KvError> {
     let mut keeper = live.lock(rt);
-    keeps_the_fourth(rt, alloc, &mut keeper)?;
+    kept_then_stopped(rt, alloc, &mut keeper, feed)
+}
+
+fn kept_then_stopped<N: LiveName + Send + Sync, R: Threads + Wait + Abort + Sync>(
+    rt: &R,
+    alloc: Global,
+    keeper: &mut Keeper<N>,
+    feed: Feed<N>,
+) -> Result<Reader<N>, KvError> {
+    keeps_the_fourth(rt, alloc, keeper)?;
+    stopped_beside(rt, keeper, feed)
+}
+
+fn stopped_beside<N: LiveName + Send + Sync, R: Threads + Wait + Abort + Sync>(
+    rt: &R,
+    keeper: &Keeper<N>,
+    feed: Feed<N>,
+) -> Result<Reader<N>, KvError> {
     let (reader, ()) = join(rt, || fourth_taken(rt, feed), || ());
-    is_at(rt, &keeper, 4);
+    is_at(rt, keeper, 4);
     reader
 }
 

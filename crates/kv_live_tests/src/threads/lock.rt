@@ -1,6 +1,7 @@
 //! Rows on the guard of the lock: each line on a guard of its own.
 
 use super::*;
+use kv_live::Stopped;
 
 // What each line does on a guard of its own.
 #[derive(Clone, Copy)]
@@ -102,7 +103,12 @@ fn take_on_guard<N: LiveName, R: Wait>(rt: &R, live: &Live<N>, number: u64) -> A
 }
 
 fn stop_on_guard<N: LiveName, R: Wait>(rt: &R, live: &Live<N>, number: u64) -> Answer {
-    match live.lock(rt).stop(number) {
+    let mut keeper = live.lock(rt);
+    brief_stopped(keeper.stop(number))
+}
+
+fn brief_stopped(stopped: Result<Stopped, KvError>) -> Answer {
+    match stopped {
         Ok(stopped) => Answer::Stopped(stopped.handed),
         Err(error) => Answer::Refused(error),
     }
@@ -163,11 +169,29 @@ fn initial_on_guards<N: LiveName, R: Wait + Abort>(
     live: &Live<N>,
 ) -> Result<(), KvError> {
     let request = put(alloc, "k", "1")?;
+    written_on_guards(rt, alloc, live, &request)
+}
+
+fn written_on_guards<N: LiveName, R: Wait + Abort>(
+    rt: &R,
+    alloc: Global,
+    live: &Live<N>,
+    request: &Request,
+) -> Result<(), KvError> {
     let filters = all_keys(alloc)?;
-    writes_on_guard_at(rt, live, &request, 1)?;
-    watches_on_guard_as(rt, live, &filters, 1)?;
-    writes_on_guard_at(rt, live, &request, 2)?;
-    writes_on_guard_at(rt, live, &request, 3)?;
+    watched_on_guards(rt, live, request, &filters)
+}
+
+fn watched_on_guards<N: LiveName, R: Wait + Abort>(
+    rt: &R,
+    live: &Live<N>,
+    request: &Request,
+    filters: &Filters,
+) -> Result<(), KvError> {
+    writes_on_guard_at(rt, live, request, 1)?;
+    watches_on_guard_as(rt, live, filters, 1)?;
+    writes_on_guard_at(rt, live, request, 2)?;
+    writes_on_guard_at(rt, live, request, 3)?;
     taken_on_guards(rt, live);
     Ok(())
 }
@@ -185,8 +209,17 @@ fn initial_through_write<N: LiveName, R: Wait + Abort>(
     live: &Live<N>,
 ) -> Result<(), KvError> {
     let filters = all_keys(alloc)?;
+    watched_through_write(rt, alloc, live, &filters)
+}
+
+fn watched_through_write<N: LiveName, R: Wait + Abort>(
+    rt: &R,
+    alloc: Global,
+    live: &Live<N>,
+    filters: &Filters,
+) -> Result<(), KvError> {
     puts_at(rt, alloc, live, "k", 1)?;
-    watches_on_guard_as(rt, live, &filters, 1)?;
+    watches_on_guard_as(rt, live, filters, 1)?;
     puts_at(rt, alloc, live, "k", 2)?;
     puts_at(rt, alloc, live, "k", 3)?;
     taken_on_guards(rt, live);
@@ -205,13 +238,20 @@ fn numbers<N: LiveName, R: Wait + Abort>(
     live: &Live<N>,
 ) -> Result<(), KvError> {
     let filters = all_keys(alloc)?;
+    numbered(rt, live, &filters)
+}
+
+fn numbered<N: LiveName, R: Wait + Abort>(
+    rt: &R,
+    live: &Live<N>,
+    filters: &Filters,
+) -> Result<(), KvError> {
     knows_no_watch(rt, live, 7);
-    watches_on_guard_as(rt, live, &filters, 1)?;
+    watches_on_guard_as(rt, live, filters, 1)?;
     takes_on_guard(rt, live, 1, Answer::Marker);
     stops_on_guard(rt, live, 1, 1);
     knows_no_watch(rt, live, 1);
-    watches_on_guard_as(rt, live, &filters, 2)?;
-    Ok(())
+    watches_on_guard_as(rt, live, filters, 2)
 }
 
 fn stops_on_guard<N: LiveName, R: Wait + Abort>(rt: &R, live: &Live<N>, number: u64, handed: u64) {

@@ -9,10 +9,7 @@ fn refused_once(
     numbers: (u64, u64, u64),
     readers: usize,
 ) -> Option<KvError> {
-    match opened_once(alloc, name, numbers, readers) {
-        Ok(_) => None,
-        Err(error) => Some(error),
-    }
+    opened_once(alloc, name, numbers, readers).err()
 }
 
 fn opened_once(
@@ -87,7 +84,11 @@ pub(super) fn all_read<N: LiveName, R: Abort>(
 
 fn sees_nothing<N: LiveName, R: Abort>(rt: &R, reader: Reader<N>) -> Result<(), KvError> {
     let mut reader = reader;
-    let version = read(&mut reader)?;
+    reads_nothing(rt, &mut reader)
+}
+
+fn reads_nothing<N: LiveName, R: Abort>(rt: &R, reader: &mut Reader<N>) -> Result<(), KvError> {
+    let version = read(reader)?;
     assert_eq!(rt; version.revision(), 0);
     assert!(rt; !version.sealed());
     Ok(())
@@ -122,16 +123,19 @@ fn a_close_ends_no_reader(rt: HostRuntime) -> Result<(), Fail> {
     Ok(())
 }
 
-// A reader of a bucket that was closed is let in or refused, and is a reader all the same.
 pub(super) fn after_close<N: LiveName, R: Abort>(
     rt: &R,
     readers: Vec<Reader<N>>,
 ) -> Result<(), KvError> {
-    let (first, _) = two(readers)?;
-    let mut first = first;
-    match read(&mut first) {
+    let mut first = first_alone(readers)?;
+    let_in_or_refused(rt, &mut first);
+    Ok(())
+}
+
+// A reader of a bucket that was closed is let in or refused, and is a reader all the same.
+fn let_in_or_refused<N: LiveName, R: Abort>(rt: &R, reader: &mut Reader<N>) {
+    match read(reader) {
         Ok(version) => assert_eq!(rt; version.revision(), 0),
         Err(error) => assert_eq!(rt; error, KvError::NoReader),
     }
-    Ok(())
 }

@@ -19,7 +19,7 @@ pub(super) fn run_row<N: LiveName + Send + Sync, R: Threads + Wait + Abort + Syn
     row: Row,
 ) -> Result<(), KvError> {
     match row {
-        Row::ToldWrite => told_write(rt, alloc, live, readers),
+        Row::ToldWrite => handed_out(rt, alloc, live, readers),
         Row::ToldTwice => told_twice(rt, alloc, live, readers),
         Row::SeenInTurn => seen_in_turn(rt, alloc, live, readers),
     }
@@ -60,7 +60,16 @@ fn told_at<N: LiveName, R: Wait + Abort>(
     revision: u64,
 ) -> Result<Receipt<N>, KvError> {
     let request = put(alloc, "a", "1")?;
-    let (answered, receipt) = write_told(rt, live, &request)?;
+    told_of(rt, live, &request, revision)
+}
+
+fn told_of<N: LiveName, R: Wait + Abort>(
+    rt: &R,
+    live: &Live<N>,
+    request: &Request,
+    revision: u64,
+) -> Result<Receipt<N>, KvError> {
+    let (answered, receipt) = write_told(rt, live, request)?;
     assert_eq!(rt; answered, revision);
     tells(rt, &receipt, revision);
     Ok(receipt)
@@ -72,19 +81,56 @@ fn told_write_is_handed_out(rt: HostRuntime) -> Result<(), Fail> {
     Ok(())
 }
 
-fn told_write<N: LiveName + Send + Sync, R: Threads + Wait + Abort + Sync>(
+fn handed_out<N: LiveName + Send + Sync, R: Threads + Wait + Abort + Sync>(
     rt: &R,
     alloc: Global,
     live: &Live<N>,
     readers: Vec<Reader<N>>,
 ) -> Result<(), KvError> {
-    let (first, second) = two(readers)?;
+    let (first, mut second) = two(readers)?;
+    handed_to_both(rt, alloc, live, first, &mut second)
+}
+
+fn handed_to_both<N: LiveName + Send + Sync, R: Threads + Wait + Abort + Sync>(
+    rt: &R,
+    alloc: Global,
+    live: &Live<N>,
+    first: Reader<N>,
+    second: &mut Reader<N>,
+) -> Result<(), KvError> {
     let feed = feed_of_all(alloc, first)?;
+    told_to_both(rt, alloc, live, feed, second)
+}
+
+fn told_to_both<N: LiveName + Send + Sync, R: Threads + Wait + Abort + Sync>(
+    rt: &R,
+    alloc: Global,
+    live: &Live<N>,
+    feed: Feed<N>,
+    reader: &mut Reader<N>,
+) -> Result<(), KvError> {
+    let receipt = told_write(rt, alloc, live)?;
+    both_see(rt, feed, reader, &receipt)
+}
+
+// Another thread writes.
+fn told_write<N: LiveName + Send + Sync, R: Threads + Wait + Abort + Sync>(
+    rt: &R,
+    alloc: Global,
+    live: &Live<N>,
+) -> Result<Receipt<N>, KvError> {
     let (receipt, ()) = join(rt, || told_at(rt, alloc, live, 1), || ());
-    let receipt = receipt?;
-    feed_sees(rt, feed, &receipt)?;
-    reader_sees(rt, second, &receipt, 1)?;
-    Ok(())
+    receipt
+}
+
+fn both_see<N: LiveName, R: Abort>(
+    rt: &R,
+    feed: Feed<N>,
+    reader: &mut Reader<N>,
+    receipt: &Receipt<N>,
+) -> Result<(), KvError> {
+    feed_sees(rt, feed, receipt)?;
+    reader_sees(rt, reader, receipt, 1)
 }
 
 fn feed_sees<N: LiveName, R: Abort>(
@@ -93,25 +139,32 @@ fn feed_sees<N: LiveName, R: Abort>(
     receipt: &Receipt<N>,
 ) -> Result<(), KvError> {
     let mut feed = feed;
-    feed.learn(receipt);
-    refresh(rt, &mut feed)?;
-    takes_one(rt, &mut feed, Answer::Marker);
-    takes_one(rt, &mut feed, Answer::Entry(1));
-    takes_one(rt, &mut feed, Answer::Empty);
+    feed_goes_on(rt, &mut feed, receipt)?;
     stopped_at(rt, feed, 2);
+    Ok(())
+}
+
+fn feed_goes_on<N: LiveName, R: Abort>(
+    rt: &R,
+    feed: &mut Feed<N>,
+    receipt: &Receipt<N>,
+) -> Result<(), KvError> {
+    feed.learn(receipt);
+    refresh(rt, feed)?;
+    takes_one(rt, feed, Answer::Marker);
+    takes_one(rt, feed, Answer::Entry(1));
+    takes_one(rt, feed, Answer::Empty);
     Ok(())
 }
 
 fn reader_sees<N: LiveName, R: Abort>(
     rt: &R,
-    reader: Reader<N>,
+    reader: &mut Reader<N>,
     receipt: &Receipt<N>,
     revision: u64,
-) -> Result<Reader<N>, KvError> {
-    let mut reader = reader;
+) -> Result<(), KvError> {
     reader.learn(receipt);
-    reads_up_to(rt, &mut reader, revision)?;
-    Ok(reader)
+    reads_up_to(rt, reader, revision)
 }
 
 #[test]
@@ -127,20 +180,30 @@ fn told_twice<N: LiveName + Send + Sync, R: Threads + Wait + Abort + Sync>(
     live: &Live<N>,
     readers: Vec<Reader<N>>,
 ) -> Result<(), KvError> {
-    let (older, newer) = two_told(rt, alloc, live)?;
-    let (first, second) = two(readers)?;
-    sees_both(rt, first, &newer, &older)?;
-    sees_both(rt, second, &older, &newer)
+    let older = told_at(rt, alloc, live, 1)?;
+    told_again(rt, alloc, live, readers, &older)
 }
 
-fn two_told<N: LiveName, R: Wait + Abort>(
+fn told_again<N: LiveName, R: Wait + Abort>(
     rt: &R,
     alloc: Global,
     live: &Live<N>,
-) -> Result<(Receipt<N>, Receipt<N>), KvError> {
-    let older = told_at(rt, alloc, live, 1)?;
+    readers: Vec<Reader<N>>,
+    older: &Receipt<N>,
+) -> Result<(), KvError> {
     let newer = told_at(rt, alloc, live, 2)?;
-    Ok((older, newer))
+    seen_in_any_order(rt, readers, older, &newer)
+}
+
+fn seen_in_any_order<N: LiveName, R: Abort>(
+    rt: &R,
+    readers: Vec<Reader<N>>,
+    older: &Receipt<N>,
+    newer: &Receipt<N>,
+) -> Result<(), KvError> {
+    let (first, second) = two(readers)?;
+    sees_both(rt, first, newer, older)?;
+    sees_both(rt, second, older, newer)
 }
 
 fn sees_both<N: LiveName, R: Abort>(
@@ -149,9 +212,18 @@ fn sees_both<N: LiveName, R: Abort>(
     one: &Receipt<N>,
     other: &Receipt<N>,
 ) -> Result<(), KvError> {
-    let reader = reader_sees(rt, reader, one, 2)?;
-    reader_sees(rt, reader, other, 2)?;
-    Ok(())
+    let mut reader = reader;
+    learns_both(rt, &mut reader, one, other)
+}
+
+fn learns_both<N: LiveName, R: Abort>(
+    rt: &R,
+    reader: &mut Reader<N>,
+    one: &Receipt<N>,
+    other: &Receipt<N>,
+) -> Result<(), KvError> {
+    reader_sees(rt, reader, one, 2)?;
+    reader_sees(rt, reader, other, 2)
 }
 
 fn has_seen_as<N: LiveName, R: Abort>(
@@ -187,11 +259,21 @@ fn seen_in_turn<N: LiveName + Send + Sync, R: Threads + Wait + Abort + Sync>(
     readers: Vec<Reader<N>>,
 ) -> Result<(), KvError> {
     let (mut first, mut second) = two(readers)?;
-    compare_as(rt, &first, &second, (true, true));
-    sees_a_write(rt, alloc, live, &mut first)?;
-    compare_as(rt, &first, &second, (true, false));
-    reads_up_to(rt, &mut second, 1)?;
-    compare_as(rt, &first, &second, (true, true));
+    look_in_turn(rt, alloc, live, &mut first, &mut second)
+}
+
+fn look_in_turn<N: LiveName, R: Wait + Abort>(
+    rt: &R,
+    alloc: Global,
+    live: &Live<N>,
+    first: &mut Reader<N>,
+    second: &mut Reader<N>,
+) -> Result<(), KvError> {
+    compare_as(rt, first, second, (true, true));
+    sees_a_write(rt, alloc, live, first)?;
+    compare_as(rt, first, second, (true, false));
+    reads_up_to(rt, second, 1)?;
+    compare_as(rt, first, second, (true, true));
     Ok(())
 }
 
@@ -203,8 +285,16 @@ fn sees_a_write<N: LiveName, R: Wait + Abort>(
     reader: &mut Reader<N>,
 ) -> Result<(), KvError> {
     let receipt = told_at(rt, alloc, live, 1)?;
-    has_seen_as(rt, reader, &receipt, false);
+    sees_what_was_told(rt, reader, &receipt)
+}
+
+fn sees_what_was_told<N: LiveName, R: Abort>(
+    rt: &R,
+    reader: &mut Reader<N>,
+    receipt: &Receipt<N>,
+) -> Result<(), KvError> {
+    has_seen_as(rt, reader, receipt, false);
     reads_up_to(rt, reader, 1)?;
-    has_seen_as(rt, reader, &receipt, true);
+    has_seen_as(rt, reader, receipt, true);
     Ok(())
 }
