@@ -188,6 +188,17 @@ fn write(rt: &impl Abort, bucket: &mut Bucket, request: &Request) -> Result<u64,
     }
 }
 
+fn write_put(
+    rt: &impl Abort,
+    alloc: Global,
+    bucket: &mut Bucket,
+    key: &str,
+    value: &str,
+) -> Result<u64, KvError> {
+    let request = put(alloc, key, value)?;
+    write(rt, bucket, &request)
+}
+
 fn seal_once(bucket: &mut Bucket) -> Result<(), KvError> {
     bucket.seal()
 }

@@ -58,37 +58,50 @@ fn put_all(
     values: &[&str],
 ) -> Result<(), KvError> {
     for value in values {
-        let request = put(alloc, "k", value)?;
-        write(rt, bucket, &request)?;
+        write_put(rt, alloc, bucket, "k", value)?;
     }
     Ok(())
 }
 
-#[test]
-fn compaction_and_watches(rt: HostRuntime) -> Result<(), Fail> {
-    let filters = all_keys(rt.alloc())?;
-    let mut bucket = keeping(rt.alloc(), 1)?;
-    put_all(&rt, rt.alloc(), &mut bucket, &["1"])?;
-    assert_eq!(rt; watch(&rt, &mut bucket, &filters)?, 1);
-    put_all(&rt, rt.alloc(), &mut bucket, &["2", "3", "4"])?;
-    reaches(&rt, &bucket, 1);
+// A put, a watch, and more puts.
+fn watches_early(
+    rt: &impl Abort,
+    alloc: Global,
+    bucket: &mut Bucket,
+    filters: &Filters,
+) -> Result<(), KvError> {
+    put_all(rt, alloc, bucket, &["1"])?;
+    assert_eq!(rt; watch(rt, bucket, filters)?, 1);
+    put_all(rt, alloc, bucket, &["2", "3", "4"])
+}
+
+// The watch is behind, and is handed its first items.
+fn compacts_behind(rt: &impl Abort, bucket: &mut Bucket) {
+    reaches(rt, bucket, 1);
     let behind = Answer::Refused(KvError::WatchBehind { watch: 1 });
-    compacts_as(&rt, &mut bucket, 2, behind);
-    compacts(&rt, &mut bucket, 1);
+    compacts_as(rt, bucket, 2, behind);
+    compacts(rt, bucket, 1);
     takes(
-        &rt,
-        &mut bucket,
+        rt,
+        bucket,
         &[Answer::Entry(1), Answer::Marker, Answer::Entry(2)],
     );
-    compacts(&rt, &mut bucket, 2);
+}
+
+// It is handed the rest.
+fn compacts_to_the_end(rt: &impl Abort, bucket: &mut Bucket) {
+    compacts(rt, bucket, 2);
     takes(
-        &rt,
-        &mut bucket,
+        rt,
+        bucket,
         &[Answer::Entry(3), Answer::Entry(4), Answer::Empty],
     );
-    reaches(&rt, &bucket, 4);
-    compacts(&rt, &mut bucket, 4);
-    compacts_as(&rt, &mut bucket, 3, Answer::Refused(KvError::BadFloor));
+    reaches(rt, bucket, 4);
+    compacts(rt, bucket, 4);
+    compacts_as(rt, bucket, 3, Answer::Refused(KvError::BadFloor));
+}
+
+fn keeps_one(rt: &impl Abort, bucket: &Bucket) {
     let status = Status {
         history: 1,
         last: 4,
@@ -97,6 +110,34 @@ fn compaction_and_watches(rt: HostRuntime) -> Result<(), Fail> {
         values: 1,
     };
     assert_eq!(rt; bucket.version().status(), status);
+}
+
+fn compacts_beside(
+    rt: &impl Abort,
+    alloc: Global,
+    bucket: &mut Bucket,
+    filters: &Filters,
+) -> Result<(), KvError> {
+    watches_early(rt, alloc, bucket, filters)?;
+    compacts_behind(rt, bucket);
+    compacts_to_the_end(rt, bucket);
+    keeps_one(rt, bucket);
+    Ok(())
+}
+
+fn compaction_by(rt: &impl Abort, alloc: Global, filters: &Filters) -> Result<(), KvError> {
+    let mut bucket = keeping(alloc, 1)?;
+    compacts_beside(rt, alloc, &mut bucket, filters)
+}
+
+fn compaction(rt: &impl Abort, alloc: Global) -> Result<(), KvError> {
+    let filters = all_keys(alloc)?;
+    compaction_by(rt, alloc, &filters)
+}
+
+#[test]
+fn compaction_and_watches(rt: HostRuntime) -> Result<(), Fail> {
+    compaction(&rt, rt.alloc())?;
     Ok(())
 }
 
@@ -112,16 +153,39 @@ fn is_stored(bucket: &Bucket, revision: u64) -> bool {
     bucket.version().write_at(revision).is_some()
 }
 
-// An entry of the opening that was compacted since is still handed out, as it was.
-#[test]
-fn initial_of_its_moment_after_a_compaction(rt: HostRuntime) -> Result<(), Fail> {
-    let mut bucket = watched_between_puts(&rt, rt.alloc(), 1)?;
-    compacts(&rt, &mut bucket, 1);
-    assert!(rt; !is_stored(&bucket, 1));
-    assert!(rt; shows_next(&bucket, b"1"));
+fn watches_between_puts_by(
+    rt: &impl Abort,
+    alloc: Global,
+    bucket: &mut Bucket,
+    filters: &Filters,
+    count: u64,
+) -> Result<(), KvError> {
+    put_all(rt, alloc, bucket, &["1"])?;
+    for _ in 0..count {
+        watch(rt, bucket, filters)?;
+    }
+    put_all(rt, alloc, bucket, &["2"])
+}
+
+// A put, so many watches, and another put of the same key.
+fn watches_between_puts(
+    rt: &impl Abort,
+    alloc: Global,
+    bucket: &mut Bucket,
+    count: u64,
+) -> Result<(), KvError> {
+    let filters = all_keys(alloc)?;
+    watches_between_puts_by(rt, alloc, bucket, &filters, count)
+}
+
+fn gives_what_was(rt: &impl Abort, alloc: Global, bucket: &mut Bucket) -> Result<(), KvError> {
+    watches_between_puts(rt, alloc, bucket, 1)?;
+    compacts(rt, bucket, 1);
+    assert!(rt; !is_stored(bucket, 1));
+    assert!(rt; shows_next(bucket, b"1"));
     takes(
-        &rt,
-        &mut bucket,
+        rt,
+        bucket,
         &[
             Answer::Entry(1),
             Answer::Marker,
@@ -132,35 +196,45 @@ fn initial_of_its_moment_after_a_compaction(rt: HostRuntime) -> Result<(), Fail>
     Ok(())
 }
 
-// A bucket with a put, so many watches, and another put of the same key.
-fn watched_between_puts(rt: &impl Abort, alloc: Global, count: u64) -> Result<Bucket, KvError> {
-    let filters = all_keys(alloc)?;
+fn initial_of_its_moment(rt: &impl Abort, alloc: Global) -> Result<(), KvError> {
     let mut bucket = keeping(alloc, 1)?;
-    put_all(rt, alloc, &mut bucket, &["1"])?;
-    for _ in 0..count {
-        watch(rt, &mut bucket, &filters)?;
-    }
-    put_all(rt, alloc, &mut bucket, &["2"])?;
-    Ok(bucket)
+    gives_what_was(rt, alloc, &mut bucket)
+}
+
+// An entry of the opening that was compacted since is still handed out, as it was.
+#[test]
+fn initial_of_its_moment_after_a_compaction(rt: HostRuntime) -> Result<(), Fail> {
+    initial_of_its_moment(&rt, rt.alloc())?;
+    Ok(())
 }
 
 fn stops_at(rt: &impl Abort, bucket: &mut Bucket, number: u64, handed: u64) {
     assert_eq!(rt; stop(bucket, number), Answer::Stopped(handed));
 }
 
-#[test]
-fn the_least_watch_that_is_behind(rt: HostRuntime) -> Result<(), Fail> {
-    let mut bucket = watched_between_puts(&rt, rt.alloc(), 2)?;
+fn names_the_least(rt: &impl Abort, alloc: Global, bucket: &mut Bucket) -> Result<(), KvError> {
+    watches_between_puts(rt, alloc, bucket, 2)?;
     let behind = Answer::Refused(KvError::WatchBehind { watch: 1 });
-    compacts_as(&rt, &mut bucket, 2, behind);
+    compacts_as(rt, bucket, 2, behind);
     takes(
-        &rt,
-        &mut bucket,
+        rt,
+        bucket,
         &[Answer::Entry(1), Answer::Marker, Answer::Entry(2)],
     );
     let behind = Answer::Refused(KvError::WatchBehind { watch: 2 });
-    compacts_as(&rt, &mut bucket, 2, behind);
-    stops_at(&rt, &mut bucket, 2, 0);
-    compacts(&rt, &mut bucket, 2);
+    compacts_as(rt, bucket, 2, behind);
+    stops_at(rt, bucket, 2, 0);
+    compacts(rt, bucket, 2);
+    Ok(())
+}
+
+fn the_least_behind(rt: &impl Abort, alloc: Global) -> Result<(), KvError> {
+    let mut bucket = keeping(alloc, 1)?;
+    names_the_least(rt, alloc, &mut bucket)
+}
+
+#[test]
+fn the_least_watch_that_is_behind(rt: HostRuntime) -> Result<(), Fail> {
+    the_least_behind(&rt, rt.alloc())?;
     Ok(())
 }

@@ -58,21 +58,47 @@ fn is_written_and_taken(
     Ok(())
 }
 
+fn watches_by_sixteen(rt: &impl Abort, alloc: Global, bucket: &mut Bucket) -> Result<(), KvError> {
+    let filters = sixteen_filters(alloc)?;
+    assert_eq!(rt; watch(rt, bucket, &filters)?, 1);
+    Ok(())
+}
+
+fn writes_the_longest(rt: &impl Abort, alloc: Global, bucket: &mut Bucket) -> Result<(), KvError> {
+    let request = request(alloc)?;
+    is_written_and_taken(rt, bucket, &request)
+}
+
+fn takes_the_longest(rt: &impl Abort, alloc: Global, bucket: &mut Bucket) -> Result<(), KvError> {
+    watches_by_sixteen(rt, alloc, bucket)?;
+    writes_the_longest(rt, alloc, bucket)
+}
+
+fn holds_the_longest(rt: &impl Abort, alloc: Global) -> Result<(), KvError> {
+    let mut bucket = keeping(alloc, 64)?;
+    takes_the_longest(rt, alloc, &mut bucket)
+}
+
 #[test]
 fn sixteen_filters_the_longest_key_and_the_longest_value(rt: HostRuntime) -> Result<(), Fail> {
-    let mut bucket = keeping(rt.alloc(), 64)?;
-    let filters = sixteen_filters(rt.alloc())?;
-    assert_eq!(rt; watch(&rt, &mut bucket, &filters)?, 1);
-    let request = request(rt.alloc())?;
-    is_written_and_taken(&rt, &mut bucket, &request)?;
+    holds_the_longest(&rt, rt.alloc())?;
     Ok(())
+}
+
+fn seals_twice(rt: &impl Abort, bucket: &mut Bucket) -> Result<(), KvError> {
+    seal(rt, bucket)?;
+    seal(rt, bucket)?;
+    assert!(rt; bucket.version().status().sealed);
+    Ok(())
+}
+
+fn sealed_again(rt: &impl Abort, alloc: Global) -> Result<(), KvError> {
+    let mut bucket = keeping(alloc, 1)?;
+    seals_twice(rt, &mut bucket)
 }
 
 #[test]
 fn a_sealed_bucket_is_sealed_again(rt: HostRuntime) -> Result<(), Fail> {
-    let mut bucket = keeping(rt.alloc(), 1)?;
-    seal(&rt, &mut bucket)?;
-    seal(&rt, &mut bucket)?;
-    assert!(rt; bucket.version().status().sealed);
+    sealed_again(&rt, rt.alloc())?;
     Ok(())
 }

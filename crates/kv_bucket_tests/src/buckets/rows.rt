@@ -4,35 +4,51 @@ use super::*;
 
 fn put_three(rt: &impl Abort, alloc: Global, bucket: &mut Bucket) -> Result<(), KvError> {
     for (key, value) in [("b", "1"), ("a", "2"), ("b", "3")] {
-        let request = put(alloc, key, value)?;
-        write(rt, bucket, &request)?;
+        write_put(rt, alloc, bucket, key, value)?;
     }
     Ok(())
 }
 
-fn initial_by(rt: &impl Abort, alloc: Global, filters: &Filters) -> Result<(), KvError> {
-    let mut bucket = keeping(alloc, 1)?;
-    put_three(rt, alloc, &mut bucket)?;
+fn gives_initial(
+    rt: &impl Abort,
+    alloc: Global,
+    bucket: &mut Bucket,
+    filters: &Filters,
+) -> Result<(), KvError> {
+    put_three(rt, alloc, bucket)?;
     assert_eq!(rt; bucket.version().revision(), 3);
-    assert_eq!(rt; watch(rt, &mut bucket, filters)?, 1);
+    assert_eq!(rt; watch(rt, bucket, filters)?, 1);
     for answer in [
         Answer::Entry(2),
         Answer::Entry(3),
         Answer::Marker,
         Answer::Empty,
     ] {
-        assert_eq!(rt; peek(&bucket, 1), answer);
-        assert_eq!(rt; take(&mut bucket, 1), answer);
+        assert_eq!(rt; peek(bucket, 1), answer);
+        assert_eq!(rt; take(bucket, 1), answer);
     }
     Ok(())
 }
 
+fn initial_by(rt: &impl Abort, alloc: Global, filters: &Filters) -> Result<(), KvError> {
+    let mut bucket = keeping(alloc, 1)?;
+    gives_initial(rt, alloc, &mut bucket, filters)
+}
+
+fn initial_by_parsed(rt: &impl Abort, alloc: Global) -> Result<(), KvError> {
+    let parsed = all_keys(alloc)?;
+    initial_by(rt, alloc, &parsed)
+}
+
+fn initial_by_single(rt: &impl Abort, alloc: Global) -> Result<(), KvError> {
+    let single = one_filter(alloc)?;
+    initial_by(rt, alloc, &single)
+}
+
 #[test]
 fn initial_by_revision(rt: HostRuntime) -> Result<(), Fail> {
-    let parsed = all_keys(rt.alloc())?;
-    initial_by(&rt, rt.alloc(), &parsed)?;
-    let single = one_filter(rt.alloc())?;
-    initial_by(&rt, rt.alloc(), &single)?;
+    initial_by_parsed(&rt, rt.alloc())?;
+    initial_by_single(&rt, rt.alloc())?;
     Ok(())
 }
 
@@ -65,16 +81,29 @@ fn knows_no_watch(rt: &impl Abort, bucket: &mut Bucket, number: u64) {
     assert_eq!(rt; stop(bucket, number), Answer::Refused(KvError::NoSuchWatch));
 }
 
+fn numbers_by(rt: &impl Abort, bucket: &mut Bucket, filters: &Filters) -> Result<(), KvError> {
+    knows_no_watch(rt, bucket, 7);
+    watches_as(rt, bucket, filters, 1)?;
+    takes_and_stops(rt, bucket);
+    knows_no_watch(rt, bucket, 1);
+    watches_as(rt, bucket, filters, 2)?;
+    has_watches(rt, bucket, 1);
+    Ok(())
+}
+
+fn numbers_on(rt: &impl Abort, alloc: Global, bucket: &mut Bucket) -> Result<(), KvError> {
+    let filters = all_keys(alloc)?;
+    numbers_by(rt, bucket, &filters)
+}
+
+fn numbers(rt: &impl Abort, alloc: Global) -> Result<(), KvError> {
+    let mut bucket = keeping(alloc, 1)?;
+    numbers_on(rt, alloc, &mut bucket)
+}
+
 #[test]
 fn watch_numbers(rt: HostRuntime) -> Result<(), Fail> {
-    let mut bucket = keeping(rt.alloc(), 1)?;
-    let filters = all_keys(rt.alloc())?;
-    knows_no_watch(&rt, &mut bucket, 7);
-    watches_as(&rt, &mut bucket, &filters, 1)?;
-    takes_and_stops(&rt, &mut bucket);
-    knows_no_watch(&rt, &mut bucket, 1);
-    watches_as(&rt, &mut bucket, &filters, 2)?;
-    has_watches(&rt, &bucket, 1);
+    numbers(&rt, rt.alloc())?;
     Ok(())
 }
 
@@ -93,15 +122,28 @@ fn opens_no_more(rt: &impl Abort, bucket: &mut Bucket, filters: &Filters) {
     assert_eq!(rt; watch(rt, bucket, filters), Err(KvError::TooManyWatches));
 }
 
+fn most_by(rt: &impl Abort, bucket: &mut Bucket, filters: &Filters) -> Result<(), KvError> {
+    opens_sixty_four(rt, bucket, filters)?;
+    opens_no_more(rt, bucket, filters);
+    stops_as(rt, bucket, 1, 0);
+    watches_as(rt, bucket, filters, 65)?;
+    has_watches(rt, bucket, 64);
+    Ok(())
+}
+
+fn most_on(rt: &impl Abort, alloc: Global, bucket: &mut Bucket) -> Result<(), KvError> {
+    let filters = all_keys(alloc)?;
+    most_by(rt, bucket, &filters)
+}
+
+fn most_watches(rt: &impl Abort, alloc: Global) -> Result<(), KvError> {
+    let mut bucket = keeping(alloc, 1)?;
+    most_on(rt, alloc, &mut bucket)
+}
+
 #[test]
 fn sixty_four_watches(rt: HostRuntime) -> Result<(), Fail> {
-    let mut bucket = keeping(rt.alloc(), 1)?;
-    let filters = all_keys(rt.alloc())?;
-    opens_sixty_four(&rt, &mut bucket, &filters)?;
-    opens_no_more(&rt, &mut bucket, &filters);
-    stops_as(&rt, &mut bucket, 1, 0);
-    watches_as(&rt, &mut bucket, &filters, 65)?;
-    has_watches(&rt, &bucket, 64);
+    most_watches(&rt, rt.alloc())?;
     Ok(())
 }
 
@@ -137,17 +179,10 @@ fn fills(rt: &impl Abort, alloc: Global, bucket: &mut Bucket) -> Result<(), KvEr
     puts_as(rt, alloc, bucket, "c", Err(KvError::JournalFull))
 }
 
-#[test]
-fn write_limit_and_seal(rt: HostRuntime) -> Result<(), Fail> {
-    let limits = Limits {
-        history: 1,
-        write_limit: 2,
-        ..LARGEST
-    };
-    let mut bucket = open(rt.alloc(), "kv", limits)?;
-    fills(&rt, rt.alloc(), &mut bucket)?;
-    seal(&rt, &mut bucket)?;
-    puts_as(&rt, rt.alloc(), &mut bucket, "c", Err(KvError::Sealed))?;
+fn fills_and_seals(rt: &impl Abort, alloc: Global, bucket: &mut Bucket) -> Result<(), KvError> {
+    fills(rt, alloc, bucket)?;
+    seal(rt, bucket)?;
+    puts_as(rt, alloc, bucket, "c", Err(KvError::Sealed))?;
     let status = Status {
         history: 1,
         last: 2,
@@ -155,7 +190,23 @@ fn write_limit_and_seal(rt: HostRuntime) -> Result<(), Fail> {
         stored: 2,
         values: 2,
     };
-    has_status(&rt, &bucket, status);
+    has_status(rt, bucket, status);
+    Ok(())
+}
+
+fn limit_and_seal(rt: &impl Abort, alloc: Global) -> Result<(), KvError> {
+    let limits = Limits {
+        history: 1,
+        write_limit: 2,
+        ..LARGEST
+    };
+    let mut bucket = open(alloc, "kv", limits)?;
+    fills_and_seals(rt, alloc, &mut bucket)
+}
+
+#[test]
+fn write_limit_and_seal(rt: HostRuntime) -> Result<(), Fail> {
+    limit_and_seal(&rt, rt.alloc())?;
     Ok(())
 }
 

@@ -7,15 +7,24 @@ fn push_put(alloc: Global, calls: &mut Vec<Call>, key: &str, value: &str) -> Res
     Ok(())
 }
 
-fn initial_calls_once(alloc: Global, filters: &Filters) -> Result<Vec<Call>, KvError> {
-    let mut calls = Vec::new(alloc);
-    for (key, value) in [("b", "1"), ("a", "2"), ("b", "3")] {
-        push_put(alloc, &mut calls, key, value)?;
-    }
-    calls.push(Call::Watch(filters.copy(alloc)?, LATEST))?;
-    for _ in 0..4u8 {
+fn push_takes(calls: &mut Vec<Call>, takes: u64) -> Result<(), KvError> {
+    for _ in 0..takes {
         calls.push(Call::Take(1))?;
     }
+    Ok(())
+}
+
+fn push_initial(alloc: Global, calls: &mut Vec<Call>, filters: &Filters) -> Result<(), KvError> {
+    for (key, value) in [("b", "1"), ("a", "2"), ("b", "3")] {
+        push_put(alloc, calls, key, value)?;
+    }
+    calls.push(Call::Watch(filters.copy(alloc)?, LATEST))?;
+    push_takes(calls, 4)
+}
+
+fn initial_calls_once(alloc: Global, filters: &Filters) -> Result<Vec<Call>, KvError> {
+    let mut calls = Vec::new(alloc);
+    push_initial(alloc, &mut calls, filters)?;
     Ok(calls)
 }
 
@@ -36,6 +45,19 @@ fn is_entry(reply: Option<&Reply>, key: &str, value: &[u8]) -> bool {
     }
 }
 
+fn runs_like(
+    rt: &impl Abort,
+    alloc: Global,
+    other: &mut Bucket,
+    calls: &[Call],
+    bucket: &Bucket,
+) -> Result<(), KvError> {
+    let mut replies = Vec::new(alloc);
+    other.run(calls, &mut replies)?;
+    assert_eq!(rt; look(bucket), look(other));
+    Ok(())
+}
+
 // A bucket looks like one that was asked these calls alone.
 fn looks_asked(
     rt: &impl Abort,
@@ -45,29 +67,49 @@ fn looks_asked(
     bucket: &Bucket,
 ) -> Result<(), KvError> {
     let mut other = keeping(alloc, history)?;
-    let mut replies = Vec::new(alloc);
-    other.run(calls, &mut replies)?;
-    assert_eq!(rt; look(bucket), look(&other));
+    runs_like(rt, alloc, &mut other, calls, bucket)
+}
+
+// Where a request for memory is refused, the calls before the refused one were done and answered, and the others go on
+// from there.
+fn run_on(
+    rt: &impl Abort,
+    alloc: Global,
+    bucket: &mut Bucket,
+    history: u64,
+    calls: &[Call],
+    replies: &mut Vec<Reply>,
+) -> Result<(), KvError> {
+    if let Err(error) = bucket.run(calls, replies) {
+        assert_eq!(rt; error, KvError::OutOfMemory);
+        let done = replies.len();
+        assert!(rt; done < calls.len());
+        looks_asked(rt, alloc, history, &calls[..done], bucket)?;
+        bucket.run(&calls[done..], replies)?;
+    }
     Ok(())
 }
 
-// The replies to the calls of a bucket that keeps so many entries of each key. Where a request for memory is refused,
-// the calls before the refused one were done and answered, and the others go on from there.
+fn run(
+    rt: &impl Abort,
+    alloc: Global,
+    history: u64,
+    calls: &[Call],
+    replies: &mut Vec<Reply>,
+) -> Result<(), KvError> {
+    let mut bucket = keeping(alloc, history)?;
+    run_on(rt, alloc, &mut bucket, history, calls, replies)
+}
+
+// The replies to the calls of a bucket that keeps so many entries of each key.
 fn replies(
     rt: &impl Abort,
     alloc: Global,
     history: u64,
     calls: &[Call],
 ) -> Result<Vec<Reply>, KvError> {
-    let mut bucket = keeping(alloc, history)?;
     let mut replies = Vec::new(alloc);
-    if let Err(error) = bucket.run(calls, &mut replies) {
-        assert_eq!(rt; error, KvError::OutOfMemory);
-        let done = replies.len();
-        assert!(rt; done < calls.len());
-        looks_asked(rt, alloc, history, &calls[..done], &bucket)?;
-        bucket.run(&calls[done..], &mut replies)?;
-    }
+    run(rt, alloc, history, calls, &mut replies)?;
     Ok(replies)
 }
 
@@ -78,9 +120,20 @@ fn are_answers(rt: &impl Abort, replies: &[Reply], answers: &[Answer]) {
     }
 }
 
-fn initial_by(rt: &impl Abort, alloc: Global, filters: &Filters) -> Result<(), KvError> {
-    let calls = initial_calls(alloc, filters)?;
-    let replies = replies(rt, alloc, 1, &calls)?;
+// The calls are answered so by a bucket that keeps so many entries of each key.
+fn are_answered(
+    rt: &impl Abort,
+    alloc: Global,
+    history: u64,
+    calls: &[Call],
+    answers: &[Answer],
+) -> Result<(), KvError> {
+    let replies = replies(rt, alloc, history, calls)?;
+    are_answers(rt, &replies, answers);
+    Ok(())
+}
+
+fn are_initial(rt: &impl Abort, replies: &[Reply]) {
     let answers = [
         Answer::Revision(1),
         Answer::Revision(2),
@@ -91,18 +144,36 @@ fn initial_by(rt: &impl Abort, alloc: Global, filters: &Filters) -> Result<(), K
         Answer::Marker,
         Answer::Empty,
     ];
-    are_answers(rt, &replies, &answers);
+    are_answers(rt, replies, &answers);
     assert!(rt; is_entry(replies.get(4), "a", b"2"));
     assert!(rt; is_entry(replies.get(5), "b", b"3"));
+}
+
+fn gives_initial(rt: &impl Abort, alloc: Global, calls: &[Call]) -> Result<(), KvError> {
+    let replies = replies(rt, alloc, 1, calls)?;
+    are_initial(rt, &replies);
     Ok(())
+}
+
+fn initial_by(rt: &impl Abort, alloc: Global, filters: &Filters) -> Result<(), KvError> {
+    let calls = initial_calls(alloc, filters)?;
+    gives_initial(rt, alloc, &calls)
+}
+
+fn initial_by_parsed(rt: &impl Abort, alloc: Global) -> Result<(), KvError> {
+    let parsed = all_keys(alloc)?;
+    initial_by(rt, alloc, &parsed)
+}
+
+fn initial_by_single(rt: &impl Abort, alloc: Global) -> Result<(), KvError> {
+    let single = one_filter(alloc)?;
+    initial_by(rt, alloc, &single)
 }
 
 #[test]
 fn initial_by_revision_in_a_run(rt: HostRuntime) -> Result<(), Fail> {
-    let parsed = all_keys(rt.alloc())?;
-    initial_by(&rt, rt.alloc(), &parsed)?;
-    let single = one_filter(rt.alloc())?;
-    initial_by(&rt, rt.alloc(), &single)?;
+    initial_by_parsed(&rt, rt.alloc())?;
+    initial_by_single(&rt, rt.alloc())?;
     Ok(())
 }
 
@@ -133,14 +204,18 @@ fn push_numbers(calls: &mut Vec<Call>) -> Result<(), KvError> {
     Ok(())
 }
 
+fn push_others(alloc: Global, calls: &mut Vec<Call>) -> Result<(), KvError> {
+    push_put(alloc, calls, "k", "1")?;
+    push_put(alloc, calls, "k", "2")?;
+    push_reads(alloc, calls, 3)?;
+    push_lists(alloc, calls)?;
+    push_numbers(calls)?;
+    push_put(alloc, calls, "k", "3")
+}
+
 fn other_calls_once(alloc: Global) -> Result<Vec<Call>, KvError> {
     let mut calls = Vec::new(alloc);
-    push_put(alloc, &mut calls, "k", "1")?;
-    push_put(alloc, &mut calls, "k", "2")?;
-    push_reads(alloc, &mut calls, 3)?;
-    push_lists(alloc, &mut calls)?;
-    push_numbers(&mut calls)?;
-    push_put(alloc, &mut calls, "k", "3")?;
+    push_others(alloc, &mut calls)?;
     Ok(calls)
 }
 
@@ -151,10 +226,8 @@ fn other_calls(alloc: Global) -> Result<Vec<Call>, KvError> {
     }
 }
 
-#[test]
-fn each_call_in_a_run(rt: HostRuntime) -> Result<(), Fail> {
-    let calls = other_calls(rt.alloc())?;
-    let replies = replies(&rt, rt.alloc(), 2, &calls)?;
+fn others(rt: &impl Abort, alloc: Global) -> Result<(), KvError> {
+    let calls = other_calls(alloc)?;
     let status = Status {
         history: 2,
         last: 2,
@@ -177,18 +250,28 @@ fn each_call_in_a_run(rt: HostRuntime) -> Result<(), Fail> {
         Answer::Sealed,
         Answer::Refused(KvError::Sealed),
     ];
-    are_answers(&rt, &replies, &answers);
+    are_answered(rt, alloc, 2, &calls, &answers)
+}
+
+#[test]
+fn each_call_in_a_run(rt: HostRuntime) -> Result<(), Fail> {
+    others(&rt, rt.alloc())?;
     Ok(())
 }
 
 // A watch, and then a put and a take of it, again and again: 10,001 calls.
-fn many_calls_once(alloc: Global) -> Result<Vec<Call>, KvError> {
-    let mut calls = Vec::new(alloc);
+fn push_many(alloc: Global, calls: &mut Vec<Call>) -> Result<(), KvError> {
     calls.push(Call::Watch(all_keys(alloc)?, LATEST))?;
     for _ in 0..5_000u64 {
-        push_put(alloc, &mut calls, "k", "1")?;
+        push_put(alloc, calls, "k", "1")?;
         calls.push(Call::Take(1))?;
     }
+    Ok(())
+}
+
+fn many_calls_once(alloc: Global) -> Result<Vec<Call>, KvError> {
+    let mut calls = Vec::new(alloc);
+    push_many(alloc, &mut calls)?;
     Ok(calls)
 }
 
@@ -199,16 +282,29 @@ fn many_calls(alloc: Global) -> Result<Vec<Call>, KvError> {
     }
 }
 
-#[test]
-fn ten_thousand_calls_in_a_run(rt: HostRuntime) -> Result<(), Fail> {
-    let calls = many_calls(rt.alloc())?;
-    let replies = replies(&rt, rt.alloc(), 1, &calls)?;
+fn are_many(rt: &impl Abort, replies: &[Reply]) {
     assert_eq!(rt; replies.len(), 10_001);
     are_answers(
-        &rt,
+        rt,
         &replies[9_999..],
         &[Answer::Revision(5_000), Answer::Entry(4_999)],
     );
+}
+
+fn gives_many(rt: &impl Abort, alloc: Global, calls: &[Call]) -> Result<(), KvError> {
+    let replies = replies(rt, alloc, 1, calls)?;
+    are_many(rt, &replies);
+    Ok(())
+}
+
+fn many(rt: &impl Abort, alloc: Global) -> Result<(), KvError> {
+    let calls = many_calls(alloc)?;
+    gives_many(rt, alloc, &calls)
+}
+
+#[test]
+fn ten_thousand_calls_in_a_run(rt: HostRuntime) -> Result<(), Fail> {
+    many(&rt, rt.alloc())?;
     Ok(())
 }
 
@@ -232,13 +328,6 @@ fn push_purge(alloc: Global, calls: &mut Vec<Call>, last: u64) -> Result<(), KvE
     Ok(())
 }
 
-fn push_takes(calls: &mut Vec<Call>, takes: u64) -> Result<(), KvError> {
-    for _ in 0..takes {
-        calls.push(Call::Take(1))?;
-    }
-    Ok(())
-}
-
 fn push_ends(calls: &mut Vec<Call>) -> Result<(), KvError> {
     calls.push(Call::Stop(1))?;
     calls.push(Call::Seal)?;
@@ -255,13 +344,17 @@ fn push_a_marker(alloc: Global, calls: &mut Vec<Call>) -> Result<(), KvError> {
     push_takes(calls, 2)
 }
 
+fn push_over_a_marker(alloc: Global, calls: &mut Vec<Call>) -> Result<(), KvError> {
+    push_a_marker(alloc, calls)?;
+    push_create(alloc, calls)?;
+    push_purge(alloc, calls, 3)?;
+    push_takes(calls, 3)?;
+    push_ends(calls)
+}
+
 fn calls_over_a_marker_once(alloc: Global) -> Result<Vec<Call>, KvError> {
     let mut calls = Vec::new(alloc);
-    push_a_marker(alloc, &mut calls)?;
-    push_create(alloc, &mut calls)?;
-    push_purge(alloc, &mut calls, 3)?;
-    push_takes(&mut calls, 3)?;
-    push_ends(&mut calls)?;
+    push_over_a_marker(alloc, &mut calls)?;
     Ok(calls)
 }
 
@@ -272,10 +365,8 @@ fn calls_over_a_marker(alloc: Global) -> Result<Vec<Call>, KvError> {
     }
 }
 
-#[test]
-fn each_call_over_a_marker(rt: HostRuntime) -> Result<(), Fail> {
-    let calls = calls_over_a_marker(rt.alloc())?;
-    let replies = replies(&rt, rt.alloc(), 2, &calls)?;
+fn over_a_marker(rt: &impl Abort, alloc: Global) -> Result<(), KvError> {
+    let calls = calls_over_a_marker(alloc)?;
     let answers = [
         Answer::Revision(1),
         Answer::Revision(2),
@@ -296,20 +387,30 @@ fn each_call_over_a_marker(rt: HostRuntime) -> Result<(), Fail> {
         Answer::Sealed,
         Answer::Sealed,
     ];
-    are_answers(&rt, &replies, &answers);
+    are_answered(rt, alloc, 2, &calls, &answers)
+}
+
+#[test]
+fn each_call_over_a_marker(rt: HostRuntime) -> Result<(), Fail> {
+    over_a_marker(&rt, rt.alloc())?;
     Ok(())
 }
 
 // Two puts of `k` around a watch, and compactions.
-fn compactions_once(alloc: Global) -> Result<Vec<Call>, KvError> {
-    let mut calls = Vec::new(alloc);
-    push_put(alloc, &mut calls, "k", "1")?;
+fn push_compactions(alloc: Global, calls: &mut Vec<Call>) -> Result<(), KvError> {
+    push_put(alloc, calls, "k", "1")?;
     calls.push(Call::Watch(all_keys(alloc)?, LATEST))?;
-    push_put(alloc, &mut calls, "k", "2")?;
+    push_put(alloc, calls, "k", "2")?;
     for floor in [3, 2, 1, 0] {
         calls.push(Call::Compact(floor))?;
     }
     calls.push(Call::Status)?;
+    Ok(())
+}
+
+fn compactions_once(alloc: Global) -> Result<Vec<Call>, KvError> {
+    let mut calls = Vec::new(alloc);
+    push_compactions(alloc, &mut calls)?;
     Ok(calls)
 }
 
@@ -320,10 +421,8 @@ fn compactions(alloc: Global) -> Result<Vec<Call>, KvError> {
     }
 }
 
-#[test]
-fn compactions_in_a_run(rt: HostRuntime) -> Result<(), Fail> {
-    let calls = compactions(rt.alloc())?;
-    let replies = replies(&rt, rt.alloc(), 1, &calls)?;
+fn compacts_in_a_run(rt: &impl Abort, alloc: Global) -> Result<(), KvError> {
+    let calls = compactions(alloc)?;
     let status = Status {
         history: 1,
         last: 2,
@@ -341,6 +440,11 @@ fn compactions_in_a_run(rt: HostRuntime) -> Result<(), Fail> {
         Answer::Refused(KvError::BadFloor),
         Answer::Status(status, 1),
     ];
-    are_answers(&rt, &replies, &answers);
+    are_answered(rt, alloc, 1, &calls, &answers)
+}
+
+#[test]
+fn compactions_in_a_run(rt: HostRuntime) -> Result<(), Fail> {
+    compacts_in_a_run(&rt, rt.alloc())?;
     Ok(())
 }
