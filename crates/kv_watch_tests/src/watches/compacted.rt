@@ -39,18 +39,55 @@ fn with_more(alloc: Global, base: &Version) -> Result<Version, KvError> {
     write_all(alloc, base.snapshot()?, &more)
 }
 
+// All is handed out over the compacted version.
+fn gives_all(rt: &impl Abort, cursor: &mut Cursor, base: &Version, now: &Version) {
+    for event in [entry(1), Some(Event::Marker), entry(5), None] {
+        gives(rt, cursor, base, now, event);
+    }
+    reaches(rt, cursor, now, 5);
+}
+
+fn gives_all_compacted(
+    rt: &impl Abort,
+    alloc: Global,
+    cursor: &mut Cursor,
+    base: &Version,
+    now: &Version,
+) -> Result<(), KvError> {
+    let now = compact(alloc, now, 4)?;
+    gives_all(rt, cursor, base, &now);
+    Ok(())
+}
+
+fn is_behind(rt: &impl Abort, cursor: &Cursor, now: &Version) {
+    reaches(rt, cursor, now, 4);
+    assert!(rt; cursor.behind(now, 5));
+}
+
+fn hides_nothing_over(
+    rt: &impl Abort,
+    alloc: Global,
+    cursor: &mut Cursor,
+    base: &Version,
+) -> Result<(), KvError> {
+    let now = with_more(alloc, base)?;
+    is_behind(rt, cursor, &now);
+    gives_all_compacted(rt, alloc, cursor, base, &now)
+}
+
+fn hides_nothing_behind(rt: &impl Abort, alloc: Global, base: &Version) -> Result<(), KvError> {
+    let mut cursor = open_on_k(rt, alloc, base)?;
+    hides_nothing_over(rt, alloc, &mut cursor, base)
+}
+
+fn hides_nothing(rt: &impl Abort, alloc: Global) -> Result<(), KvError> {
+    let base = written(alloc, &[put("k", "1")])?;
+    hides_nothing_behind(rt, alloc, &base)
+}
+
 // Of an opening that was compacted since every entry is handed out, and a hole in the revisions hides no entry behind.
 #[test]
 fn what_was_compacted_hides_nothing(rt: HostRuntime) -> Result<(), Fail> {
-    let base = written(rt.alloc(), &[put("k", "1")])?;
-    let mut cursor = open_on_k(&rt, rt.alloc(), &base)?;
-    let now = with_more(rt.alloc(), &base)?;
-    reaches(&rt, &cursor, &now, 4);
-    assert!(rt; cursor.behind(&now, 5));
-    let now = compact(rt.alloc(), &now, 4)?;
-    for event in [entry(1), Some(Event::Marker), entry(5), None] {
-        gives(&rt, &mut cursor, &base, &now, event);
-    }
-    reaches(&rt, &cursor, &now, 5);
+    hides_nothing(&rt, rt.alloc())?;
     Ok(())
 }

@@ -169,13 +169,34 @@ fn after(alloc: Global, base: &Version, row: Row<'_>) -> Result<Version, KvError
     write_all(alloc, version, row.after)
 }
 
+fn gives_between(
+    rt: &impl Abort,
+    alloc: Global,
+    base: &Version,
+    now: &Version,
+    filters: &Filters,
+    row: Row<'_>,
+) -> Result<(), KvError> {
+    lists(rt, alloc, base, now, filters, row)?;
+    hands_out_in_parts(rt, alloc, base, now, filters, row)?;
+    hands_out_later(rt, alloc, base, now, filters, row)
+}
+
+fn gives_behind(
+    rt: &impl Abort,
+    alloc: Global,
+    base: &Version,
+    filters: &Filters,
+    row: Row<'_>,
+) -> Result<(), KvError> {
+    let now = after(alloc, base, row)?;
+    gives_between(rt, alloc, base, &now, filters, row)
+}
+
 // The row holds of the plain list, and of cursors that go through it.
 fn gives(rt: &impl Abort, alloc: Global, filters: &Filters, row: Row<'_>) -> Result<(), KvError> {
     let base = before(alloc, row)?;
-    let now = after(alloc, &base, row)?;
-    lists(rt, alloc, &base, &now, filters, row)?;
-    hands_out_in_parts(rt, alloc, &base, &now, filters, row)?;
-    hands_out_later(rt, alloc, &base, &now, filters, row)
+    gives_behind(rt, alloc, &base, filters, row)
 }
 
 // The row holds of a watch of a list of filters.
@@ -189,6 +210,11 @@ pub(super) fn watch_gives(
     gives(rt, alloc, &filters, row)
 }
 
+fn single_gives(rt: &impl Abort, alloc: Global, text: &str, row: Row<'_>) -> Result<(), KvError> {
+    let single = one(alloc, text)?;
+    gives(rt, alloc, &single, row)
+}
+
 // The row holds of a watch of one filter, however the list of it is made.
 pub(super) fn watch_of_one_gives(
     rt: &impl Abort,
@@ -196,8 +222,6 @@ pub(super) fn watch_of_one_gives(
     text: &str,
     row: Row<'_>,
 ) -> Result<(), KvError> {
-    let parsed = filters(alloc, text)?;
-    gives(rt, alloc, &parsed, row)?;
-    let single = one(alloc, text)?;
-    gives(rt, alloc, &single, row)
+    watch_gives(rt, alloc, text, row)?;
+    single_gives(rt, alloc, text, row)
 }

@@ -76,14 +76,18 @@ fn history_of_two(rt: HostRuntime) -> Result<(), Fail> {
     Ok(())
 }
 
-#[test]
-fn history_of_two_from_revisions(rt: HostRuntime) -> Result<(), Fail> {
+fn history_of_two_from_each(rt: &impl Abort, alloc: Global) -> Result<(), KvError> {
     let all = [entry(2), entry(3), MARKER];
     for revision in [0, 1, 2u64] {
-        history_of_two_from(&rt, rt.alloc(), Start::From(revision), &all)?;
+        history_of_two_from(rt, alloc, Start::From(revision), &all)?;
     }
-    history_of_two_from(&rt, rt.alloc(), Start::From(3), &[entry(3), MARKER])?;
-    history_of_two_from(&rt, rt.alloc(), Start::From(4), &[MARKER])?;
+    history_of_two_from(rt, alloc, Start::From(3), &[entry(3), MARKER])?;
+    history_of_two_from(rt, alloc, Start::From(4), &[MARKER])
+}
+
+#[test]
+fn history_of_two_from_revisions(rt: HostRuntime) -> Result<(), Fail> {
+    history_of_two_from_each(&rt, rt.alloc())?;
     Ok(())
 }
 

@@ -78,6 +78,30 @@ fn shows_delete(rt: &impl Abort, taken: &Taken<'_>) {
     shows(rt, taken, parts);
 }
 
+fn shows_between(
+    rt: &impl Abort,
+    alloc: Global,
+    base: &Version,
+    now: &Version,
+    options: Options,
+    value: Option<&[u8]>,
+) -> Result<(), KvError> {
+    let mut cursor = open_on(rt, alloc, base, ">", options)?;
+    shows_put_and_delete(rt, &mut cursor, base, now, value);
+    Ok(())
+}
+
+fn shows_behind(
+    rt: &impl Abort,
+    alloc: Global,
+    base: &Version,
+    options: Options,
+    value: Option<&[u8]>,
+) -> Result<(), KvError> {
+    let now = write(alloc, base, mark(Op::Delete, "a"))?;
+    shows_between(rt, alloc, base, &now, options, value)
+}
+
 fn shows_each(
     rt: &impl Abort,
     alloc: Global,
@@ -85,10 +109,7 @@ fn shows_each(
     value: Option<&[u8]>,
 ) -> Result<(), KvError> {
     let base = written(alloc, &[put("a", "abc")])?;
-    let now = write(alloc, &base, mark(Op::Delete, "a"))?;
-    let mut cursor = open_on(rt, alloc, &base, ">", options)?;
-    shows_put_and_delete(rt, &mut cursor, &base, &now, value);
-    Ok(())
+    shows_behind(rt, alloc, &base, options, value)
 }
 
 #[test]
@@ -153,6 +174,19 @@ fn looks_behind_the_third(rt: &impl Abort, cursor: &mut Cursor, base: &Version, 
     assert_eq!(rt; cursor.handed(), 3);
 }
 
+// Writes what the watch wants.
+fn looks_behind_more(
+    rt: &impl Abort,
+    alloc: Global,
+    cursor: &mut Cursor,
+    base: &Version,
+    passed: &Version,
+) -> Result<(), KvError> {
+    let now = write(alloc, passed, put("k", "3"))?;
+    looks_behind_the_third(rt, cursor, base, &now);
+    Ok(())
+}
+
 // Writes once what the watch does not want, and once what it wants.
 fn looks_behind_each(
     rt: &impl Abort,
@@ -162,15 +196,21 @@ fn looks_behind_each(
 ) -> Result<(), KvError> {
     let passed = write(alloc, base, put("x", "2"))?;
     looks_behind_its_beginning(rt, cursor, base, &passed);
-    let now = write(alloc, &passed, put("k", "3"))?;
-    looks_behind_the_third(rt, cursor, base, &now);
-    Ok(())
+    looks_behind_more(rt, alloc, cursor, base, &passed)
+}
+
+fn looks_from(rt: &impl Abort, alloc: Global, base: &Version) -> Result<(), KvError> {
+    let mut cursor = open_on(rt, alloc, base, "k", LATEST)?;
+    looks_behind_each(rt, alloc, &mut cursor, base)
+}
+
+fn looks(rt: &impl Abort, alloc: Global) -> Result<(), KvError> {
+    let base = written(alloc, &[put("k", "1")])?;
+    looks_from(rt, alloc, &base)
 }
 
 #[test]
 fn looks_next(rt: HostRuntime) -> Result<(), Fail> {
-    let base = written(rt.alloc(), &[put("k", "1")])?;
-    let mut cursor = open_on(&rt, rt.alloc(), &base, "k", LATEST)?;
-    looks_behind_each(&rt, rt.alloc(), &mut cursor, &base)?;
+    looks(&rt, rt.alloc())?;
     Ok(())
 }
