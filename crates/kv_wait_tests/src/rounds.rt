@@ -116,9 +116,17 @@ fn serve<N: LiveName, R: Wait + Clock + CpuClock>(
     done
 }
 
-// Follows to the end: how many items it was handed, or 0 where one was out of order.
 fn follow<N: LiveName, R: Wait>(rt: &R, feed: Feed<N>, ack: &AtomicU64) -> Result<u64, KvError> {
     let mut feed = feed;
+    follow_to_the_end(rt, &mut feed, ack)
+}
+
+// How many items it was handed, or 0 where one was out of order.
+fn follow_to_the_end<N: LiveName, R: Wait>(
+    rt: &R,
+    feed: &mut Feed<N>,
+    ack: &AtomicU64,
+) -> Result<u64, KvError> {
     let mut last = 0;
     for _ in rt.forever() {
         match feed.next(rt)? {
@@ -184,16 +192,50 @@ fn feed<N: LiveName>(reader: Reader<N>, filters: &Filters) -> Result<Feed<N>, Kv
     }
 }
 
+fn feed_with<N: LiveName>(
+    readers: &mut Vec<Reader<N>>,
+    filters: &Filters,
+) -> Result<Feed<N>, KvError> {
+    match readers.pop() {
+        Some(reader) => feed(reader, filters),
+        None => Err(KvError::NoReader),
+    }
+}
+
+fn feed_twice<N: LiveName>(
+    readers: &mut Vec<Reader<N>>,
+    filters: &Filters,
+) -> Result<(Feed<N>, Feed<N>), KvError> {
+    let one = feed_with(readers, filters)?;
+    let two = feed_with(readers, filters)?;
+    Ok((one, two))
+}
+
+fn feeds_with<N: LiveName>(
+    alloc: Global,
+    readers: &mut Vec<Reader<N>>,
+) -> Result<(Feed<N>, Feed<N>), KvError> {
+    let filters = Filters::parse(alloc, "app.>")?;
+    feed_twice(readers, &filters)
+}
+
 fn feeds<N: LiveName>(
     alloc: Global,
     readers: Vec<Reader<N>>,
 ) -> Result<(Feed<N>, Feed<N>), KvError> {
     let mut readers = readers;
-    let filters = Filters::parse(alloc, "app.>")?;
-    match (readers.pop(), readers.pop()) {
-        (Some(one), Some(two)) => Ok((feed(one, &filters)?, feed(two, &filters)?)),
-        _ => Err(KvError::NoReader),
-    }
+    feeds_with(alloc, &mut readers)
+}
+
+fn serve_readers<N: LiveName + Send + Sync, R: Threads + Wait + Sync + Clock + CpuClock>(
+    rt: &R,
+    alloc: Global,
+    live: &Live<N>,
+    readers: Vec<Reader<N>>,
+    plan: Plan,
+) -> Result<Told, KvError> {
+    let (one, two) = feeds(alloc, readers)?;
+    share(rt, alloc, live, one, two, plan)
 }
 
 fn opened_and_served<N: LiveName + Send + Sync, R: Threads + Wait + Sync + Clock + CpuClock>(
@@ -205,10 +247,7 @@ fn opened_and_served<N: LiveName + Send + Sync, R: Threads + Wait + Sync + Clock
     requires { opened.opening ≡ N.opening }
 {
     let (live, readers) = opened.live::<N, R>(rt)?;
-    let done = match feeds(alloc, readers) {
-        Ok((one, two)) => share(rt, alloc, &live, one, two, plan),
-        Err(refusal) => Err(refusal),
-    };
+    let done = serve_readers(rt, alloc, &live, readers, plan);
     live.close(rt);
     done
 }

@@ -96,9 +96,13 @@ fn is_next(item: Taken<'_>, last: &mut u64) -> bool {
     }
 }
 
-// Follows to the end: how many items it was handed, or 0 where one was left out or out of order.
 fn follow<N: LiveName, R: Wait>(rt: &R, feed: Feed<N>) -> Result<u64, KvError> {
     let mut feed = feed;
+    follow_to_the_end(rt, &mut feed)
+}
+
+// How many items it was handed, or 0 where one was left out or out of order.
+fn follow_to_the_end<N: LiveName, R: Wait>(rt: &R, feed: &mut Feed<N>) -> Result<u64, KvError> {
     let mut last = 0;
     for _ in rt.forever() {
         match feed.next(rt)? {
@@ -182,16 +186,48 @@ fn follow_four<N: LiveName + Send + Sync, R: Threads + Wait + Clock + Sync>(
     Ok((followed?, beside?))
 }
 
+// Two feeds, with two others beside them.
+fn follow_with_others<N: LiveName + Send + Sync, R: Threads + Wait + Clock + Sync>(
+    rt: &R,
+    alloc: Global,
+    live: &Live<N>,
+    readers: &mut Vec<Reader<N>>,
+    filters: &Filters,
+    feeds: (Feed<N>, Feed<N>),
+) -> Result<((u64, u64), (u64, u64)), KvError> {
+    let (one, two) = feeds;
+    let others = watch_twice(readers, filters)?;
+    follow_four(rt, alloc, live, one, two, others)
+}
+
+fn follow_by<N: LiveName + Send + Sync, R: Threads + Wait + Clock + Sync>(
+    rt: &R,
+    alloc: Global,
+    live: &Live<N>,
+    readers: &mut Vec<Reader<N>>,
+    filters: &Filters,
+) -> Result<((u64, u64), (u64, u64)), KvError> {
+    let feeds = watch_twice(readers, filters)?;
+    follow_with_others(rt, alloc, live, readers, filters, feeds)
+}
+
+fn follow_all<N: LiveName + Send + Sync, R: Threads + Wait + Clock + Sync>(
+    rt: &R,
+    alloc: Global,
+    live: &Live<N>,
+    readers: &mut Vec<Reader<N>>,
+) -> Result<((u64, u64), (u64, u64)), KvError> {
+    let filters = Filters::parse(alloc, "app.>")?;
+    follow_by(rt, alloc, live, readers, &filters)
+}
+
 fn followers<N: LiveName + Send + Sync, R: Threads + Wait + Clock + Abort + Sync>(
     rt: &R,
     alloc: Global,
     live: &Live<N>,
     readers: &mut Vec<Reader<N>>,
 ) -> Result<(), KvError> {
-    let filters = Filters::parse(alloc, "app.>")?;
-    let (one, two) = watch_twice(readers, &filters)?;
-    let others = watch_twice(readers, &filters)?;
-    let (ours, theirs) = follow_four(rt, alloc, live, one, two, others)?;
+    let (ours, theirs) = follow_all(rt, alloc, live, readers)?;
     // the writes of both, and the marker
     let all = 2 * WRITES + 1;
     assert_eq!(rt; ours, (all, all));
@@ -221,24 +257,13 @@ fn disturb<N: LiveName, R: Wait + Clock>(
     }
 }
 
-// What a sleeper is told that looked just before.
-fn woken_by<N: LiveName + Send + Sync, R: Threads + Wait + Clock + Abort + Sync>(
+// The sleeper was told by what was done beside it.
+fn is_told<R: Abort>(
     rt: &R,
-    alloc: Global,
-    live: &Live<N>,
-    mut readers: Vec<Reader<N>>,
     row: Row,
+    woken: Woken,
+    done: Result<(), KvError>,
 ) -> Result<(), KvError> {
-    let Some(mut reader) = readers.pop() else {
-        return Err(KvError::NoReader);
-    };
-    put(rt, alloc, live, "app.one")?;
-    reader.version()?;
-    let (woken, done) = join(
-        rt,
-        move || reader.wait(rt),
-        || disturb(rt, alloc, live, row),
-    );
     done?;
     let expected = match row {
         Row::Finish => Woken::Closed,
@@ -246,6 +271,46 @@ fn woken_by<N: LiveName + Send + Sync, R: Threads + Wait + Clock + Abort + Sync>
     };
     assert_eq!(rt; woken, expected);
     Ok(())
+}
+
+fn woken_by<N: LiveName + Send + Sync, R: Threads + Wait + Clock + Abort + Sync>(
+    rt: &R,
+    alloc: Global,
+    live: &Live<N>,
+    reader: Reader<N>,
+    row: Row,
+) -> Result<(), KvError> {
+    let (woken, done) = join(
+        rt,
+        move || reader.wait(rt),
+        || disturb(rt, alloc, live, row),
+    );
+    is_told(rt, row, woken, done)
+}
+
+// The reader sees a write.
+fn put_and_look<N: LiveName, R: Wait>(
+    rt: &R,
+    alloc: Global,
+    live: &Live<N>,
+    reader: &mut Reader<N>,
+) -> Result<(), KvError> {
+    put(rt, alloc, live, "app.one")?;
+    reader.version()?;
+    Ok(())
+}
+
+// What a sleeper is told that looked just before.
+fn woken_after_a_look<N: LiveName + Send + Sync, R: Threads + Wait + Clock + Abort + Sync>(
+    rt: &R,
+    alloc: Global,
+    live: &Live<N>,
+    reader: Reader<N>,
+    row: Row,
+) -> Result<(), KvError> {
+    let mut reader = reader;
+    put_and_look(rt, alloc, live, &mut reader)?;
+    woken_by(rt, alloc, live, reader, row)
 }
 
 // It ends the waits, also where a write is refused.
@@ -273,20 +338,70 @@ fn revision_of(found: Option<Version>) -> Option<u64> {
     }
 }
 
+fn revision_if_found(found: Result<Option<Version>, KvError>) -> Result<Option<u64>, KvError> {
+    Ok(revision_of(found?))
+}
+
+// The third write was written, and found.
+fn is_third<R: Abort>(
+    rt: &R,
+    written: Result<(), KvError>,
+    found: Result<Option<u64>, KvError>,
+) -> Result<(), KvError> {
+    written?;
+    assert_eq!(rt; found?, Some(3));
+    Ok(())
+}
+
 // A revision that another thread has yet to write.
 fn revision<N: LiveName + Send + Sync, R: Threads + Wait + Clock + Abort + Sync>(
     rt: &R,
     alloc: Global,
     live: &Live<N>,
-    mut readers: Vec<Reader<N>>,
+    mut reader: Reader<N>,
 ) -> Result<(), KvError> {
-    let Some(mut reader) = readers.pop() else {
-        return Err(KvError::NoReader);
-    };
     let (written, found) = join(rt, || put_three(rt, alloc, live), || reader.wait_for(rt, 3));
-    written?;
-    assert_eq!(rt; revision_of(found?), Some(3));
-    Ok(())
+    is_third(rt, written, revision_if_found(found))
+}
+
+fn run_with<N: LiveName + Send + Sync, R: Threads + Wait + Clock + Abort + Sync>(
+    rt: &R,
+    alloc: Global,
+    live: &Live<N>,
+    reader: Reader<N>,
+    row: Row,
+) -> Result<(), KvError> {
+    match row {
+        Row::Revision => revision(rt, alloc, live, reader),
+        _ => woken_after_a_look(rt, alloc, live, reader, row),
+    }
+}
+
+// The rows that one reader is enough for.
+fn run_with_one<N: LiveName + Send + Sync, R: Threads + Wait + Clock + Abort + Sync>(
+    rt: &R,
+    alloc: Global,
+    live: &Live<N>,
+    readers: &mut Vec<Reader<N>>,
+    row: Row,
+) -> Result<(), KvError> {
+    match readers.pop() {
+        Some(reader) => run_with(rt, alloc, live, reader, row),
+        None => Err(KvError::NoReader),
+    }
+}
+
+fn run_row<N: LiveName + Send + Sync, R: Threads + Wait + Clock + Abort + Sync>(
+    rt: &R,
+    alloc: Global,
+    live: &Live<N>,
+    readers: &mut Vec<Reader<N>>,
+    row: Row,
+) -> Result<(), KvError> {
+    match row {
+        Row::Followers => followers(rt, alloc, live, readers),
+        _ => run_with_one(rt, alloc, live, readers, row),
+    }
 }
 
 fn run_over<N: LiveName + Send + Sync, R: Threads + Wait + Clock + Abort + Sync>(
@@ -296,11 +411,7 @@ fn run_over<N: LiveName + Send + Sync, R: Threads + Wait + Clock + Abort + Sync>
     mut readers: Vec<Reader<N>>,
     row: Row,
 ) -> Result<(), KvError> {
-    match row {
-        Row::Followers => followers(rt, alloc, live, &mut readers),
-        Row::Revision => revision(rt, alloc, live, readers),
-        _ => woken_by(rt, alloc, live, readers, row),
-    }
+    run_row(rt, alloc, live, &mut readers, row)
 }
 
 fn run_on<N: LiveName + Send + Sync, R: Threads + Wait + Clock + Abort + Sync>(

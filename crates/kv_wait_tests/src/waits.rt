@@ -67,14 +67,57 @@ fn run_over<N: LiveName, R: Wait + Clock + Abort>(
     mut readers: Vec<Reader<N>>,
     row: Row,
 ) -> Result<(), KvError> {
-    let Some(reader) = readers.pop() else {
-        return Err(KvError::NoReader);
-    };
+    run_with_one(rt, alloc, live, &mut readers, row)
+}
+
+fn run_with_one<N: LiveName, R: Wait + Clock + Abort>(
+    rt: &R,
+    alloc: Global,
+    live: &Live<N>,
+    readers: &mut Vec<Reader<N>>,
+    row: Row,
+) -> Result<(), KvError> {
+    match readers.pop() {
+        Some(reader) => run_with(rt, alloc, live, reader, row),
+        None => Err(KvError::NoReader),
+    }
+}
+
+fn run_with<N: LiveName, R: Wait + Clock + Abort>(
+    rt: &R,
+    alloc: Global,
+    live: &Live<N>,
+    reader: Reader<N>,
+    row: Row,
+) -> Result<(), KvError> {
+    match row {
+        Row::Feeds => feeds(rt, alloc, live, reader),
+        _ => run_reader(rt, alloc, live, reader, row),
+    }
+}
+
+fn run_reader<N: LiveName, R: Wait + Clock + Abort>(
+    rt: &R,
+    alloc: Global,
+    live: &Live<N>,
+    mut reader: Reader<N>,
+    row: Row,
+) -> Result<(), KvError> {
+    run_row(rt, alloc, live, &mut reader, row)
+}
+
+// The rows without a feed.
+fn run_row<N: LiveName, R: Wait + Clock + Abort>(
+    rt: &R,
+    alloc: Global,
+    live: &Live<N>,
+    reader: &mut Reader<N>,
+    row: Row,
+) -> Result<(), KvError> {
     match row {
         Row::Timeouts => timeouts(rt, alloc, live, reader),
         Row::Ends => ends(rt, alloc, live, reader),
-        Row::Feeds => feeds(rt, alloc, live, reader),
-        Row::Revisions => revisions(rt, alloc, live, reader),
+        _ => revisions(rt, alloc, live, reader),
     }
 }
 
@@ -99,18 +142,17 @@ fn timeouts<N: LiveName, R: Wait + Clock + Abort>(
     rt: &R,
     alloc: Global,
     live: &Live<N>,
-    reader: Reader<N>,
+    reader: &mut Reader<N>,
 ) -> Result<(), KvError> {
-    let mut reader = reader;
-    waits(rt, &reader, None);
+    waits(rt, reader, None);
     put(rt, alloc, live)?;
-    waits(rt, &reader, Some(Woken::Changed));
+    waits(rt, reader, Some(Woken::Changed));
     reader.version()?;
-    waits(rt, &reader, None);
+    waits(rt, reader, None);
     live.finish();
-    waits(rt, &reader, Some(Woken::Closed));
+    waits(rt, reader, Some(Woken::Closed));
     put(rt, alloc, live)?;
-    waits(rt, &reader, Some(Woken::Changed));
+    waits(rt, reader, Some(Woken::Changed));
     Ok(())
 }
 
@@ -125,9 +167,8 @@ fn ends<N: LiveName, R: Wait + Abort>(
     rt: &R,
     alloc: Global,
     live: &Live<N>,
-    reader: Reader<N>,
+    reader: &mut Reader<N>,
 ) -> Result<(), KvError> {
-    let mut reader = reader;
     put(rt, alloc, live)?;
     assert_eq!(rt; reader.wait(rt), Woken::Changed);
     reader.version()?;
@@ -158,7 +199,27 @@ fn feeds<N: LiveName, R: Wait + Clock + Abort>(
     live: &Live<N>,
     reader: Reader<N>,
 ) -> Result<(), KvError> {
-    let mut feed = open_feed(reader, &Filters::parse(alloc, "app.>")?)?;
+    let filters = Filters::parse(alloc, "app.>")?;
+    feeds_by(rt, alloc, live, reader, &filters)
+}
+
+fn feeds_by<N: LiveName, R: Wait + Clock + Abort>(
+    rt: &R,
+    alloc: Global,
+    live: &Live<N>,
+    reader: Reader<N>,
+    filters: &Filters,
+) -> Result<(), KvError> {
+    let mut feed = open_feed(reader, filters)?;
+    feed_waits(rt, alloc, live, &mut feed)
+}
+
+fn feed_waits<N: LiveName, R: Wait + Clock + Abort>(
+    rt: &R,
+    alloc: Global,
+    live: &Live<N>,
+    feed: &mut Feed<N>,
+) -> Result<(), KvError> {
     assert_eq!(rt; feed.wait_timeout(rt, moment()), None);
     put(rt, alloc, live)?;
     assert_eq!(rt; feed.wait(rt), Woken::Changed);
@@ -196,14 +257,13 @@ fn revisions<N: LiveName, R: Wait + Abort>(
     rt: &R,
     alloc: Global,
     live: &Live<N>,
-    reader: Reader<N>,
+    reader: &mut Reader<N>,
 ) -> Result<(), KvError> {
-    let mut reader = reader;
-    finds(rt, &mut reader, 0, Some(0))?;
+    finds(rt, reader, 0, Some(0))?;
     put(rt, alloc, live)?;
     put(rt, alloc, live)?;
-    finds(rt, &mut reader, 1, Some(2))?;
+    finds(rt, reader, 1, Some(2))?;
     live.finish();
-    finds(rt, &mut reader, 3, None)?;
-    finds(rt, &mut reader, 2, Some(2))
+    finds(rt, reader, 3, None)?;
+    finds(rt, reader, 2, Some(2))
 }
