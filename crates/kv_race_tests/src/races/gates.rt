@@ -81,9 +81,9 @@ pub(super) fn all_meet<R: Threads + Wait + Abort + Sync>(
     alloc: Global,
 ) -> Result<(), KvError> {
     let gate = no_meeting_yet();
-    let done = race_of(rt, alloc, (2, &["a"]), &[">"], &gate, 2);
+    race_of(rt, alloc, (2, &["a"]), &[">"], &gate, 2)?;
     assert!(rt; !is_raised(&gate.late));
-    done
+    Ok(())
 }
 
 // The watcher's second round waits for the worker's first write, and the second write for the end of that round.
@@ -131,7 +131,7 @@ pub(super) fn round_between<R: Threads + Wait + Abort + Sync>(
     alloc: Global,
 ) -> Result<(), KvError> {
     let gate = nothing_between_yet();
-    let done = race_of(rt, alloc, (1, &["a", "b"]), &[">"], &gate, 2);
+    race_of(rt, alloc, (1, &["a", "b"]), &[">"], &gate, 2)?;
     assert!(rt; !is_raised(&gate.late));
-    done
+    Ok(())
 }
