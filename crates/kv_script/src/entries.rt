@@ -2,6 +2,7 @@
 
 ghost use Rattle.std.specs.Prelude.{◌≡◌, ◌++◌, IfOk, OnOk, OnErr, Some, codes, length, map};
 ghost use Rattle.std.specs.Option.{option_copied};
+ghost use Rattle.std.specs.String.{string_bytes};
 ghost use Rattle.serde_json.specs.Data.{object, array, string, no_members};
 ghost use Rattle.serde_json.specs.View.{view};
 ghost use Rattle.kv_model.specs.State.{read_entry};
@@ -27,17 +28,17 @@ pub(crate) fn op_name(op: Op) -> &'static str
     }
 }
 
-/// An entry whose value stands as this text.
+/// An entry whose value stands as this text, which moves into it.
 fn shown_value(
     alloc: Global,
     key: &str,
     op: Op,
     revision: u64,
     size: u64,
-    text: &str,
+    text: String,
 ) -> Result<Value, AllocError>
     ensures { IfOk result (λ v. view v
-        ≡ object (head_fields key.now op revision size (value_field text.now no_members))) }
+        ≡ object (head_fields key.now op revision size (value_field (string_bytes text) no_members))) }
 {
     json!(in alloc; {
         "key": key,
@@ -94,7 +95,10 @@ fn text_value(
         (parts_entry key.now op revision size (Some value.now))) }
 {
     match str::from_utf8(value) {
-        Ok(text) => shown_value(alloc, key, op, revision, size, text),
+        Ok(text) => {
+            let text = String::from_str(alloc, text)?;
+            shown_value(alloc, key, op, revision, size, text)
+        }
         Err(_) => encoded_value(alloc, key, op, revision, size, value),
     }
 }
@@ -113,7 +117,7 @@ fn put_value(
     match form {
         Form::Base64 => {
             let text = STANDARD.encode(alloc, value)?;
-            shown_value(alloc, key, op, revision, size, &text)
+            shown_value(alloc, key, op, revision, size, text)
         }
         Form::Text => text_value(alloc, key, op, revision, size, value),
     }

@@ -14,7 +14,7 @@ pub(crate) fn append_line(alloc: Global, out: &mut Vec<u8>, value: &Value) -> Re
     ensures ok { OnOk result (out.new.items ≡ out.old.items ++ line (compact_text (view value.now))) }
     ensures err { OnErr result (out.new.items ≡ out.old.items) }
 {
-    let mut line = value.to_string(alloc)?;
-    line.push('\n')?;
-    out.extend_from_slice(line.as_bytes())
+    let mut line = value.to_vec(alloc)?;
+    line.push(b'\n')?;
+    out.extend_from_slice(&line)
 }

@@ -2,6 +2,7 @@
 
 ghost use Rattle.std.specs.Prelude.{◌≡◌, ◌++◌, IfOk, OnOk, OnErr, Some, None};
 ghost use Rattle.std.specs.Option.{option_copied};
+ghost use Rattle.std.specs.String.{string_bytes};
 ghost use Rattle.serde_json.specs.Data.{object};
 ghost use Rattle.serde_json.specs.View.{view};
 ghost use Rattle.kv_script.specs.inside.Fields.{parts_entry, entry_fields, head_fields, value_field, base64_field, watch_field};
@@ -17,7 +18,7 @@ use serde_json::{Value, json};
 use std::alloc::{AllocError, Global};
 use std::str;
 
-/// An entry whose value stands as this text.
+/// An entry whose value stands as this text, which moves into it.
 fn shown_value(
     alloc: Global,
     watch: u64,
@@ -25,10 +26,10 @@ fn shown_value(
     op: Op,
     revision: u64,
     size: u64,
-    text: &str,
+    text: String,
 ) -> Result<Value, AllocError>
     ensures { IfOk result
-        (λ v. view v ≡ object (head_fields key.now op revision size (value_field text.now (watch_field watch)))) }
+        (λ v. view v ≡ object (head_fields key.now op revision size (value_field (string_bytes text) (watch_field watch)))) }
 {
     json!(in alloc; {
         "key": key,
@@ -97,7 +98,10 @@ fn text_value(
         ≡ object (entry_fields Form.Text (parts_entry key.now op revision size (Some value.now)) (watch_field watch))) }
 {
     match str::from_utf8(value) {
-        Ok(text) => shown_value(alloc, watch, key, op, revision, size, text),
+        Ok(text) => {
+            let text = String::from_str(alloc, text)?;
+            shown_value(alloc, watch, key, op, revision, size, text)
+        }
         Err(_) => encoded_value(alloc, watch, key, op, revision, size, value),
     }
 }
@@ -119,7 +123,7 @@ fn put_value(
     match form {
         Form::Base64 => {
             let text = STANDARD.encode(alloc, value)?;
-            shown_value(alloc, watch, key, op, revision, size, &text)
+            shown_value(alloc, watch, key, op, revision, size, text)
         }
         Form::Text => text_value(alloc, watch, key, op, revision, size, value),
     }

@@ -4,10 +4,10 @@ use Rattle.std.proofs.lemmas.Bool.{false_from_ne_true}
 use Rattle.std.proofs.lemmas.Str.{IsUtf8-from_is_utf8, is_utf8-from_IsUtf8}
 use Rattle.kv_script.proofs.entries.text_value.Goals as goal
 
-pub returns-in-Ok : goal.returns-in-Ok
-returns-in-Ok c =
+pub returns-in_ok-text-in-Ok : goal.returns-in_ok-text-in-Ok
+returns-in_ok-text-in-Ok c =
     let is_text : is_utf8 c.args.value.now ≡ true = is_utf8-from_IsUtf8 _ c.in-Ok.ensures.cases.1 in
-    rw (is_text, ← c.in-Ok.ensures.cases.0) c.shown_value.ensures
+    rw (is_text, ← c.in-Ok.ensures.cases.0, ← c.in_ok-text-in-Ok.ensures.ok) c.shown_value.ensures
 
 pub returns-in-Err : goal.returns-in-Err
 returns-in-Err c =
