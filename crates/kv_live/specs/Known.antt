@@ -1,7 +1,7 @@
 -- What a contract sees of a reader.
-use Rattle.std.specs.Prelude.{◌≡◌, ℕ, List, ◌⊎◌}
+use Rattle.std.specs.Prelude.{◌≡◌, List, ◌⊎◌}
 use Rattle.kv_keys.specs.declared.error.KvError.{KvError}
-use Rattle.kv_keys.specs.declared.error.KvError.TheVariants.{Lagged, NoReader, OutOfMemory}
+use Rattle.kv_keys.specs.declared.error.KvError.TheVariants.{NoReader, OutOfMemory}
 use Rattle.kv_model.specs.Acts.{Act}
 
 -- the acts that a reader has seen, and those that it was told of
@@ -12,7 +12,3 @@ pub record Known : Type 0 where
 -- why nothing was read: the store lets no reader enter, or memory was refused
 abbrev pub IsUnread : KvError → Type 0
 IsUnread error = (error ≡ NoReader) ⊎ (error ≡ OutOfMemory)
-
--- why a feed did not go on: nothing was read, or the feed lags behind a floor
-abbrev pub IsHeldBack : KvError → Type 0
-IsHeldBack error = IsUnread error ⊎ ((floor : ℕ) × (error ≡ Lagged floor))

@@ -2,4 +2,3 @@ pub mod Deeds
 pub mod Fed
 pub mod Rules
 pub mod Shelves
-pub mod Views

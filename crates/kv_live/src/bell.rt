@@ -1,13 +1,15 @@
-//! What readers sleep on until something is published.
+//! What readers sleep on until something is published, and where the last version lies once nothing will be.
 
 ghost use Rattle.std.specs.Prelude.{◌≡◌, IfErr};
 ghost use Rattle.kv_keys.specs.declared.error.KvError.TheVariants.{OutOfMemory};
 
+use crate::history::LiveName;
+use crate::last::Last;
 use kv_keys::KvError;
 use std::alloc::Global;
 use std::rt::Clock;
 use std::sync::atomic::{AtomicBool, AtomicU64, Ordering};
-use std::sync::{Arc, Wait};
+use std::sync::{Arc, OnceLock, Wait};
 use std::time::{Duration, Instant};
 
 // One word: whether the opening was closed, how often something was published, and how many sleep. The high bits are so
@@ -21,22 +23,23 @@ const SLEEPER: u64 = 1 << 48;
 /// Why a wait ended.
 #[derive(Clone, Copy, Debug, PartialEq, Eq)]
 pub enum Woken {
-    /// Something was published since the last look that was accepted began.
+    /// Something is published that who waits has not taken in.
     Changed,
-    /// The bucket was closed, and nothing was published since then.
+    /// The bucket was closed, and all that was published was taken in.
     Closed,
 }
 
 #[derive(Drop)]
-struct Board {
+struct Board<N: LiveName> {
     word: AtomicU64,
     closed: AtomicBool,
+    last: OnceLock<Last<N>>,
 }
 
-/// What the publisher and the readers of one opening share. Contracts see nothing of it.
+/// What the publisher and the readers of the opening N share. Contracts see of it that what was published last is of N.
 #[derive(Drop)]
-pub struct Bell {
-    board: Arc<Board, Global>,
+pub struct Bell<N: LiveName> {
+    board: Arc<Board<N>, Global>,
 }
 
 // What a word says, the sleepers aside.
@@ -44,9 +47,9 @@ fn said(word: u64) -> u64 {
     word % SLEEPER
 }
 
-// What there is to wake for who noted so many.
-fn what_woke(said: u64, noted: u64) -> Option<Woken> {
-    if said / PUBLISHED != noted {
+// What there is to wake for who has taken in so many acts. Each act rings once, so that the word counts acts.
+fn what_woke(said: u64, acts: u64) -> Option<Woken> {
+    if said / PUBLISHED > acts {
         Some(Woken::Changed)
     } else if said % PUBLISHED == CLOSED {
         Some(Woken::Closed)
@@ -55,14 +58,15 @@ fn what_woke(said: u64, noted: u64) -> Option<Woken> {
     }
 }
 
-impl Bell {
+impl<N: LiveName> Bell<N> {
     /// A bell that has not rung. It costs an entry.
-    pub fn new(alloc: Global) -> Result<Bell, KvError>
+    pub fn new(alloc: Global) -> Result<Bell<N>, KvError>
         ensures { IfErr result (λ e. e ≡ OutOfMemory) }
     {
         let board = Board {
             word: AtomicU64::new(0),
             closed: AtomicBool::new(false),
+            last: OnceLock::new(),
         };
         match Arc::new(alloc, board) {
             Ok(board) => Ok(Bell { board }),
@@ -71,7 +75,7 @@ impl Bell {
     }
 
     /// The same bell.
-    pub fn again(&self) -> Result<Bell, KvError>
+    pub fn again(&self) -> Result<Bell<N>, KvError>
         ensures { IfErr result (λ e. e ≡ OutOfMemory) }
     {
         match Arc::try_clone(&self.board) {
@@ -80,9 +84,15 @@ impl Bell {
         }
     }
 
-    /// How often something was published. It is read before a look at what is published.
-    pub fn count(&self) -> u64 {
-        said(self.board.word.load(Ordering::SeqCst)) / PUBLISHED
+    /// Leaves what was published last, for those who come once the store lets nobody enter.
+    pub fn leave(&self, last: Last<N>) {
+        // What is handed back was left before, which never comes: a publisher ends once.
+        drop(self.board.last.try_set(last));
+    }
+
+    /// What was left, if anything was.
+    pub fn last(&self) -> Option<&Last<N>> {
+        self.board.last.get()
     }
 
     // One step where nobody sleeps.
@@ -106,12 +116,12 @@ impl Bell {
     }
 
     // Sleeps once, for no longer than the limit, unless there is something to wake for. It may wake for no reason.
-    fn sleep<R: Wait>(&self, rt: &R, noted: u64, limit: Option<Duration>) -> Option<Woken> {
+    fn sleep<R: Wait>(&self, rt: &R, acts: u64, limit: Option<Duration>) -> Option<Woken> {
         let word = &self.board.word;
         // It is counted before it falls asleep: who publishes after that sees it, and who did before has changed the
         // word.
         let seen = said(word.fetch_add(SLEEPER, Ordering::SeqCst));
-        let woken = what_woke(seen, noted);
+        let woken = what_woke(seen, acts);
         if woken.is_none() {
             let expected = (seen & 0xffff_ffff) as u32;
             match limit {
@@ -123,10 +133,10 @@ impl Bell {
         woken
     }
 
-    /// Sleeps while nothing was published but what was noted, and nothing closed.
-    pub fn wait<R: Wait>(&self, rt: &R, noted: u64) -> Woken {
+    /// Sleeps until more acts are published than so many, or it is closed.
+    pub fn wait<R: Wait>(&self, rt: &R, acts: u64) -> Woken {
         for _ in rt.forever() {
-            if let Some(woken) = self.sleep(rt, noted, None) {
+            if let Some(woken) = self.sleep(rt, acts, None) {
                 return woken;
             }
         }
@@ -138,13 +148,13 @@ impl Bell {
     pub fn wait_timeout<R: Wait + Clock>(
         &self,
         rt: &R,
-        noted: u64,
+        acts: u64,
         limit: Duration,
     ) -> Option<Woken> {
         let start = Instant::now(rt).ok();
         for _ in rt.forever() {
             let left = left_of(rt, start, limit);
-            let woken = self.sleep(rt, noted, Some(left.unwrap_or(Duration::ZERO)));
+            let woken = self.sleep(rt, acts, Some(left.unwrap_or(Duration::ZERO)));
             if woken.is_some() || left.is_none() {
                 return woken;
             }

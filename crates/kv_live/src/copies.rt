@@ -1,15 +1,13 @@
 //! The two copies of what is published, and the end of them that publishes.
 
-ghost use Rattle.std.specs.Prelude.{◌≡◌, ◌<◌, ◌^◌, ◌++◌, ◌∷◌, [], true, IfSome, MatchResult, length};
-ghost use Rattle.left_right.specs.Sides.{view};
+ghost use Rattle.std.specs.Prelude.{◌≡◌, ◌<◌, ◌^◌, ◌++◌, ◌∷◌, [], true, IfSome, IfErr, MatchResult, length};
 ghost use Rattle.kv_keys.specs.declared.error.KvError.TheVariants.{OutOfMemory, NoReader};
-ghost use Rattle.kv_model.specs.Acts.{IsPrefix};
 ghost use Rattle.kv_live.specs.inside.Shelves.{IsOf};
 
 use crate::deed::Deed;
 use crate::front::Front;
 use crate::history::{Head, LiveName};
-use crate::rule::{Published, Shows, View};
+use crate::rule::{Published, Shows};
 use crate::shelf::Shelf;
 use kv_keys::KvError;
 use left_right::reader::Reader as Seat;
@@ -23,7 +21,7 @@ use std::sync::Wait;
 /// Contracts see it as the acts that are published. It is not `Drop`: end it by `close`. The writer lies in a
 /// `ManuallyDrop`, since a lock asks how to drop what it holds, and no code can drop a writer.
 pub struct Copies<N: LiveName> {
-    writer: ManuallyDrop<Writer<Shelf, Shelf, View, Published<N>>>,
+    writer: ManuallyDrop<Writer<Shelf, Shelf, (), Published<N>>>,
     head: Head<N>,
 }
 
@@ -38,7 +36,7 @@ impl<N: LiveName> Model for Copies<N> {
 }
 
 impl<N: LiveName> Copies<N> {
-    fn of(writer: Writer<Shelf, Shelf, View, Published<N>>, head: Head<N>) -> Copies<N>
+    fn of(writer: Writer<Shelf, Shelf, (), Published<N>>, head: Head<N>) -> Copies<N>
         ensures { result ≡ writer.desk.shown.value.glimpse.sight.log }
     {
         // `close` and `publish` take it out again.
@@ -71,8 +69,8 @@ impl<N: LiveName> Copies<N> {
     }
 
     /// A new place for a reader.
-    pub fn seat(&self) -> Result<Seat<Shelf, View, Published<N>>, KvError>
-        ensures { MatchResult result (λ s. (view s.place).seen ≡ []) (λ e. e ≡ NoReader) }
+    pub fn seat(&self) -> Result<Seat<Shelf, (), Published<N>>, KvError>
+        ensures { IfErr result (λ e. e ≡ NoReader) }
     {
         match self.writer.factory().reader() {
             Ok(seat) => Ok(seat),
@@ -94,8 +92,7 @@ impl<N: LiveName> Copies<N> {
     /// Where it is refused the copies have ended. It never is: there is room for what is pending since the beginning,
     /// and no version is shared as often as can be counted.
     pub fn publish<R: Wait>(self, rt: &R, shelf: Shelf) -> Option<Copies<N>>
-        requires of { IsOf N.opening shelf }
-        requires grows { IsPrefix self shelf.glimpse.sight.log }
+        requires { IsOf N.opening shelf }
         ensures { IfSome result (λ p. p ≡ shelf.glimpse.sight.log) }
     {
         let Copies { writer, head } = self;

@@ -14,7 +14,7 @@ ghost use Rattle.kv_store.specs.Stored.{Stored};
 ghost use Rattle.kv_watch.specs.Taking.{item_taken};
 ghost use Rattle.kv_live.specs.inside.Fed.{acts_on, opened};
 ghost use Rattle.kv_live.specs.Feeding.{Feeding, HasSeenMore, HasLearned, IsRefreshed, IsNotRefreshed, IsStopped, lags, WentOn, HandsNext, given_by, next_of, after_item};
-ghost use Rattle.kv_live.specs.Known.{IsUnread, IsHeldBack};
+ghost use Rattle.kv_live.specs.Known.{IsUnread};
 ghost use Rattle.kv_live.specs.Owed.{Owes, HasOnce};
 ghost use Rattle.kv_live.specs.inside.Shelves.{IsOf};
 
@@ -221,16 +221,17 @@ impl<N: LiveName> Feed<N> {
         self.cursor.let_go(&mut self.held.kept);
     }
 
-    /// Sleeps until something was published since its last accepted refresh began, or the bucket was closed, and says
-    /// which. It takes no lock.
+    /// Sleeps until more is published than it went on to, or the bucket is closed, and says which. It takes no lock.
     pub fn wait<R: Wait>(&self, rt: &R) -> Woken {
-        self.reader.wait(rt)
+        self.reader.bell().wait(rt, self.held.current.acts())
     }
 
     /// The same, for no longer than the limit. It is `None` where the time was over first, or the clock couldn't be
     /// read.
     pub fn wait_timeout<R: Wait + Clock>(&self, rt: &R, limit: Duration) -> Option<Woken> {
-        self.reader.wait_timeout(rt, limit)
+        self.reader
+            .bell()
+            .wait_timeout(rt, self.held.current.acts(), limit)
     }
 
     // Whether there is a next item. It notes how far it looked, so that what was looked at in vain is not looked at
@@ -245,7 +246,7 @@ impl<N: LiveName> Feed<N> {
     // Goes on until there is a next item, or the bucket was closed and there will never be one.
     fn go_on<R: Wait>(&mut self, rt: &R) -> Result<(), KvError>
         ensures goes { WentOn self.old self.new }
-        ensures err { IfErr result IsHeldBack }
+        ensures refused { IfErr result (λ e. IsStopped N.opening.config.history self.new self.new e) }
     {
         for _ in rt.forever() {
             if self.settle() {
@@ -267,7 +268,7 @@ impl<N: LiveName> Feed<N> {
             self.entry.ghost_name none (λ _ _. ⊤)
             (λ left. MatchResult result
             (λ taken. HandsNext N.opening.config.history self.old (item_taken taken) left)
-            (λ e. WentOn self.old left × IsHeldBack e))) }
+            (λ e. WentOn self.old left × IsStopped N.opening.config.history left left e))) }
     {
         self.go_on(rt)?;
         Ok(self.take())

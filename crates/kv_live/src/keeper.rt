@@ -232,12 +232,9 @@ impl<N: LiveName> Keeper<N> {
         self.publisher.reader()
     }
 
-    /// Ends the publisher. It waits for the readers that are reading.
+    /// Ends the publisher. Readers read what is published on. It waits for the readers that are reading.
     pub(crate) fn close<R: Wait>(self, rt: &R) {
-        let Keeper {
-            bucket: _,
-            publisher,
-        } = self;
-        publisher.close(rt);
+        let Keeper { bucket, publisher } = self;
+        publisher.close(rt, bucket.version());
     }
 }

@@ -9,6 +9,8 @@ mod feed;
 mod front;
 mod history;
 mod keeper;
+mod knowledge;
+mod last;
 pub mod laws;
 mod live;
 mod publisher;
@@ -17,7 +19,7 @@ mod receipt;
 mod rule;
 mod shelf;
 
-pub use bell::{Bell, Woken};
+pub use bell::Woken;
 pub use feed::Feed;
 pub use history::LiveName;
 pub use keeper::Keeper;

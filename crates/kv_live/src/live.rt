@@ -57,7 +57,7 @@ impl Model for Opened {
 pub struct Live<N: LiveName> {
     keeper: Mutex<Keeper<N>>,
     /// It tells the readers that sleep.
-    bell: Bell,
+    bell: Bell<N>,
 }
 
 impl Live<Brand> {
@@ -86,7 +86,7 @@ impl Live<Brand> {
 fn readers_and_bell<N: LiveName>(
     publisher: &Publisher<N>,
     readers: usize,
-) -> Result<(Vec<Reader<N>>, Bell), KvError>
+) -> Result<(Vec<Reader<N>>, Bell<N>), KvError>
     ensures ok { IfOk result
         (λ r. (length r.0.items ≡ readers)
         × All (λ reader. (reader.seen ≡ []) × (reader.told ≡ publisher.now.acts)) r.0.items) }
@@ -121,7 +121,7 @@ impl Opened {
                 Ok((live, readers))
             }
             Err(refusal) => {
-                publisher.close(rt);
+                publisher.close(rt, bucket.version());
                 Err(refusal)
             }
         }
@@ -235,7 +235,8 @@ impl<N: LiveName> Live<N> {
         self.bell.close();
     }
 
-    /// Ends the bucket's writer. It waits for the readers that are reading.
+    /// Ends the bucket's writer. Readers and feeds go on, to the last version that was published. It waits for the
+    /// readers that are reading.
     pub fn close<R: Wait>(self, rt: &R) {
         let Live { keeper, bell: _ } = self;
         keeper.into_inner().close(rt);

@@ -13,6 +13,7 @@ use crate::copies::Copies;
 use crate::deed::Deed;
 use crate::front::Front;
 use crate::history::{Blank, Head, LiveName};
+use crate::last::Last;
 use crate::reader::Reader;
 use crate::receipt::Receipt;
 use crate::shelf::Shelf;
@@ -31,7 +32,7 @@ const MOST_ACTS: u64 = 1 << 61;
 pub struct Publisher<N: LiveName> {
     alloc: Global,
     /// It tells the readers.
-    bell: Bell,
+    bell: Bell<N>,
     /// What a reader begins on that has not entered.
     empty: Shelf,
     /// The history of what is published.
@@ -61,7 +62,7 @@ impl<N: LiveName> Model for Publisher<N> {
 // refused is asked for before that: what the history has is published, or nothing more ever is.
 fn show<N: LiveName, R: Wait>(
     rt: &R,
-    bell: &Bell,
+    bell: &Bell<N>,
     front: &mut Front<N>,
     noted: &mut Front<N>,
     copies: Copies<N>,
@@ -210,7 +211,7 @@ impl<N: LiveName> Publisher<N> {
     }
 
     /// The bell that it rings.
-    pub fn bell(&self) -> Result<Bell, KvError>
+    pub fn bell(&self) -> Result<Bell<N>, KvError>
         ensures { IfErr result (λ e. e ≡ OutOfMemory) }
     {
         self.bell.again()
@@ -232,16 +233,23 @@ impl<N: LiveName> Publisher<N> {
         self.copies.is_some()
     }
 
-    /// Ends it, and wakes the readers that sleep. It waits for the readers that are reading.
-    pub fn close<R: Wait>(self, rt: &R) {
+    /// Ends it, leaves the version of what is published for readers that come later, and wakes those that sleep. It
+    /// waits for the readers that are reading.
+    pub fn close<R: Wait>(self, rt: &R, version: &Version)
+        requires stands { StandsFor self.acts version.now }
+        requires config { version.now.config ≡ N.opening.config }
+    {
         let Publisher {
             alloc: _,
             bell,
             empty: _,
-            front: _,
+            front,
             noted: _,
             copies,
         } = self;
+        if let Ok(version) = version.snapshot() {
+            bell.leave(Last::new(Shelf::new(version, front.glimpse())));
+        }
         if let Some(copies) = copies {
             copies.close(rt);
         }

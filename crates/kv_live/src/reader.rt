@@ -2,7 +2,6 @@
 
 ghost use Rattle.std.specs.Prelude.{◌≡◌, ◌⊎◌, ◌≤◌, IfOk, IfErr, IfSome, Some, MatchResult, [], true, false};
 ghost use Rattle.std.specs.Option.{option_map};
-ghost use Rattle.left_right.specs.Sides.{view};
 ghost use Rattle.kv_keys.specs.declared.error.KvError.TheVariants.{OutOfMemory};
 ghost use Rattle.kv_model.specs.Acts.{IsPrefix, floor_of};
 ghost use Rattle.kv_store.specs.Standing.{StandsFor};
@@ -13,8 +12,9 @@ ghost use Rattle.kv_live.specs.inside.Shelves.{IsOf};
 use crate::bell::{Bell, Woken};
 use crate::front::Front;
 use crate::history::LiveName;
+use crate::knowledge::Knowledge;
 use crate::receipt::Receipt;
-use crate::rule::{Published, Sees, View};
+use crate::rule::{Gets, Published};
 use crate::shelf::Shelf;
 use kv_keys::KvError;
 use kv_store::Version;
@@ -31,55 +31,47 @@ use std::time::Duration;
 #[derive(Drop)]
 pub struct Reader<N: LiveName> {
     alloc: Global,
-    bell: Bell,
-    /// How often something had been published when its last look began that was accepted.
-    noted: u64,
-    seat: Option<Seat<Shelf, View, Published<N>>>,
-    /// What it saw last.
-    seen: Front<N>,
-    told: Front<N>,
+    bell: Bell<N>,
+    seat: Option<Seat<Shelf, (), Published<N>>>,
+    knowledge: Knowledge<N>,
     empty: Shelf,
 }
 
 impl<N: LiveName> Model for Reader<N> {
-    ghost use Rattle.std.specs.Prelude.{◌≡◌, [], IsSome, IfSome};
-    ghost use Rattle.left_right.specs.Sides.{view as view_of};
+    ghost use Rattle.std.specs.Prelude.{◌≡◌, [], IsSome};
     ghost use Rattle.kv_live.specs.Known.{Known};
     ghost use Rattle.kv_live.specs.inside.Shelves.{IsOf};
 
     ghost Value = { Known };
 
-    ghost view = { λ r. record { seen = r.seen; told = r.told } };
+    ghost view = { λ r. r.knowledge };
 
-    ghost invariant = { λ r. IsSome r.seat × IfSome r.seat (λ s. (view_of s.place).seen ≡ r.seen) ×
-        IsOf N.opening r.empty × (r.empty.glimpse.sight.log ≡ []) };
+    ghost invariant = { λ r. IsSome r.seat × IsOf N.opening r.empty × (r.empty.glimpse.sight.log ≡ []) };
 }
 
 impl<N: LiveName> Reader<N> {
     pub(crate) fn new(
         alloc: Global,
-        bell: Bell,
-        seat: Seat<Shelf, View, Published<N>>,
+        bell: Bell<N>,
+        seat: Seat<Shelf, (), Published<N>>,
         told: Front<N>,
         empty: Shelf,
     ) -> Reader<N>
-        requires unseen { (view seat.place).seen ≡ [] }
-        requires empty { IsOf N.opening empty × (empty.glimpse.sight.log ≡ []) }
+        requires { IsOf N.opening empty × (empty.glimpse.sight.log ≡ []) }
         ensures { (result.seen ≡ []) × (result.told ≡ told) }
     {
         Reader {
             alloc,
             bell,
-            noted: 0,
             seat: Some(seat),
-            seen: Front::of(empty.glimpse()),
-            told,
+            knowledge: Knowledge::new(&empty, told),
             empty,
         }
     }
 
-    /// The version that is published. It costs an entry, a snapshot and a leave. `NoReader` where the store lets no
-    /// reader enter, as it may once it was closed.
+    /// The version that is published; once the bucket was closed, the last one. It costs an entry, a snapshot and a
+    /// leave. `NoReader` where the store lets no reader enter and no last version was left, as far as clauses go; the
+    /// code never comes to that.
     pub fn version(&mut self) -> Result<Version, KvError>
         ensures later { IsPrefix self.old.seen self.new.seen }
         ensures told { self.new.told ≡ self.old.told }
@@ -91,15 +83,15 @@ impl<N: LiveName> Reader<N> {
         Ok(shelf.into_version())
     }
 
-    /// Sleeps until something is published that it hasn't seen, or the bucket is closed. It takes no lock.
+    /// Sleeps until something is published that it has not taken in, or the bucket is closed. It takes no lock.
     pub fn wait<R: Wait>(&self, rt: &R) -> Woken {
-        self.bell.wait(rt, self.noted)
+        self.bell.wait(rt, self.knowledge.taken_in())
     }
 
     /// The same, for no longer than the limit. It is `None` where the time was over first, or the clock couldn't be
     /// read.
     pub fn wait_timeout<R: Wait + Clock>(&self, rt: &R, limit: Duration) -> Option<Woken> {
-        self.bell.wait_timeout(rt, self.noted, limit)
+        self.bell.wait_timeout(rt, self.knowledge.taken_in(), limit)
     }
 
     /// A published version with at least this revision. Where there is none yet it waits; it is `None` where the bucket
@@ -150,28 +142,9 @@ impl<N: LiveName> Reader<N> {
         self.look(Some((current, cursor)))
     }
 
-    // What is published, unless this follower lags behind it. It notes how often something had been published when it
-    // began, if it was accepted.
+    // What is published, or what was published last where the store lets nobody enter any more, unless this follower
+    // lags behind it.
     fn look(&mut self, follower: Option<(&Shelf, &Cursor)>) -> Result<Shelf, KvError>
-        ensures later { IsPrefix self.old.seen self.new.seen }
-        ensures told { self.new.told ≡ self.old.told }
-        ensures ok { IfOk result
-            (λ s. (s.glimpse.sight.log ≡ self.new.seen) × IsOf N.opening s × IsPrefix self.old.told self.new.seen) }
-        ensures stands { IfOk result (λ s. StandsFor self.new.seen s.version) }
-        ensures ahead { IfOk result
-            (λ _. TellsLagOf (option_map (λ f. (f.0.now, f.1.now)) follower.entry) (floor_of self.new.seen) false) }
-        ensures err { IfErr result
-            (IsNotShown (option_map (λ f. (f.0.now, f.1.now)) follower.entry) self.new.seen) }
-    {
-        let noted = self.bell.count();
-        let shelf = self.enter(follower);
-        if shelf.is_ok() {
-            self.noted = noted;
-        }
-        shelf
-    }
-
-    fn enter(&mut self, follower: Option<(&Shelf, &Cursor)>) -> Result<Shelf, KvError>
         ensures later { IsPrefix self.old.seen self.new.seen }
         ensures told { self.new.told ≡ self.old.told }
         ensures ok { IfOk result
@@ -185,18 +158,24 @@ impl<N: LiveName> Reader<N> {
         let Some(seat) = self.seat.take() else {
             unreachable!()
         };
-        match seat.enter_as::<Sees<N>>() {
+        match seat.enter_as::<Gets<N>>() {
             Ok(reading) => {
-                let shelf = shelf_past(&self.told, follower, reading.get());
-                self.seen = Front::of(reading.get().glimpse());
+                let shelf = self.knowledge.take_in(follower, reading.get());
                 self.seat = Some(reading.leave());
                 shelf
             }
             Err(seat) => {
                 self.seat = Some(seat);
-                Err(KvError::NoReader)
+                match self.bell.last() {
+                    Some(last) => self.knowledge.take_in(follower, last.shelf()),
+                    None => Err(KvError::NoReader),
+                }
             }
         }
+    }
+
+    pub(crate) fn bell(&self) -> &Bell<N> {
+        &self.bell
     }
 
     pub(crate) fn alloc(&self) -> Global {
@@ -217,7 +196,7 @@ impl<N: LiveName> Reader<N> {
         ensures learned { IsPrefix receipt.now self.new.told }
         ensures one_list { (self.new.told ≡ self.old.told) ⊎ (self.new.told ≡ receipt.now) }
     {
-        self.told = self.told.longer(&receipt.front);
+        self.knowledge.learn(receipt);
     }
 
     /// Whether it has seen all that the other reader has. What the readers of one opening have seen are beginnings of
@@ -226,7 +205,7 @@ impl<N: LiveName> Reader<N> {
         ensures yes { result ≡ true → IsPrefix other.now.seen self.now.seen }
         ensures no { result ≡ false → IsPrefix self.now.seen other.now.seen }
     {
-        self.seen.covers(&other.seen)
+        self.knowledge.has_seen_all_of(&other.knowledge)
     }
 
     /// Whether it has seen what the receipt tells. Where it has not, what it has seen is a beginning of that.
@@ -234,47 +213,6 @@ impl<N: LiveName> Reader<N> {
         ensures yes { result ≡ true → IsPrefix receipt.now self.now.seen }
         ensures no { result ≡ false → IsPrefix self.now.seen receipt.now }
     {
-        self.seen.covers(&receipt.front)
+        self.knowledge.has_seen(receipt)
     }
-}
-
-// A copy of the shelf, unless it is older than what was told, or this follower lags behind it. It never is older: what
-// was told was published before.
-fn shelf_past<N: LiveName>(
-    told: &Front<N>,
-    follower: Option<(&Shelf, &Cursor)>,
-    shelf: &Shelf,
-) -> Result<Shelf, KvError>
-    requires { IsOf N.opening shelf.now }
-    ensures ok { IfOk result
-        (λ s. (s.glimpse.sight ≡ shelf.now.glimpse.sight) × (s.version.config ≡ shelf.now.version.config)
-        × IsPrefix told.now shelf.now.glimpse.sight.log) }
-    ensures stands { IfOk result (λ s. StandsFor shelf.now.glimpse.sight.log s.version) }
-    ensures ahead { IfOk result (λ _. TellsLagOf (option_map (λ f. (f.0.now, f.1.now)) follower.entry)
-        (floor_of shelf.now.glimpse.sight.log) false) }
-    ensures err { IfErr result
-        (IsNotShown (option_map (λ f. (f.0.now, f.1.now)) follower.entry) shelf.now.glimpse.sight.log) }
-{
-    let seen: Front<N> = Front::of(shelf.glimpse());
-    if !seen.covers(told) {
-        return Err(KvError::NoReader);
-    }
-    if let Some((current, cursor)) = follower {
-        let floor = shelf.version().floor();
-        if lags_behind(current, cursor, floor) {
-            return Err(KvError::Lagged { floor });
-        }
-    }
-    shelf.again()
-}
-
-// Whether a feed with this cursor that is on this shelf lags behind a version with the floor.
-fn lags_behind(current: &Shelf, cursor: &Cursor, floor: u64) -> bool
-    ensures { TellsLag current.now cursor.now floor result }
-{
-    let version = current.version();
-    if version.revision() < floor {
-        return true;
-    }
-    cursor.behind(version, floor)
 }

@@ -1,6 +1,6 @@
 //! What is published.
 
-ghost use Rattle.std.specs.Prelude.{◌≡◌, IfOk, IfErr};
+ghost use Rattle.std.specs.Prelude.{◌≡◌, IfOk, IfErr, length};
 ghost use Rattle.kv_keys.specs.declared.error.KvError.TheVariants.{OutOfMemory};
 ghost use Rattle.kv_store.specs.Standing.{StandsFor};
 
@@ -53,6 +53,13 @@ impl Shelf {
         ensures { result.now ≡ self.now.glimpse }
     {
         &self.glimpse
+    }
+
+    /// How many acts that beginning has.
+    pub fn acts(&self) -> u64
+        ensures { result ≡ length self.now.glimpse.sight.log }
+    {
+        self.glimpse.acts
     }
 
     /// The version, which leaves the rest behind.

@@ -134,18 +134,21 @@ fn run_on<N: LiveName + Send + Sync, R: Threads + Wait + Abort + Sync + Clock>(
 {
     let (live, readers) = opened.live::<N, R>(rt)?;
     match row {
-        Row::Closed => closed_first(rt, live, readers),
+        Row::Closed => closed_first(rt, alloc, live, readers),
         _ => closed_last(rt, alloc, live, readers, row),
     }
 }
 
-// The bucket is closed before its readers look.
+// The bucket is written to, and closed before its readers look.
 fn closed_first<N: LiveName, R: Wait + Abort>(
     rt: &R,
+    alloc: Global,
     live: Live<N>,
     readers: Vec<Reader<N>>,
 ) -> Result<(), KvError> {
+    let written = puts_at(rt, alloc, &live, "app.port", 1);
     live.close(rt);
+    written?;
     opening::after_close(rt, readers)
 }
 

@@ -14,6 +14,7 @@ use crate::watcher::Follows;
 use kv_keys::KvError;
 use kv_live::{Feed, LiveName, Reply, Seen, Taken};
 use std::alloc::Global;
+use std::sync::Wait;
 
 // A copy of what a take hands out.
 fn copy_of(alloc: Global, taken: &Taken<'_>) -> Result<Option<Reply>, KvError>
@@ -59,6 +60,10 @@ impl<N: LiveName> Follows for Feed<N> {
     ghost handed_out = { λ feed. take feed.handed (given_by N.opening.config.history feed) };
 
     ghost left = { λ feed. length (given_by N.opening.config.history feed) - feed.handed };
+
+    fn rest<R: Wait>(&self, rt: &R) {
+        self.wait(rt);
+    }
 
     #[tactic(auto, using(crate::proofs::Fed::went_on, crate::proofs::Fed::stayed))]
     fn go_on(&mut self) -> Result<(), KvError> {

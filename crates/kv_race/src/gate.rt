@@ -17,9 +17,15 @@ pub trait Gate: Sync {
 
     /// Just after it.
     fn after(&self, who: Who, n: u64);
+
+    /// Whether a watcher sleeps before each of its rounds until something is published, or no write comes any more. A
+    /// gate in which others wait for a watcher's rounds lets none sleep.
+    fn lets_sleep(&self) -> bool {
+        false
+    }
 }
 
-/// Holds nobody up.
+/// Holds nobody up, and lets watchers sleep.
 #[derive(Clone, Copy, Debug)]
 pub struct NoGate;
 
@@ -27,4 +33,8 @@ impl Gate for NoGate {
     fn before(&self, _who: Who, _n: u64) {}
 
     fn after(&self, _who: Who, _n: u64) {}
+
+    fn lets_sleep(&self) -> bool {
+        true
+    }
 }

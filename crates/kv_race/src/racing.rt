@@ -180,7 +180,8 @@ fn race_on<N: LiveName + Send + Sync, R: Threads + Wait + Sync, G: Gate>(
 /// tells what each of them was answered or handed, and the version that is left. All threads have ended when it
 /// answers.
 ///
-/// The gate stands before and after each write and each of the 64 rounds in which a watcher looks for what is new.
+/// The gate stands before and after each write and each of the 64 rounds in which a watcher looks for what is new. Where
+/// the gate lets it, a watcher sleeps before each round until something is published, or all scripts have ended.
 ///
 /// There are 1 to 16 scripts and at most 32 watches. The configuration is refused first, then the number of scripts
 /// (BadConfig), then that of the watches (NoReader). Want of memory, for a thread too, refuses the race; a write that

@@ -48,6 +48,16 @@ impl<N: LiveName> Promise<Watched<N>> for Followed<N> {
     ghost kept_by = { λ p watched. IsFollowed N.opening.config.history p.0.value watched.feed watched.seen.items };
 }
 
+// Ends the sleeps of the watchers where it is dropped: no worker writes any more, or the race is given up.
+struct Finish<'a, N: LiveName>(&'a Live<N>);
+
+impl<'a, N: LiveName> Drop for Finish<'a, N> {
+    fn drop(self) {
+        let Self(live) = self;
+        live.finish();
+    }
+}
+
 #[tactic(auto, using(crate::proofs::Writing::told_each))]
 fn run_worker<N: LiveName, R: Wait, G: Gate>(
     rt: &R,
@@ -64,7 +74,8 @@ fn run_worker<N: LiveName, R: Wait, G: Gate>(
 }
 
 #[tactic(auto, using(crate::proofs::Ended::followed))]
-fn run_watcher<N: LiveName, G: Gate>(
+fn run_watcher<N: LiveName, R: Wait, G: Gate>(
+    rt: &R,
     alloc: Global,
     watcher: usize,
     feed: Feed<N>,
@@ -74,7 +85,7 @@ fn run_watcher<N: LiveName, G: Gate>(
 {
     let mut feed = feed;
     let mut seen = Vec::new(alloc);
-    follow(alloc, &mut feed, watcher, &mut seen, gate);
+    follow(rt, alloc, &mut feed, watcher, &mut seen, gate);
     Watched { feed, seen }
 }
 
@@ -115,6 +126,7 @@ pub(crate) fn run_all<N: LiveName + Send + Sync, R: Threads + Wait + Sync, G: Ga
                 feeds.items done.1.items) }
             ensures err { IfErr result (λ e. e ≡ OutOfMemory) }
         {
+            let finish = Finish(live);
             let mut workers = Vec::new(alloc);
             for worker in 0..scripts.len() {
                 let script = &scripts[worker];
@@ -133,13 +145,14 @@ pub(crate) fn run_all<N: LiveName + Send + Sync, R: Threads + Wait + Sync, G: Ga
                 let promise = Followed(Snapshot::of(&feed));
                 let Ok(started) = scope.spawn_with(
                     promise,
-                    move || run_watcher(alloc, watcher, feed, gate),
+                    move || run_watcher(rt, alloc, watcher, feed, gate),
                 ) else {
                     return Err(KvError::OutOfMemory);
                 };
                 watchers.push(started)?;
             }
             let worked = thread::join_promised(rt, workers)?;
+            drop(finish);
             let watched = thread::join_promised(rt, watchers)?;
             Ok((worked, watched))
         },

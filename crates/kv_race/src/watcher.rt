@@ -9,11 +9,12 @@ use crate::gate::{Gate, Who};
 use kv_bucket::Reply;
 use kv_keys::KvError;
 use std::alloc::Global;
+use std::sync::Wait;
 
 /// How often a watcher looks for what is new.
 const ROUNDS: u64 = 64;
 
-/// What a watcher follows. No call of it is handed anything to wait with.
+/// What a watcher follows. No call of it but `rest` is handed anything to wait with.
 pub(crate) trait Follows {
     /// What it watches.
     ghost watch: { Self → Watch };
@@ -26,6 +27,9 @@ pub(crate) trait Follows {
 
     /// How many items it has left to hand out before it goes on.
     ghost left: { Self → ℕ };
+
+    /// Sleeps until there is something to go on to, or there will be nothing any more.
+    fn rest<R: Wait>(&self, rt: &R);
 
     /// Goes on to what is there by now.
     fn go_on(&mut self) -> Result<(), KvError>
@@ -73,8 +77,10 @@ fn look<F: Follows>(alloc: Global, feed: &mut F, seen: &mut Vec<Reply>)
     }
 }
 
-/// Follows for 64 rounds, with the gate before and after each: goes on, and writes down all that is handed out.
-pub(crate) fn follow<F: Follows, G: Gate>(
+/// Follows for 64 rounds, with the gate before and after each: goes on, and writes down all that is handed out. Where the
+/// gate lets it, it sleeps before each.
+pub(crate) fn follow<F: Follows, R: Wait, G: Gate>(
+    rt: &R,
     alloc: Global,
     feed: &mut F,
     watcher: usize,
@@ -85,6 +91,9 @@ pub(crate) fn follow<F: Follows, G: Gate>(
     ensures seen { WritesDown (F.handed_out feed.old) seen.old.items (F.handed_out feed.new) seen.new.items }
 {
     for n in 0..ROUNDS {
+        if gate.lets_sleep() {
+            feed.rest(rt);
+        }
         gate.before(Who::Watcher(watcher), n);
         look(alloc, feed, seen);
         gate.after(Who::Watcher(watcher), n);

@@ -29,6 +29,7 @@ enum Row {
     FourWorkers,
     Meeting,
     Between,
+    Sleeping,
     Audit,
 }
 
@@ -50,6 +51,7 @@ fn run_once<R: Threads + Wait + Abort + Sync>(
         Row::FourWorkers => rows::four_workers(rt, alloc),
         Row::Meeting => gates::all_meet(rt, alloc),
         Row::Between => gates::round_between(rt, alloc),
+        Row::Sleeping => gates::sleeps_until_written(rt, alloc),
         Row::Audit => audit::audit(rt, alloc),
     }
 }

@@ -2,6 +2,10 @@
 #![tactic(auto)]
 
 #[cfg(test)]
+mod closing;
+#[cfg(test)]
+mod following;
+#[cfg(test)]
 mod rounds;
 #[cfg(test)]
 mod sleepers;

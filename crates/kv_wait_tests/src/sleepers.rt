@@ -3,10 +3,8 @@
 
 ghost use Rattle.std.specs.Prelude.{◌≡◌};
 
-use kv_live::{
-    Config, Feed, Filters, Key, KvError, Live, LiveName, Opened, Options, Reader, Request, Start,
-    Taken, Version, Woken,
-};
+use crate::following::{follow_to_the_end, put, watch};
+use kv_live::{Config, Feed, Filters, KvError, Live, LiveName, Opened, Reader, Version, Woken};
 use std::alloc::Global;
 use std::marker::Brand;
 use std::process::Abort;
@@ -16,12 +14,6 @@ use std::test::Fail;
 use std::thread;
 use std::thread::{Threads, join};
 use std::time::Duration;
-
-const LATEST: Options = Options {
-    start: Start::Latest,
-    ignore_deletes: false,
-    headers_only: false,
-};
 
 // What each of the two writers writes.
 const WRITES: u64 = 50_000;
@@ -40,17 +32,6 @@ enum Row {
 // Long enough for another thread to fall asleep.
 fn pause<R: Clock>(rt: &R) {
     thread::sleep(rt, Duration::from_millis(20));
-}
-
-fn put<N: LiveName, R: Wait>(
-    rt: &R,
-    alloc: Global,
-    live: &Live<N>,
-    key: &str,
-) -> Result<u64, KvError> {
-    let key = Key::parse(alloc, key)?;
-    let value = Vec::from_slice(alloc, b"80")?;
-    live.write(rt, &Request::Put { key, value })
 }
 
 // Writes with pauses.
@@ -85,36 +66,9 @@ fn write_both<N: LiveName + Send + Sync, R: Threads + Wait + Clock + Sync>(
     two
 }
 
-// Whether an item comes after all that came before it. The revisions of entries rise one by one.
-fn is_next(item: Taken<'_>, last: &mut u64) -> bool {
-    match item {
-        Taken::Entry(shown) => {
-            *last = last.saturating_add(1);
-            shown.revision() == *last
-        }
-        _ => true,
-    }
-}
-
 fn follow<N: LiveName, R: Wait>(rt: &R, feed: Feed<N>) -> Result<u64, KvError> {
     let mut feed = feed;
     follow_to_the_end(rt, &mut feed)
-}
-
-// How many items it was handed, or 0 where one was left out or out of order.
-fn follow_to_the_end<N: LiveName, R: Wait>(rt: &R, feed: &mut Feed<N>) -> Result<u64, KvError> {
-    let mut last = 0;
-    for _ in rt.forever() {
-        match feed.next(rt)? {
-            Taken::Empty => return Ok(feed.handed()),
-            item => {
-                if !is_next(item, &mut last) {
-                    return Ok(0);
-                }
-            }
-        }
-    }
-    Ok(0)
 }
 
 // Two followers side by side, as each was told.
@@ -125,13 +79,6 @@ fn follow_both<N: LiveName + Send + Sync, R: Threads + Wait + Sync>(
 ) -> Result<(u64, u64), KvError> {
     let (one, two) = join(rt, || follow(rt, one), || follow(rt, two));
     Ok((one?, two?))
-}
-
-fn watch<N: LiveName>(reader: Reader<N>, filters: &Filters) -> Result<Feed<N>, KvError> {
-    match reader.watch_from_empty(filters, LATEST) {
-        Ok(feed) => Ok(feed),
-        Err((_, refusal)) => Err(refusal),
-    }
 }
 
 fn watch_with<N: LiveName>(

@@ -2,6 +2,7 @@
 
 ghost use Rattle.std.specs.Prelude.{◌≡◌};
 
+use crate::following::watch;
 use kv_live::{
     Config, Feed, Filters, Key, KvError, Live, LiveName, Opened, Options, Reader, Request, Start,
     Version, Woken,
@@ -31,6 +32,7 @@ enum Row {
     Timeouts,
     Ends,
     Feeds,
+    Behind,
     Revisions,
 }
 
@@ -91,7 +93,7 @@ fn run_with<N: LiveName, R: Wait + Clock + Abort>(
     row: Row,
 ) -> Result<(), KvError> {
     match row {
-        Row::Feeds => feeds(rt, alloc, live, reader),
+        Row::Feeds | Row::Behind => feeds(rt, alloc, live, reader, row),
         _ => run_reader(rt, alloc, live, reader, row),
     }
 }
@@ -198,9 +200,13 @@ fn feeds<N: LiveName, R: Wait + Clock + Abort>(
     alloc: Global,
     live: &Live<N>,
     reader: Reader<N>,
+    row: Row,
 ) -> Result<(), KvError> {
     let filters = Filters::parse(alloc, "app.>")?;
-    feeds_by(rt, alloc, live, reader, &filters)
+    match row {
+        Row::Behind => behind_by(rt, alloc, live, reader, &filters),
+        _ => feeds_by(rt, alloc, live, reader, &filters),
+    }
 }
 
 fn feeds_by<N: LiveName, R: Wait + Clock + Abort>(
@@ -228,6 +234,41 @@ fn feed_waits<N: LiveName, R: Wait + Clock + Abort>(
     live.finish();
     assert_eq!(rt; feed.wait(rt), Woken::Closed);
     Ok(())
+}
+
+#[test]
+fn a_feed_from_the_empty_bucket_is_behind_what_its_reader_saw(rt: HostRuntime) -> Result<(), Fail> {
+    run(&rt, rt.alloc(), Row::Behind)?;
+    Ok(())
+}
+
+// The feed has yet to hand out what its reader has seen before.
+fn behind_by<N: LiveName, R: Wait + Clock + Abort>(
+    rt: &R,
+    alloc: Global,
+    live: &Live<N>,
+    mut reader: Reader<N>,
+    filters: &Filters,
+) -> Result<(), KvError> {
+    see_a_write(rt, alloc, live, &mut reader)?;
+    is_behind(rt, watch(reader, filters)?);
+    Ok(())
+}
+
+fn see_a_write<N: LiveName, R: Wait + Clock + Abort>(
+    rt: &R,
+    alloc: Global,
+    live: &Live<N>,
+    reader: &mut Reader<N>,
+) -> Result<(), KvError> {
+    put(rt, alloc, live)?;
+    reader.version()?;
+    waits(rt, reader, None);
+    Ok(())
+}
+
+fn is_behind<N: LiveName, R: Wait + Clock + Abort>(rt: &R, feed: Feed<N>) {
+    assert_eq!(rt; feed.wait_timeout(rt, moment()), Some(Woken::Changed));
 }
 
 fn revision_of(found: Option<Version>) -> Option<u64> {

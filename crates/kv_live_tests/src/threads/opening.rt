@@ -128,14 +128,5 @@ pub(super) fn after_close<N: LiveName, R: Abort>(
     readers: Vec<Reader<N>>,
 ) -> Result<(), KvError> {
     let mut first = first_alone(readers)?;
-    let_in_or_refused(rt, &mut first);
-    Ok(())
-}
-
-// A reader of a bucket that was closed is let in or refused, and is a reader all the same.
-fn let_in_or_refused<N: LiveName, R: Abort>(rt: &R, reader: &mut Reader<N>) {
-    match read(reader) {
-        Ok(version) => assert_eq!(rt; version.revision(), 0),
-        Err(error) => assert_eq!(rt; error, KvError::NoReader),
-    }
+    reads_up_to(rt, &mut first, 1)
 }

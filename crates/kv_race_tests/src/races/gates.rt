@@ -135,3 +135,59 @@ pub(super) fn round_between<R: Threads + Wait + Abort + Sync>(
     assert!(rt; !is_raised(&gate.late));
     Ok(())
 }
+
+// How long the writer is held up.
+const A_WHILE: u64 = 10_000_000;
+
+// The writer is held up before its write, and the watcher's first round looks whether that has begun.
+#[derive(Drop)]
+struct HeldUp {
+    writing: AtomicBool,
+    early: AtomicBool,
+}
+
+fn nobody_writes_yet() -> HeldUp {
+    HeldUp {
+        writing: AtomicBool::new(false),
+        early: AtomicBool::new(false),
+    }
+}
+
+fn hold_up(gate: &HeldUp) {
+    for _ in 0..A_WHILE {
+        spin_loop();
+    }
+    raise(&gate.writing);
+}
+
+impl Gate for HeldUp {
+    fn before(&self, who: Who, n: u64) {
+        match (who, n) {
+            (Who::Worker(_), 0) => hold_up(self),
+            (Who::Watcher(_), 0) if !is_raised(&self.writing) => raise(&self.early),
+            _ => {}
+        }
+    }
+
+    fn after(&self, _who: Who, _n: u64) {}
+
+    fn lets_sleep(&self) -> bool {
+        true
+    }
+}
+
+#[test]
+fn a_watcher_sleeps_until_the_first_write(rt: HostRuntime) -> Result<(), Fail> {
+    run(&rt, rt.alloc(), Row::Sleeping)?;
+    Ok(())
+}
+
+pub(super) fn sleeps_until_written<R: Threads + Wait + Abort + Sync>(
+    rt: &R,
+    alloc: Global,
+) -> Result<(), KvError> {
+    let gate = nobody_writes_yet();
+    race_of(rt, alloc, (1, &["a"]), &[">"], &gate, 1)?;
+    assert!(rt; !is_raised(&gate.early));
+    Ok(())
+}

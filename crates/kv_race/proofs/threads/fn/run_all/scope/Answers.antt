@@ -48,6 +48,7 @@ spawn_with-requires-send-F g c κs within =
 pub spawn_with-requires-in-loop-feed-send-F : goal.spawn_with-requires-in-loop-feed-send-F
 spawn_with-requires-in-loop-feed-send-F g c κs within =
     let feed = feed_send (param 0 g.row.N) g.N.LiveName c.requires.3 c.requires.2 in
+    let rt = c.requires.0 in
     let gate = c.requires.1 in
     search (sendable, crosses) depth 20
 

@@ -5,7 +5,7 @@ use Rattle.kv_model.specs.declared.options.Options.{Options}
 use Rattle.kv_store.specs.Stored.{Stored}
 use Rattle.kv_watch.specs.Following.{InReach}
 use Rattle.kv_live.proofs.Feeds.{lags_far, lags_near}
-use Rattle.kv_live.proofs.reader.lags_behind.Goals as goal
+use Rattle.kv_live.proofs.knowledge.lags_behind.Goals as goal
 
 pub returns-then-revision-floor : goal.returns-then-revision-floor
 returns-then-revision-floor c = λ feed opening acts filters options reach.

@@ -1,0 +1,137 @@
+//! What a reader has seen, and what it was told.
+
+ghost use Rattle.std.specs.Prelude.{◌≡◌, ◌⊎◌, [], true, false, IfOk, IfErr, length};
+ghost use Rattle.std.specs.Option.{option_map};
+ghost use Rattle.kv_keys.specs.declared.error.KvError.TheVariants.{OutOfMemory};
+ghost use Rattle.kv_model.specs.Acts.{IsPrefix, floor_of};
+ghost use Rattle.kv_store.specs.Standing.{StandsFor};
+ghost use Rattle.kv_live.specs.inside.Fed.{TellsLag, TellsLagOf, IsNotShown};
+ghost use Rattle.kv_live.specs.inside.Shelves.{IsOf};
+
+use crate::front::Front;
+use crate::history::LiveName;
+use crate::receipt::Receipt;
+use crate::shelf::Shelf;
+use kv_keys::KvError;
+use kv_watch::Cursor;
+use std::marker::Model;
+
+/// What a reader of the opening N has seen, what it was told, and how many acts the version stands for that it took in
+/// last. Contracts see the acts of the first two.
+#[derive(Drop)]
+pub struct Knowledge<N: LiveName> {
+    seen: Front<N>,
+    told: Front<N>,
+    taken_in: u64,
+}
+
+impl<N: LiveName> Model for Knowledge<N> {
+    ghost use Rattle.kv_live.specs.Known.{Known};
+
+    ghost Value = { Known };
+
+    ghost view = { λ k. record { seen = k.seen; told = k.told } };
+}
+
+impl<N: LiveName> Knowledge<N> {
+    /// Of who has seen nothing and was told this. The empty shelf shows which history it is of.
+    pub fn new(empty: &Shelf, told: Front<N>) -> Knowledge<N>
+        requires { IsOf N.opening empty.now × (empty.now.glimpse.sight.log ≡ []) }
+        ensures { (result.seen ≡ []) × (result.told ≡ told) }
+    {
+        Knowledge {
+            seen: Front::of(empty.glimpse()),
+            told,
+            taken_in: 0,
+        }
+    }
+
+    /// How many acts the version stands for that it took in last.
+    pub fn taken_in(&self) -> u64 {
+        self.taken_in
+    }
+
+    /// Takes in what is published: a copy, unless the follower, if any, lags behind it. Where it is older than what was
+    /// seen or told it is `NoReader`. It never is: that was published before.
+    pub fn take_in(
+        &mut self,
+        follower: Option<(&Shelf, &Cursor)>,
+        shelf: &Shelf,
+    ) -> Result<Shelf, KvError>
+        requires { IsOf N.opening shelf.now }
+        ensures later { IsPrefix self.old.seen self.new.seen }
+        ensures told { self.new.told ≡ self.old.told }
+        ensures ok { IfOk result
+            (λ s. (s.glimpse.sight.log ≡ self.new.seen) × IsOf N.opening s × IsPrefix self.old.told self.new.seen) }
+        ensures stands { IfOk result (λ s. StandsFor self.new.seen s.version) }
+        ensures ahead { IfOk result
+            (λ _. TellsLagOf (option_map (λ f. (f.0.now, f.1.now)) follower.entry) (floor_of self.new.seen) false) }
+        ensures err { IfErr result
+            (IsNotShown (option_map (λ f. (f.0.now, f.1.now)) follower.entry) self.new.seen) }
+    {
+        let front: Front<N> = Front::of(shelf.glimpse());
+        if !front.covers(&self.seen) || !front.covers(&self.told) {
+            return Err(KvError::NoReader);
+        }
+        self.seen = front;
+        let copy = copy_for(follower, shelf)?;
+        self.taken_in = copy.acts();
+        Ok(copy)
+    }
+
+    /// Takes in a receipt.
+    pub fn learn(&mut self, receipt: &Receipt<N>)
+        ensures seen { self.new.seen ≡ self.old.seen }
+        ensures told { IsPrefix self.old.told self.new.told }
+        ensures learned { IsPrefix receipt.now self.new.told }
+        ensures one_list { (self.new.told ≡ self.old.told) ⊎ (self.new.told ≡ receipt.now) }
+    {
+        self.told = self.told.longer(&receipt.front);
+    }
+
+    /// Whether it has seen all that the other one has. Of the two lists the shorter begins the longer.
+    pub fn has_seen_all_of(&self, other: &Knowledge<N>) -> bool
+        ensures yes { result ≡ true → IsPrefix other.now.seen self.now.seen }
+        ensures no { result ≡ false → IsPrefix self.now.seen other.now.seen }
+    {
+        self.seen.covers(&other.seen)
+    }
+
+    /// Whether it has seen what the receipt tells.
+    pub fn has_seen(&self, receipt: &Receipt<N>) -> bool
+        ensures yes { result ≡ true → IsPrefix receipt.now self.now.seen }
+        ensures no { result ≡ false → IsPrefix self.now.seen receipt.now }
+    {
+        self.seen.covers(&receipt.front)
+    }
+}
+
+// A copy of the shelf, unless this follower, if any, lags behind it.
+fn copy_for(follower: Option<(&Shelf, &Cursor)>, shelf: &Shelf) -> Result<Shelf, KvError>
+    ensures ok { IfOk result (λ s. (s.glimpse.sight ≡ shelf.now.glimpse.sight)
+        × (s.version.config ≡ shelf.now.version.config)) }
+    ensures stands { IfOk result (λ s. StandsFor shelf.now.glimpse.sight.log s.version) }
+    ensures ahead { IfOk result (λ _. TellsLagOf (option_map (λ f. (f.0.now, f.1.now)) follower.entry)
+        (floor_of shelf.now.glimpse.sight.log) false) }
+    ensures err { IfErr result
+        (IsNotShown (option_map (λ f. (f.0.now, f.1.now)) follower.entry) shelf.now.glimpse.sight.log) }
+{
+    if let Some((current, cursor)) = follower {
+        let floor = shelf.version().floor();
+        if lags_behind(current, cursor, floor) {
+            return Err(KvError::Lagged { floor });
+        }
+    }
+    shelf.again()
+}
+
+// Whether a feed with this cursor that is on this shelf lags behind a version with the floor.
+fn lags_behind(current: &Shelf, cursor: &Cursor, floor: u64) -> bool
+    ensures { TellsLag current.now cursor.now floor result }
+{
+    let version = current.version();
+    if version.revision() < floor {
+        return true;
+    }
+    cursor.behind(version, floor)
+}
