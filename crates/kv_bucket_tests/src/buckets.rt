@@ -6,6 +6,7 @@ use kv_bucket::{
     Taken,
 };
 use std::alloc::Global;
+use std::fmt::Debug;
 use std::process::Abort;
 use std::test::Fail;
 
@@ -170,7 +171,7 @@ fn one_filter(alloc: Global) -> Result<Filters, KvError> {
 }
 
 fn looks(rt: &impl Abort, bucket: &Bucket, before: Sight) {
-    assert_eq!(rt; look(bucket), before);
+    equal(rt, look(bucket), before);
 }
 
 fn write_once(bucket: &mut Bucket, request: &Request) -> Result<u64, KvError> {
@@ -227,4 +228,9 @@ fn watch(rt: &impl Abort, bucket: &mut Bucket, filters: &Filters) -> Result<u64,
         }
         number => number,
     }
+}
+
+// Ends the test where what was found is not what was wanted. A call of it is proved sooner than `assert_eq!` in its place.
+fn equal<T: PartialEq + Debug + Drop, R: Abort>(rt: &R, found: T, wanted: T) {
+    assert_eq!(rt; found, wanted);
 }

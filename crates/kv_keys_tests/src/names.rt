@@ -4,6 +4,7 @@
 
 use kv_keys::{Filter, Filters, Key, KvError, Place, Short, fnv32, is_name};
 use std::alloc::{AllocError, Global};
+use std::fmt::Debug;
 use std::process::Abort;
 use std::test::Fail;
 
@@ -73,4 +74,9 @@ fn is_refused<T: Drop>(outcome: Result<T, KvError>, refusal: KvError) -> bool {
         Ok(_) => false,
         Err(error) => error == refusal,
     }
+}
+
+// Ends the test where what was found is not what was wanted. A call of it is proved sooner than `assert_eq!` in its place.
+fn equal<T: PartialEq + Debug + Drop, R: Abort>(rt: &R, found: T, wanted: T) {
+    assert_eq!(rt; found, wanted);
 }

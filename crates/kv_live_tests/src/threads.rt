@@ -9,6 +9,7 @@ use kv_live::{
     Status, Taken, Version,
 };
 use std::alloc::Global;
+use std::fmt::Debug;
 use std::marker::Brand;
 use std::process::Abort;
 use std::rt::Clock;
@@ -233,7 +234,7 @@ fn look<N: LiveName, R: Wait>(rt: &R, live: &Live<N>) -> (Status, u64) {
 }
 
 fn is_as_before<N: LiveName, R: Wait + Abort>(rt: &R, live: &Live<N>, before: (Status, u64)) {
-    assert_eq!(rt; look(rt, live), before);
+    equal(rt, look(rt, live), before);
 }
 
 fn write_live_once<N: LiveName, R: Wait>(
@@ -278,7 +279,7 @@ fn puts_at<N: LiveName, R: Wait + Abort>(
     key: &str,
     revision: u64,
 ) -> Result<(), KvError> {
-    assert_eq!(rt; put_live(rt, alloc, live, key, "")?, revision);
+    equal(rt, put_live(rt, alloc, live, key, "")?, revision);
     Ok(())
 }
 
@@ -290,7 +291,7 @@ fn puts_in_vain<N: LiveName, R: Wait + Abort>(
     key: &str,
     refusal: KvError,
 ) {
-    assert_eq!(rt; put_live(rt, alloc, live, key, ""), Err(refusal));
+    equal(rt, put_live(rt, alloc, live, key, ""), Err(refusal));
 }
 
 fn version_once<N: LiveName>(reader: &mut Reader<N>) -> Result<Version, KvError> {
@@ -309,7 +310,7 @@ fn reads_up_to<N: LiveName, R: Abort>(
     reader: &mut Reader<N>,
     revision: u64,
 ) -> Result<(), KvError> {
-    assert_eq!(rt; read(reader)?.revision(), revision);
+    equal(rt, read(reader)?.revision(), revision);
     Ok(())
 }
 
@@ -355,7 +356,7 @@ fn refresh<N: LiveName, R: Abort>(rt: &R, feed: &mut Feed<N>) -> Result<(), KvEr
     let before = look_at(feed);
     match refresh_once(feed) {
         Err(KvError::OutOfMemory) => {
-            assert_eq!(rt; look_at(feed), before);
+            equal(rt, look_at(feed), before);
             refresh_once(feed)
         }
         done => done,
@@ -364,8 +365,8 @@ fn refresh<N: LiveName, R: Abort>(rt: &R, feed: &mut Feed<N>) -> Result<(), KvEr
 
 // Takes an item, which is this one.
 fn takes_one<N: LiveName, R: Abort>(rt: &R, feed: &mut Feed<N>, answer: Answer) {
-    assert_eq!(rt; next_of(feed), answer);
-    assert_eq!(rt; take_of(feed), answer);
+    equal(rt, next_of(feed), answer);
+    equal(rt, take_of(feed), answer);
 }
 
 // Takes so many items, which are these.
@@ -378,6 +379,11 @@ fn takes<N: LiveName, R: Abort>(rt: &R, feed: &mut Feed<N>, answers: &[Answer]) 
 // Stops a feed that handed out so many items.
 fn stopped_at<N: LiveName, R: Abort>(rt: &R, feed: Feed<N>, handed: u64) -> Reader<N> {
     let (reader, stopped) = feed.stop();
-    assert_eq!(rt; stopped.handed, handed);
+    equal(rt, stopped.handed, handed);
     reader
+}
+
+// Ends the test where what was found is not what was wanted. A call of it is proved sooner than `assert_eq!` in its place.
+fn equal<T: PartialEq + Debug + Drop, R: Abort>(rt: &R, found: T, wanted: T) {
+    assert_eq!(rt; found, wanted);
 }

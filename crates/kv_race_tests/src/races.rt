@@ -6,6 +6,7 @@ use kv_model::{Event, Write};
 use kv_race::{Gate, NoGate, Report, Who, race};
 use kv_watch::given;
 use std::alloc::Global;
+use std::fmt::Debug;
 use std::process::Abort;
 use std::sync::Wait;
 use std::test::Fail;
@@ -171,7 +172,7 @@ fn are_all(revisions: &mut Vec<u64>) -> bool {
 fn answers_each_once<R: Abort>(rt: &R, alloc: Global, report: &Report) -> Result<u64, KvError> {
     let mut revisions = answered(alloc, report)?;
     assert!(rt; are_all(&mut revisions));
-    assert_eq!(rt; revisions.len() as u64, report.last.revision());
+    equal(rt, revisions.len() as u64, report.last.revision());
     Ok(report.last.revision())
 }
 
@@ -238,7 +239,7 @@ fn all_saw_what_is_given<R: Abort>(
     watches: &[(Filters, Options)],
     report: &Report,
 ) -> Result<(), KvError> {
-    assert_eq!(rt; report.seen.len(), watches.len());
+    equal(rt, report.seen.len(), watches.len());
     let writes = writes_of(alloc, &report.last)?;
     for place in 0..watches.len() {
         saw_what_is_given(rt, alloc, &writes, &watches[place], &report.seen[place])?;
@@ -291,6 +292,11 @@ fn is_whole<R: Abort>(
     report: &Report,
     writes: u64,
 ) -> Result<(), KvError> {
-    assert_eq!(rt; answers_each_once(rt, alloc, report)?, writes);
+    equal(rt, answers_each_once(rt, alloc, report)?, writes);
     all_saw_what_is_given(rt, alloc, watches, report)
+}
+
+// Ends the test where what was found is not what was wanted. A call of it is proved sooner than `assert_eq!` in its place.
+fn equal<T: PartialEq + Debug + Drop, R: Abort>(rt: &R, found: T, wanted: T) {
+    assert_eq!(rt; found, wanted);
 }

@@ -5,6 +5,7 @@ use kv_keys::KvError;
 use kv_model::Config;
 use kv_run::{CountedReader, CountedWriter, Form, program, replay, replay_bounded};
 use std::alloc::{AllocError, Global};
+use std::fmt::Debug;
 use std::process::Abort;
 use std::test::Fail;
 
@@ -85,4 +86,9 @@ fn replays(alloc: Global, config: &Config, script: &str, text: &str) -> Result<b
 fn row(alloc: Global, history: u64, script: &str, text: &str) -> Result<bool, KvError> {
     let config = with_history(alloc, history)?;
     replays(alloc, &config, script, text)
+}
+
+// Ends the test where what was found is not what was wanted. A call of it is proved sooner than `assert_eq!` in its place.
+fn equal<T: PartialEq + Debug + Drop, R: Abort>(rt: &R, found: T, wanted: T) {
+    assert_eq!(rt; found, wanted);
 }

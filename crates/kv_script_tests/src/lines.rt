@@ -6,6 +6,7 @@ use kv_keys::KvError;
 use kv_model::{Request, Start};
 use kv_script::{Command, Form, is_skipped, parse};
 use std::alloc::{AllocError, Global};
+use std::fmt::Debug;
 use std::process::Abort;
 use std::test::Fail;
 
@@ -260,13 +261,18 @@ fn lengths_of_lines(rt: HostRuntime) -> Result<(), Fail> {
     let alloc = rt.alloc();
     let longest = long_line(alloc, b"put abc ")?;
     match bytes_command(alloc, &longest)? {
-        Command::Write(request) => assert_eq!(rt; write_parts(&request).2.len(), 1_049_994),
+        Command::Write(request) => equal(&rt, write_parts(&request).2.len(), 1_049_994),
         _ => assert!(rt; false),
     }
     let longer = long_line(alloc, b"put abcd ")?;
     match bytes_command(alloc, &longer) {
         Ok(_) => assert!(rt; false),
-        Err(error) => assert_eq!(rt; error, KvError::BadCommand),
+        Err(error) => equal(&rt, error, KvError::BadCommand),
     }
     Ok(())
+}
+
+// Ends the test where what was found is not what was wanted. A call of it is proved sooner than `assert_eq!` in its place.
+fn equal<T: PartialEq + Debug + Drop, R: Abort>(rt: &R, found: T, wanted: T) {
+    assert_eq!(rt; found, wanted);
 }

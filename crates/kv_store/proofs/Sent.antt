@@ -4,10 +4,6 @@
 use denote.RattleType.{RattleType}
 use denote.Param.Send.{IsSend, IsSync, sendable}
 use Rattle.std.proofs.Crossing.{crosses}
-use Rattle.std.specs.contracts.alloc.Global as Heap
-use Rattle.std.specs.contracts.impls.GlobalAllocator.TheImpl as heap
-use Rattle.std.specs.contracts.string.String as String
-use Rattle.std.specs.contracts.sync.Arc as Arc
 use Rattle.std.specs.declared.cmp.Ord as ord
 use Rattle.std.specs.declared.cmp.PartialEq as eq
 use Rattle.std.specs.declared.cmp.PartialOrd as partial
@@ -34,14 +30,8 @@ module _ (K V : RattleType) (s : IsSend K) (t : IsSend V) (y : IsSync K) (z : Is
     trie_sync : IsSync (Trie.the_row K V a b c d)
     trie_sync = let m = node_send in let n = node_sync in search (sendable, crosses) depth 20
 
-name_send : IsSend (Arc.the_row (String.the_row Heap.the_row heap.ghosts) Heap.the_row heap.ghosts)
-name_send = search (sendable, crosses) depth 20
-
-name_sync : IsSync (Arc.the_row (String.the_row Heap.the_row heap.ghosts) Heap.the_row heap.ghosts)
-name_sync = search (sendable, crosses) depth 20
-
 pub version_send : IsSend Version.the_row
-version_send = search (sendable, crosses, trie_send, name_send, key.the_send, key.the_sync, rev.the_send, rev.the_sync, write.the_send, write.the_sync) depth 20
+version_send = search (sendable, crosses, trie_send, key.the_send, key.the_sync, rev.the_send, rev.the_sync, write.the_send, write.the_sync) depth 20
 
 pub version_sync : IsSync Version.the_row
-version_sync = search (sendable, crosses, trie_sync, name_sync, key.the_send, key.the_sync, rev.the_send, rev.the_sync, write.the_send, write.the_sync) depth 20
+version_sync = search (sendable, crosses, trie_sync, key.the_send, key.the_sync, rev.the_send, rev.the_sync, write.the_send, write.the_sync) depth 20

@@ -30,7 +30,7 @@ impl Version {
         let by_key = uncleared_keys(alloc, self, floor)?;
         let by_revision = left_writes(alloc, &self.by_revision, &by_key, floor)?;
         let values = kept_count(&by_key)?.min(self.values);
-        self.with_parts(by_key, by_revision, values, floor, self.sealed)
+        Ok(self.with_parts(by_key, by_revision, values, floor, self.sealed))
     }
 
     /// The version with this floor. A key whose latest entry is a marker at or below the floor is cleared, as if it had

@@ -14,12 +14,12 @@ ghost use Rattle.kv_store.specs.Standing.{StandsFor};
 ghost use Rattle.kv_store.specs.Stored.{kept_at, write_at};
 
 use crate::rev::Rev;
+use arrayvec::ArrayString;
 use kv_keys::{Key, KvError};
 use kv_model::{Config, Write};
 use kv_trie::Trie;
 use std::alloc::Global;
 use std::marker::Model;
-use std::sync::Arc;
 
 /// A version of a bucket. `apply`, `seal` and `compact` make another one, which shares what both have, and leave this
 /// one as it is; `write` and `compact_in_place` change this one, and no other.
@@ -27,7 +27,7 @@ use std::sync::Arc;
 /// Contracts see what it stores, and say which lists of accepted acts that stands for.
 #[derive(Drop)]
 pub struct Version {
-    pub(crate) name: Arc<String>,
+    pub(crate) name: ArrayString<64>,
     pub(crate) history: u64,
     pub(crate) value_limit: u64,
     pub(crate) write_limit: u64,
@@ -59,12 +59,14 @@ impl Version {
 
     /// The version of a new bucket: no write, not sealed. The name is checked before the numbers, and both before any
     /// request for memory.
-    pub fn empty(alloc: Global, config: &Config) -> Result<Version, KvError>
+    pub fn empty(_alloc: Global, config: &Config) -> Result<Version, KvError>
         ensures ok { IfOk result (λ version. (version.config ≡ config.now) × StandsFor [] version) }
         ensures refused { IfErr result (λ e. Refuses e (configure config.now)) }
     {
         config.check()?;
-        let name = Arc::new(alloc, String::from_str(alloc, config.bucket.as_str())?)?;
+        let Ok(name) = ArrayString::from(config.bucket.as_str()) else {
+            unreachable!()
+        };
         Ok(Version {
             name,
             history: config.history,
@@ -88,7 +90,7 @@ impl Version {
         values: u64,
         floor: u64,
         sealed: bool,
-    ) -> Result<Version, KvError>
+    ) -> Version
         requires { IsBounded (record self.now {
           by_key = kept_entries by_key;
           by_revision = by_revision;
@@ -96,18 +98,16 @@ impl Version {
           floor = floor;
           sealed = sealed;
         }) }
-        ensures ok { IfOk result (λ version. version ≡
-            record self.now {
-              by_key = kept_entries by_key;
-              by_revision = by_revision;
-              values = values;
-              floor = floor;
-              sealed = sealed;
-            }) }
-        ensures err { IfErr result (λ e. e ≡ OutOfMemory) }
+        ensures { result ≡ record self.now {
+          by_key = kept_entries by_key;
+          by_revision = by_revision;
+          values = values;
+          floor = floor;
+          sealed = sealed;
+        } }
     {
-        Ok(Version {
-            name: Arc::try_clone(&self.name)?,
+        Version {
+            name: self.name,
             history: self.history,
             value_limit: self.value_limit,
             write_limit: self.write_limit,
@@ -118,7 +118,7 @@ impl Version {
             values,
             floor,
             sealed,
-        })
+        }
     }
 
     // The same version, or one that is sealed.
@@ -128,8 +128,7 @@ impl Version {
     {
         let by_key = self.by_key.snapshot()?;
         let by_revision = self.by_revision.snapshot()?;
-        let version = self.with_parts(by_key, by_revision, self.values, self.floor, sealed)?;
-        Ok(version)
+        Ok(self.with_parts(by_key, by_revision, self.values, self.floor, sealed))
     }
 
     /// An equal version, which shares everything, at once at every size. It is refused only where something is shared
@@ -156,8 +155,7 @@ impl Version {
     pub fn bucket(&self) -> &str
         ensures { result.now ≡ self.now.config.bucket }
     {
-        let name: &String = &self.name;
-        name.as_str()
+        self.name.as_str()
     }
 
     /// The last revision, 0 where nothing was written.

@@ -5,6 +5,7 @@ use kv_keys::{Key, KvError};
 use kv_model::{Config, Op, Request, Status, Write};
 use kv_store::Version;
 use std::alloc::Global;
+use std::fmt::Debug;
 use std::process::Abort;
 use std::test::Fail;
 
@@ -199,7 +200,7 @@ fn apply(
         Ok(next) => Ok(next),
         Err(error) => {
             assert!(rt; look(alloc, version)? == before);
-            assert_eq!(rt; version.last_revision(request.key()), last);
+            equal(rt, version.last_revision(request.key()), last);
             match error {
                 KvError::OutOfMemory => version.apply(alloc, request),
                 _ => Err(error),
@@ -265,4 +266,9 @@ fn run(
         version = step(rt, alloc, &version, text, *ask, *answer)?;
     }
     Ok(version)
+}
+
+// Ends the test where what was found is not what was wanted. A call of it is proved sooner than `assert_eq!` in its place.
+fn equal<T: PartialEq + Debug + Drop, R: Abort>(rt: &R, found: T, wanted: T) {
+    assert_eq!(rt; found, wanted);
 }

@@ -4,6 +4,7 @@
 use kv_keys::{Key, KvError, Place, Short};
 use kv_trie::{Node, Trie, Visit, Wants};
 use std::alloc::Global;
+use std::fmt::Debug;
 use std::process::Abort;
 use std::test::Fail;
 
@@ -91,10 +92,10 @@ fn expect_unchanged<K: Named>(
     names: &[&str],
     refusal: KvError,
 ) -> Result<(), KvError> {
-    assert_eq!(rt; refusal, KvError::OutOfMemory);
+    equal(rt, refusal, KvError::OutOfMemory);
     let apart = built(alloc, names)?;
     assert!(rt; is_same(trie, &apart));
-    assert_eq!(rt; size(trie), names.len() as u64);
+    equal(rt, size(trie), names.len() as u64);
     Ok(())
 }
 
@@ -140,4 +141,9 @@ fn take<K: Named>(
             take_once(alloc, trie, text)
         }
     }
+}
+
+// Ends the test where what was found is not what was wanted. A call of it is proved sooner than `assert_eq!` in its place.
+fn equal<T: PartialEq + Debug + Drop, R: Abort>(rt: &R, found: T, wanted: T) {
+    assert_eq!(rt; found, wanted);
 }

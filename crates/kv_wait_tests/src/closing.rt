@@ -2,6 +2,7 @@
 
 ghost use Rattle.std.specs.Prelude.{◌≡◌};
 
+use crate::equal::equal;
 use crate::following::{follow_to_the_end, put, watch};
 use kv_live::{Config, Feed, Filters, KvError, Live, LiveName, Opened, Reader, Woken};
 use std::alloc::Global;
@@ -47,10 +48,10 @@ fn is_handed_everything<N: LiveName, R: Wait + Abort>(
     rt: &R,
     feed: &mut Feed<N>,
 ) -> Result<(), KvError> {
-    assert_eq!(rt; feed.wait(rt), Woken::Changed);
-    assert_eq!(rt; follow_to_the_end(rt, feed)?, WRITES + 1);
-    assert_eq!(rt; feed.wait(rt), Woken::Closed);
-    assert_eq!(rt; feed.version()?.revision(), WRITES);
+    equal(rt, feed.wait(rt), Woken::Changed);
+    equal(rt, follow_to_the_end(rt, feed)?, WRITES + 1);
+    equal(rt, feed.wait(rt), Woken::Closed);
+    equal(rt, feed.version()?.revision(), WRITES);
     Ok(())
 }
 

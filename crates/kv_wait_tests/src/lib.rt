@@ -4,6 +4,8 @@
 #[cfg(test)]
 mod closing;
 #[cfg(test)]
+mod equal;
+#[cfg(test)]
 mod following;
 #[cfg(test)]
 mod rounds;

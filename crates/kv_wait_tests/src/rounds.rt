@@ -3,6 +3,7 @@
 
 ghost use Rattle.std.specs.Prelude.{◌≡◌};
 
+use crate::equal::equal;
 use kv_live::{
     Config, Feed, Filters, Key, KvError, Live, LiveName, Opened, Options, Reader, Request, Start,
     Taken,
@@ -264,21 +265,21 @@ fn served<R: Threads + Wait + Sync + Clock + CpuClock>(
 #[test]
 fn two_followers_and_a_writer_with_pauses(rt: HostRuntime) -> Result<(), Fail> {
     let told = served(&rt, rt.alloc(), Plan::Pauses(2000))?;
-    assert_eq!(rt; (told.one, told.two), (2001, 2001));
+    equal(&rt, (told.one, told.two), (2001, 2001));
     Ok(())
 }
 
 #[test]
 fn no_wake_up_is_lost(rt: HostRuntime) -> Result<(), Fail> {
     let told = served(&rt, rt.alloc(), Plan::Rounds(10_000))?;
-    assert_eq!(rt; (told.one, told.two), (10_001, 10_001));
+    equal(&rt, (told.one, told.two), (10_001, 10_001));
     Ok(())
 }
 
 #[test]
 fn a_sleeper_takes_no_processor_time(rt: HostRuntime) -> Result<(), Fail> {
     let told = served(&rt, rt.alloc(), Plan::Idle)?;
-    assert_eq!(rt; (told.one, told.two), (2, 2));
+    equal(&rt, (told.one, told.two), (2, 2));
     assert!(rt; told.idle < 10_000);
     Ok(())
 }

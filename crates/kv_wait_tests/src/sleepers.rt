@@ -3,6 +3,7 @@
 
 ghost use Rattle.std.specs.Prelude.{◌≡◌};
 
+use crate::equal::equal;
 use crate::following::{follow_to_the_end, put, watch};
 use kv_live::{Config, Feed, Filters, KvError, Live, LiveName, Opened, Reader, Version, Woken};
 use std::alloc::Global;
@@ -177,8 +178,8 @@ fn followers<N: LiveName + Send + Sync, R: Threads + Wait + Clock + Abort + Sync
     let (ours, theirs) = follow_all(rt, alloc, live, readers)?;
     // the writes of both, and the marker
     let all = 2 * WRITES + 1;
-    assert_eq!(rt; ours, (all, all));
-    assert_eq!(rt; theirs, (all, all));
+    equal(rt, ours, (all, all));
+    equal(rt, theirs, (all, all));
     Ok(())
 }
 
@@ -216,7 +217,7 @@ fn is_told<R: Abort>(
         Row::Finish => Woken::Closed,
         _ => Woken::Changed,
     };
-    assert_eq!(rt; woken, expected);
+    equal(rt, woken, expected);
     Ok(())
 }
 
@@ -296,7 +297,7 @@ fn is_third<R: Abort>(
     found: Result<Option<u64>, KvError>,
 ) -> Result<(), KvError> {
     written?;
-    assert_eq!(rt; found?, Some(3));
+    equal(rt, found?, Some(3));
     Ok(())
 }
 
@@ -437,7 +438,7 @@ fn close_beside<
     live.close(rt);
     match sleeper {
         Some(sleeper) => {
-            assert_eq!(rt; sleeper.join(rt), Woken::Closed);
+            equal(rt, sleeper.join(rt), Woken::Closed);
             Ok(())
         }
         None => Err(KvError::NoReader),

@@ -2,6 +2,7 @@
 
 ghost use Rattle.std.specs.Prelude.{◌≡◌};
 
+use crate::equal::equal;
 use crate::following::watch;
 use kv_live::{
     Config, Feed, Filters, Key, KvError, Live, LiveName, Opened, Options, Reader, Request, Start,
@@ -130,7 +131,7 @@ fn put<N: LiveName, R: Wait>(rt: &R, alloc: Global, live: &Live<N>) -> Result<u6
 }
 
 fn waits<N: LiveName, R: Wait + Clock + Abort>(rt: &R, reader: &Reader<N>, woken: Option<Woken>) {
-    assert_eq!(rt; reader.wait_timeout(rt, moment()), woken);
+    equal(rt, reader.wait_timeout(rt, moment()), woken);
 }
 
 #[test]
@@ -172,13 +173,13 @@ fn ends<N: LiveName, R: Wait + Abort>(
     reader: &mut Reader<N>,
 ) -> Result<(), KvError> {
     put(rt, alloc, live)?;
-    assert_eq!(rt; reader.wait(rt), Woken::Changed);
+    equal(rt, reader.wait(rt), Woken::Changed);
     reader.version()?;
     live.seal(rt)?;
-    assert_eq!(rt; reader.wait(rt), Woken::Changed);
+    equal(rt, reader.wait(rt), Woken::Changed);
     reader.version()?;
     live.finish();
-    assert_eq!(rt; reader.wait(rt), Woken::Closed);
+    equal(rt, reader.wait(rt), Woken::Closed);
     Ok(())
 }
 
@@ -226,13 +227,13 @@ fn feed_waits<N: LiveName, R: Wait + Clock + Abort>(
     live: &Live<N>,
     feed: &mut Feed<N>,
 ) -> Result<(), KvError> {
-    assert_eq!(rt; feed.wait_timeout(rt, moment()), None);
+    equal(rt, feed.wait_timeout(rt, moment()), None);
     put(rt, alloc, live)?;
-    assert_eq!(rt; feed.wait(rt), Woken::Changed);
+    equal(rt, feed.wait(rt), Woken::Changed);
     feed.refresh()?;
-    assert_eq!(rt; feed.wait_timeout(rt, moment()), None);
+    equal(rt, feed.wait_timeout(rt, moment()), None);
     live.finish();
-    assert_eq!(rt; feed.wait(rt), Woken::Closed);
+    equal(rt, feed.wait(rt), Woken::Closed);
     Ok(())
 }
 
@@ -268,7 +269,7 @@ fn see_a_write<N: LiveName, R: Wait + Clock + Abort>(
 }
 
 fn is_behind<N: LiveName, R: Wait + Clock + Abort>(rt: &R, feed: Feed<N>) {
-    assert_eq!(rt; feed.wait_timeout(rt, moment()), Some(Woken::Changed));
+    equal(rt, feed.wait_timeout(rt, moment()), Some(Woken::Changed));
 }
 
 fn revision_of(found: Option<Version>) -> Option<u64> {
@@ -284,7 +285,7 @@ fn finds<N: LiveName, R: Wait + Abort>(
     revision: u64,
     found: Option<u64>,
 ) -> Result<(), KvError> {
-    assert_eq!(rt; revision_of(reader.wait_for(rt, revision)?), found);
+    equal(rt, revision_of(reader.wait_for(rt, revision)?), found);
     Ok(())
 }
 

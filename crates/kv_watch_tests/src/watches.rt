@@ -6,6 +6,7 @@ use kv_model::{Config, Event, Op, Options, Request, Start};
 use kv_store::Version;
 use kv_watch::{Cursor, Taken};
 use std::alloc::Global;
+use std::fmt::Debug;
 use std::process::Abort;
 use std::test::Fail;
 
@@ -143,7 +144,7 @@ fn open(
     let before = version.status();
     match Cursor::open(alloc, version, filters, options) {
         Err(KvError::OutOfMemory) => {
-            assert_eq!(rt; version.status(), before);
+            equal(rt, version.status(), before);
             Cursor::open(alloc, version, filters, options)
         }
         cursor => cursor,
@@ -166,7 +167,12 @@ fn step(rt: &impl Abort, cursor: &mut Cursor, base: &Version, now: &Version) -> 
     let handed = cursor.handed();
     let next = cursor.peek(Some(base), now).event();
     let taken = cursor.take(Some(base), now).event();
-    assert_eq!(rt; next, taken);
-    assert_eq!(rt; cursor.handed() == handed, taken.is_none());
+    equal(rt, next, taken);
+    equal(rt, cursor.handed() == handed, taken.is_none());
     taken
+}
+
+// Ends the test where what was found is not what was wanted. A call of it is proved sooner than `assert_eq!` in its place.
+fn equal<T: PartialEq + Debug + Drop, R: Abort>(rt: &R, found: T, wanted: T) {
+    assert_eq!(rt; found, wanted);
 }

@@ -31,8 +31,8 @@ fn may_compact(bucket: &Bucket, floor: u64) -> Answer {
 }
 
 fn compacts_as(rt: &impl Abort, bucket: &mut Bucket, floor: u64, expected: Answer) {
-    assert_eq!(rt; may_compact(bucket, floor), expected);
-    assert_eq!(rt; compact(rt, bucket, floor), expected);
+    equal(rt, may_compact(bucket, floor), expected);
+    equal(rt, compact(rt, bucket, floor), expected);
 }
 
 fn compacts(rt: &impl Abort, bucket: &mut Bucket, floor: u64) {
@@ -40,13 +40,13 @@ fn compacts(rt: &impl Abort, bucket: &mut Bucket, floor: u64) {
 }
 
 fn reaches(rt: &impl Abort, bucket: &Bucket, reach: u64) {
-    assert_eq!(rt; bucket.reach(), reach);
+    equal(rt, bucket.reach(), reach);
 }
 
 fn takes(rt: &impl Abort, bucket: &mut Bucket, answers: &[Answer]) {
     for answer in answers {
-        assert_eq!(rt; peek(bucket, 1), *answer);
-        assert_eq!(rt; take(bucket, 1), *answer);
+        equal(rt, peek(bucket, 1), *answer);
+        equal(rt, take(bucket, 1), *answer);
     }
 }
 
@@ -71,7 +71,7 @@ fn watches_early(
     filters: &Filters,
 ) -> Result<(), KvError> {
     put_all(rt, alloc, bucket, &["1"])?;
-    assert_eq!(rt; watch(rt, bucket, filters)?, 1);
+    equal(rt, watch(rt, bucket, filters)?, 1);
     put_all(rt, alloc, bucket, &["2", "3", "4"])
 }
 
@@ -109,7 +109,7 @@ fn keeps_one(rt: &impl Abort, bucket: &Bucket) {
         stored: 1,
         values: 1,
     };
-    assert_eq!(rt; bucket.version().status(), status);
+    equal(rt, bucket.version().status(), status);
 }
 
 fn compacts_beside(
@@ -209,7 +209,7 @@ fn initial_of_its_moment_after_a_compaction(rt: HostRuntime) -> Result<(), Fail>
 }
 
 fn stops_at(rt: &impl Abort, bucket: &mut Bucket, number: u64, handed: u64) {
-    assert_eq!(rt; stop(bucket, number), Answer::Stopped(handed));
+    equal(rt, stop(bucket, number), Answer::Stopped(handed));
 }
 
 fn names_the_least(rt: &impl Abort, alloc: Global, bucket: &mut Bucket) -> Result<(), KvError> {

@@ -49,18 +49,18 @@ fn is_written_and_taken(
     bucket: &mut Bucket,
     request: &Request,
 ) -> Result<(), KvError> {
-    assert_eq!(rt; write(rt, bucket, request)?, 1);
+    equal(rt, write(rt, bucket, request)?, 1);
     let written = bucket.version().get(request.key())?;
-    assert_eq!(rt; written.value().len(), LONGEST_VALUE);
+    equal(rt, written.value().len(), LONGEST_VALUE);
     for answer in [Answer::Marker, Answer::Entry(1), Answer::Empty] {
-        assert_eq!(rt; take(bucket, 1), answer);
+        equal(rt, take(bucket, 1), answer);
     }
     Ok(())
 }
 
 fn watches_by_sixteen(rt: &impl Abort, alloc: Global, bucket: &mut Bucket) -> Result<(), KvError> {
     let filters = sixteen_filters(alloc)?;
-    assert_eq!(rt; watch(rt, bucket, &filters)?, 1);
+    equal(rt, watch(rt, bucket, &filters)?, 1);
     Ok(())
 }
 

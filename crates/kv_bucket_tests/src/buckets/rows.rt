@@ -16,16 +16,16 @@ fn gives_initial(
     filters: &Filters,
 ) -> Result<(), KvError> {
     put_three(rt, alloc, bucket)?;
-    assert_eq!(rt; bucket.version().revision(), 3);
-    assert_eq!(rt; watch(rt, bucket, filters)?, 1);
+    equal(rt, bucket.version().revision(), 3);
+    equal(rt, watch(rt, bucket, filters)?, 1);
     for answer in [
         Answer::Entry(2),
         Answer::Entry(3),
         Answer::Marker,
         Answer::Empty,
     ] {
-        assert_eq!(rt; peek(bucket, 1), answer);
-        assert_eq!(rt; take(bucket, 1), answer);
+        equal(rt, peek(bucket, 1), answer);
+        equal(rt, take(bucket, 1), answer);
     }
     Ok(())
 }
@@ -59,26 +59,34 @@ fn watches_as(
     filters: &Filters,
     number: u64,
 ) -> Result<(), KvError> {
-    assert_eq!(rt; watch(rt, bucket, filters)?, number);
+    equal(rt, watch(rt, bucket, filters)?, number);
     Ok(())
 }
 
 fn stops_as(rt: &impl Abort, bucket: &mut Bucket, number: u64, handed: u64) {
-    assert_eq!(rt; stop(bucket, number), Answer::Stopped(handed));
+    equal(rt, stop(bucket, number), Answer::Stopped(handed));
 }
 
 fn has_watches(rt: &impl Abort, bucket: &Bucket, count: u64) {
-    assert_eq!(rt; watches(bucket), count);
+    equal(rt, watches(bucket), count);
 }
 
 fn takes_and_stops(rt: &impl Abort, bucket: &mut Bucket) {
-    assert_eq!(rt; take(bucket, 1), Answer::Marker);
+    equal(rt, take(bucket, 1), Answer::Marker);
     stops_as(rt, bucket, 1, 1);
 }
 
 fn knows_no_watch(rt: &impl Abort, bucket: &mut Bucket, number: u64) {
-    assert_eq!(rt; take(bucket, number), Answer::Refused(KvError::NoSuchWatch));
-    assert_eq!(rt; stop(bucket, number), Answer::Refused(KvError::NoSuchWatch));
+    equal(
+        rt,
+        take(bucket, number),
+        Answer::Refused(KvError::NoSuchWatch),
+    );
+    equal(
+        rt,
+        stop(bucket, number),
+        Answer::Refused(KvError::NoSuchWatch),
+    );
 }
 
 fn numbers_by(rt: &impl Abort, bucket: &mut Bucket, filters: &Filters) -> Result<(), KvError> {
@@ -119,7 +127,7 @@ fn opens_sixty_four(
 }
 
 fn opens_no_more(rt: &impl Abort, bucket: &mut Bucket, filters: &Filters) {
-    assert_eq!(rt; watch(rt, bucket, filters), Err(KvError::TooManyWatches));
+    equal(rt, watch(rt, bucket, filters), Err(KvError::TooManyWatches));
 }
 
 fn most_by(rt: &impl Abort, bucket: &mut Bucket, filters: &Filters) -> Result<(), KvError> {
@@ -153,7 +161,7 @@ fn answers(
     request: &Request,
     expected: Result<u64, KvError>,
 ) {
-    assert_eq!(rt; write(rt, bucket, request), expected);
+    equal(rt, write(rt, bucket, request), expected);
 }
 
 fn puts_as(
@@ -169,7 +177,7 @@ fn puts_as(
 }
 
 fn has_status(rt: &impl Abort, bucket: &Bucket, expected: Status) {
-    assert_eq!(rt; bucket.version().status(), expected);
+    equal(rt, bucket.version().status(), expected);
 }
 
 // Its two writes, and no more.
@@ -222,19 +230,21 @@ const LONGEST_NAME: &str = "abcdefghijklmnopqrstuvwxyzabcdefghijklmnopqrstuvwxyz
 fn refused_names(rt: HostRuntime) {
     let too_long = "abcdefghijklmnopqrstuvwxyzabcdefghijklmnopqrstuvwxyzabcdefghijklm";
     for name in ["my.bucket", "", too_long] {
-        assert_eq!(rt;
+        equal(
+            &rt,
             refusal(rt.alloc(), name, LARGEST),
-            Some(KvError::BadBucket)
+            Some(KvError::BadBucket),
         );
     }
-    assert_eq!(rt; refusal(rt.alloc(), LONGEST_NAME, LARGEST), None);
+    equal(&rt, refusal(rt.alloc(), LONGEST_NAME, LARGEST), None);
     let limits = Limits {
         history: 0,
         ..LARGEST
     };
-    assert_eq!(rt;
+    equal(
+        &rt,
         refusal(rt.alloc(), "my.bucket", limits),
-        Some(KvError::BadBucket)
+        Some(KvError::BadBucket),
     );
 }
 
@@ -256,7 +266,11 @@ fn refused_numbers(rt: HostRuntime) {
             write_limit,
             revision_limit,
         };
-        assert_eq!(rt; refusal(rt.alloc(), "kv", limits), Some(KvError::BadConfig));
+        equal(
+            &rt,
+            refusal(rt.alloc(), "kv", limits),
+            Some(KvError::BadConfig),
+        );
     }
     let smallest = Limits {
         history: 1,
@@ -264,5 +278,5 @@ fn refused_numbers(rt: HostRuntime) {
         write_limit: 1,
         revision_limit: 1,
     };
-    assert_eq!(rt; refusal(rt.alloc(), "kv", smallest), None);
+    equal(&rt, refusal(rt.alloc(), "kv", smallest), None);
 }

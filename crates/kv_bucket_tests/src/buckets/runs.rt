@@ -54,7 +54,7 @@ fn runs_like(
 ) -> Result<(), KvError> {
     let mut replies = Vec::new(alloc);
     other.run(calls, &mut replies)?;
-    assert_eq!(rt; look(bucket), look(other));
+    equal(rt, look(bucket), look(other));
     Ok(())
 }
 
@@ -81,7 +81,7 @@ fn run_on(
     replies: &mut Vec<Reply>,
 ) -> Result<(), KvError> {
     if let Err(error) = bucket.run(calls, replies) {
-        assert_eq!(rt; error, KvError::OutOfMemory);
+        equal(rt, error, KvError::OutOfMemory);
         let done = replies.len();
         assert!(rt; done < calls.len());
         looks_asked(rt, alloc, history, &calls[..done], bucket)?;
@@ -114,9 +114,9 @@ fn replies(
 }
 
 fn are_answers(rt: &impl Abort, replies: &[Reply], answers: &[Answer]) {
-    assert_eq!(rt; replies.len(), answers.len());
+    equal(rt, replies.len(), answers.len());
     for (reply, answer) in replies.iter().zip(answers) {
-        assert_eq!(rt; brief(reply), *answer);
+        equal(rt, brief(reply), *answer);
     }
 }
 
@@ -283,7 +283,7 @@ fn many_calls(alloc: Global) -> Result<Vec<Call>, KvError> {
 }
 
 fn are_many(rt: &impl Abort, replies: &[Reply]) {
-    assert_eq!(rt; replies.len(), 10_001);
+    equal(rt, replies.len(), 10_001);
     are_answers(
         rt,
         &replies[9_999..],

@@ -4,19 +4,19 @@ use super::*;
 
 fn expect_key(rt: &impl Abort, alloc: Global, text: &str) -> Result<(), KvError> {
     let parsed = key(alloc, text)?;
-    assert_eq!(rt; parsed.as_str(), text);
+    equal(rt, parsed.as_str(), text);
     Ok(())
 }
 
 fn expect_filter(rt: &impl Abort, alloc: Global, text: &str) -> Result<(), KvError> {
     let parsed = filter(alloc, text)?;
-    assert_eq!(rt; parsed.as_str(), text);
+    equal(rt, parsed.as_str(), text);
     Ok(())
 }
 
 fn has_text_and_count(rt: &impl Abort, list: &Filters, text: &str, count: u64) {
-    assert_eq!(rt; list.as_str(), text);
-    assert_eq!(rt; super::count(list), count);
+    equal(rt, list.as_str(), text);
+    equal(rt, super::count(list), count);
 }
 
 fn expect_filters(rt: &impl Abort, alloc: Global, text: &str, count: u64) -> Result<(), KvError> {

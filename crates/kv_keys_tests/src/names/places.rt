@@ -32,7 +32,7 @@ fn has_place(rt: &impl Abort, alloc: Global, text: &str, place: u32) -> Result<(
 
 // They are two keys of one place.
 fn collide(rt: &impl Abort, first: &Key, second: &Key) {
-    assert_eq!(rt; place_of(first), place_of(second));
+    equal(rt, place_of(first), place_of(second));
     assert!(rt; first != second);
 }
 

@@ -18,13 +18,13 @@ fn name_of(error: KvError) -> &'static str {
 }
 
 fn has_code_and_name(rt: &impl Abort, error: KvError, code: u64, name: &str) {
-    assert_eq!(rt; code_of(error), code);
-    assert_eq!(rt; name_of(error), name);
+    equal(rt, code_of(error), code);
+    equal(rt, name_of(error), name);
 }
 
 fn is_shown(rt: &impl Abort, alloc: Global, error: KvError, name: &str) -> Result<(), AllocError> {
     let text = text_of(alloc, &error)?;
-    assert_eq!(rt; text.as_str(), name);
+    equal(rt, text.as_str(), name);
     Ok(())
 }
 
@@ -66,5 +66,5 @@ fn codes_and_names(rt: HostRuntime) -> Result<(), Fail> {
 
 #[test]
 fn want_of_memory(rt: HostRuntime) {
-    assert_eq!(rt; KvError::from(AllocError), KvError::OutOfMemory);
+    equal(&rt, KvError::from(AllocError), KvError::OutOfMemory);
 }

@@ -70,7 +70,7 @@ fn copied_key(alloc: Global, from: &Key) -> Result<Key, KvError> {
 }
 
 fn is_key(rt: &impl Abort, key: &Key, text: &str) {
-    assert_eq!(rt; key.as_str(), text);
+    equal(rt, key.as_str(), text);
 }
 
 fn copy_of_key(rt: &impl Abort, alloc: Global, from: &Key) -> Result<Key, KvError> {
@@ -88,7 +88,7 @@ fn copied_filter(alloc: Global, from: &Filter) -> Result<Filter, KvError> {
 }
 
 fn is_filter(rt: &impl Abort, filter: &Filter, text: &str) {
-    assert_eq!(rt; filter.as_str(), text);
+    equal(rt, filter.as_str(), text);
 }
 
 fn copy_of_filter(rt: &impl Abort, alloc: Global, from: &Filter) -> Result<Filter, KvError> {
@@ -120,7 +120,7 @@ fn copied_list(alloc: Global, from: &Filters) -> Result<Filters, KvError> {
 }
 
 fn is_list(rt: &impl Abort, list: &Filters, text: &str) {
-    assert_eq!(rt; list.as_str(), text);
+    equal(rt, list.as_str(), text);
 }
 
 fn copy_of_list(rt: &impl Abort, alloc: Global, from: &Filters) -> Result<Filters, KvError> {
@@ -141,7 +141,7 @@ fn place_of(key: &Key) -> u32 {
 fn is_copy(rt: &impl Abort, copy: &Key, from: &Key, text: &str) {
     assert!(rt; !differ(copy, from));
     is_key(rt, copy, text);
-    assert_eq!(rt; place_of(copy), place_of(from));
+    equal(rt, place_of(copy), place_of(from));
 }
 
 #[test]
@@ -176,7 +176,7 @@ fn is_list_of(
     matched: &str,
 ) -> Result<(), KvError> {
     is_list(rt, list, text);
-    assert_eq!(rt; count(list), filters);
+    equal(rt, count(list), filters);
     let key = key(alloc, matched)?;
     assert!(rt; list_matches(list, &key));
     Ok(())

@@ -72,15 +72,15 @@ fn is_on<N: LiveName, R: Abort>(
     expected: (u64, u64),
 ) -> Result<(), KvError> {
     let version = feed.version()?;
-    assert_eq!(rt; (version.revision(), version.floor()), expected);
+    equal(rt, (version.revision(), version.floor()), expected);
     Ok(())
 }
 
 // A refresh is refused for the floor, and the feed stays with its count and its next item.
 fn lags<N: LiveName, R: Abort>(rt: &R, feed: &mut Feed<N>, floor: u64) {
     let before = look_at(feed);
-    assert_eq!(rt; refresh(rt, feed), Err(KvError::Lagged { floor }));
-    assert_eq!(rt; look_at(feed), before);
+    equal(rt, refresh(rt, feed), Err(KvError::Lagged { floor }));
+    equal(rt, look_at(feed), before);
 }
 
 #[test]
@@ -226,7 +226,7 @@ fn compacts_as<N: LiveName, R: Wait + Abort>(
     floor: u64,
     answer: Result<(), KvError>,
 ) {
-    assert_eq!(rt; compact(rt, live, floor), answer);
+    equal(rt, compact(rt, live, floor), answer);
 }
 
 fn held_watch<N: LiveName, R: Wait + Abort>(
@@ -285,7 +285,7 @@ fn reads_from_the_floor<N: LiveName, R: Abort>(
     reader: &mut Reader<N>,
 ) -> Result<(), KvError> {
     let version = read(reader)?;
-    assert_eq!(rt; version.floor(), 2);
+    equal(rt, version.floor(), 2);
     assert!(rt; version.write_at(1).is_none());
     assert!(rt; version.write_at(2).is_some());
     Ok(())

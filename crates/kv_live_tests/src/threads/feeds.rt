@@ -198,7 +198,7 @@ fn deletes_at<N: LiveName, R: Wait + Abort>(
     revision: u64,
 ) -> Result<(), KvError> {
     let request = delete(alloc, key)?;
-    assert_eq!(rt; write_live(rt, live, &request)?, revision);
+    equal(rt, write_live(rt, live, &request)?, revision);
     Ok(())
 }
 
@@ -249,7 +249,7 @@ fn stopped_after<N: LiveName, R: Abort>(
 }
 
 fn has_handed<N: LiveName, R: Abort>(rt: &R, feed: &Feed<N>, handed: u64) {
-    assert_eq!(rt; feed.handed(), handed);
+    equal(rt, feed.handed(), handed);
 }
 
 #[test]
@@ -381,12 +381,12 @@ pub(super) fn keeps_at<N: LiveName, R: Wait + Abort>(
     request: &Request,
     revision: u64,
 ) -> Result<(), KvError> {
-    assert_eq!(rt; keep(rt, keeper, request)?, revision);
+    equal(rt, keep(rt, keeper, request)?, revision);
     Ok(())
 }
 
 fn is_at<N: LiveName, R: Abort>(rt: &R, keeper: &Keeper<N>, revision: u64) {
-    assert_eq!(rt; keeper.bucket().version().revision(), revision);
+    equal(rt, keeper.bucket().version().revision(), revision);
 }
 
 fn fourth_taken<N: LiveName, R: Abort>(rt: &R, feed: Feed<N>) -> Result<Reader<N>, KvError> {

@@ -78,7 +78,7 @@ pub(super) fn watches_on_guard_as<N: LiveName, R: Wait + Abort>(
     filters: &Filters,
     number: u64,
 ) -> Result<(), KvError> {
-    assert_eq!(rt; watch_on_guard(rt, live, filters)?, number);
+    equal(rt, watch_on_guard(rt, live, filters)?, number);
     Ok(())
 }
 
@@ -88,7 +88,7 @@ fn writes_on_guard_at<N: LiveName, R: Wait + Abort>(
     request: &Request,
     revision: u64,
 ) -> Result<(), KvError> {
-    assert_eq!(rt; write_on_guard(rt, live, request)?, revision);
+    equal(rt, write_on_guard(rt, live, request)?, revision);
     Ok(())
 }
 
@@ -139,8 +139,8 @@ pub(super) fn takes_on_guard<N: LiveName, R: Wait + Abort>(
     number: u64,
     answer: Answer,
 ) {
-    assert_eq!(rt; peek_on_guard(rt, live, number), answer);
-    assert_eq!(rt; take_on_guard(rt, live, number), answer);
+    equal(rt, peek_on_guard(rt, live, number), answer);
+    equal(rt, take_on_guard(rt, live, number), answer);
 }
 
 // Takes from watch 1, on a guard for each item.
@@ -255,13 +255,13 @@ fn numbered<N: LiveName, R: Wait + Abort>(
 }
 
 fn stops_on_guard<N: LiveName, R: Wait + Abort>(rt: &R, live: &Live<N>, number: u64, handed: u64) {
-    assert_eq!(rt; stop_on_guard(rt, live, number), Answer::Stopped(handed));
+    equal(rt, stop_on_guard(rt, live, number), Answer::Stopped(handed));
 }
 
 fn knows_no_watch<N: LiveName, R: Wait + Abort>(rt: &R, live: &Live<N>, number: u64) {
     let none = Answer::Refused(KvError::NoSuchWatch);
     takes_on_guard(rt, live, number, none);
-    assert_eq!(rt; stop_on_guard(rt, live, number), none);
+    equal(rt, stop_on_guard(rt, live, number), none);
 }
 
 #[test]

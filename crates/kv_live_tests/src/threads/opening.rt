@@ -39,11 +39,11 @@ fn names_are_refused_first(rt: HostRuntime) -> Result<(), Fail> {
     let bad = Some(KvError::BadBucket);
     let longest = "0123456789012345678901234567890123456789012345678901234567890123";
     let longer = "01234567890123456789012345678901234567890123456789012345678901234";
-    assert_eq!(rt; refused(rt.alloc(), "my.bucket", LEGAL, 2), bad);
-    assert_eq!(rt; refused(rt.alloc(), "", LEGAL, 2), bad);
-    assert_eq!(rt; refused(rt.alloc(), longer, LEGAL, 2), bad);
-    assert_eq!(rt; refused(rt.alloc(), "", (0, 0, 0), 0), bad);
-    assert_eq!(rt; refused(rt.alloc(), longest, LEGAL, 2), None);
+    equal(&rt, refused(rt.alloc(), "my.bucket", LEGAL, 2), bad);
+    equal(&rt, refused(rt.alloc(), "", LEGAL, 2), bad);
+    equal(&rt, refused(rt.alloc(), longer, LEGAL, 2), bad);
+    equal(&rt, refused(rt.alloc(), "", (0, 0, 0), 0), bad);
+    equal(&rt, refused(rt.alloc(), longest, LEGAL, 2), None);
     Ok(())
 }
 
@@ -51,20 +51,20 @@ fn names_are_refused_first(rt: HostRuntime) -> Result<(), Fail> {
 fn numbers_are_refused_before_readers(rt: HostRuntime) -> Result<(), Fail> {
     let bad = Some(KvError::BadConfig);
     let limit = LEGAL.1;
-    assert_eq!(rt; refused(rt.alloc(), "kv", (0, limit, 1), 2), bad);
-    assert_eq!(rt; refused(rt.alloc(), "kv", (65, limit, 1), 2), bad);
-    assert_eq!(rt; refused(rt.alloc(), "kv", (1, limit, 0), 2), bad);
-    assert_eq!(rt; refused(rt.alloc(), "kv", (1, limit + 1, 1), 2), bad);
-    assert_eq!(rt; refused(rt.alloc(), "kv", (0, limit, 1), 33), bad);
+    equal(&rt, refused(rt.alloc(), "kv", (0, limit, 1), 2), bad);
+    equal(&rt, refused(rt.alloc(), "kv", (65, limit, 1), 2), bad);
+    equal(&rt, refused(rt.alloc(), "kv", (1, limit, 0), 2), bad);
+    equal(&rt, refused(rt.alloc(), "kv", (1, limit + 1, 1), 2), bad);
+    equal(&rt, refused(rt.alloc(), "kv", (0, limit, 1), 33), bad);
     Ok(())
 }
 
 #[test]
 fn one_to_thirty_two_readers(rt: HostRuntime) -> Result<(), Fail> {
     let none = Some(KvError::NoReader);
-    assert_eq!(rt; refused(rt.alloc(), "kv", LEGAL, 0), none);
-    assert_eq!(rt; refused(rt.alloc(), "kv", LEGAL, 33), none);
-    assert_eq!(rt; refused(rt.alloc(), "kv", LEGAL, 1), None);
+    equal(&rt, refused(rt.alloc(), "kv", LEGAL, 0), none);
+    equal(&rt, refused(rt.alloc(), "kv", LEGAL, 33), none);
+    equal(&rt, refused(rt.alloc(), "kv", LEGAL, 1), None);
     run(&rt, rt.alloc(), Row::ManyReaders)?;
     Ok(())
 }
@@ -75,7 +75,7 @@ pub(super) fn all_read<N: LiveName, R: Abort>(
     readers: Vec<Reader<N>>,
     count: usize,
 ) -> Result<(), KvError> {
-    assert_eq!(rt; readers.len(), count);
+    equal(rt, readers.len(), count);
     for reader in readers {
         sees_nothing(rt, reader)?;
     }
@@ -89,7 +89,7 @@ fn sees_nothing<N: LiveName, R: Abort>(rt: &R, reader: Reader<N>) -> Result<(), 
 
 fn reads_nothing<N: LiveName, R: Abort>(rt: &R, reader: &mut Reader<N>) -> Result<(), KvError> {
     let version = read(reader)?;
-    assert_eq!(rt; version.revision(), 0);
+    equal(rt, version.revision(), 0);
     assert!(rt; !version.sealed());
     Ok(())
 }
@@ -111,9 +111,9 @@ pub(super) fn beginning<N: LiveName, R: Wait + Abort>(
         stored: 0,
         values: 0,
     };
-    assert_eq!(rt; look(rt, live), (empty, 0));
+    equal(rt, look(rt, live), (empty, 0));
     let keeper = live.lock(rt);
-    assert_eq!(rt; keeper.bucket().version().bucket(), "kv");
+    equal(rt, keeper.bucket().version().bucket(), "kv");
     Ok(())
 }
 

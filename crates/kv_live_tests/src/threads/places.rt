@@ -34,7 +34,7 @@ fn seat<N: LiveName, R: Wait>(rt: &R, live: &Live<N>) -> Result<Reader<N>, KvErr
 }
 
 fn finds_no_place<N: LiveName, R: Wait + Abort>(rt: &R, live: &Live<N>) {
-    assert_eq!(rt; seat(rt, live).err(), Some(KvError::NoReader));
+    equal(rt, seat(rt, live).err(), Some(KvError::NoReader));
 }
 
 // Another reader sees all that is published.
@@ -53,7 +53,7 @@ fn reads_at_once<N: LiveName, R: Abort>(
     reader: &mut Reader<N>,
     revision: u64,
 ) -> Result<(), KvError> {
-    assert_eq!(rt; reader.version()?.revision(), revision);
+    equal(rt, reader.version()?.revision(), revision);
     Ok(())
 }
 
@@ -154,7 +154,7 @@ fn leaves_behind_a_put<N: LiveName, R: Wait + Abort>(
 
 fn leaves_the_first<N: LiveName, R: Abort>(rt: &R, feed: &mut Feed<N>) -> Result<(), KvError> {
     let left = feed.refresh_keeping()?;
-    assert_eq!(rt; (left.revision(), present(feed)?), (1, 2));
+    equal(rt, (left.revision(), present(feed)?), (1, 2));
     Ok(())
 }
 

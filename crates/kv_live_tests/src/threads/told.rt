@@ -49,7 +49,7 @@ fn write_told<N: LiveName, R: Wait + Abort>(
 }
 
 fn tells<N: LiveName, R: Abort>(rt: &R, receipt: &Receipt<N>, revision: u64) {
-    assert_eq!(rt; receipt.revision(), revision);
+    equal(rt, receipt.revision(), revision);
 }
 
 // The receipt of a put, which is told at this revision.
@@ -70,7 +70,7 @@ fn told_of<N: LiveName, R: Wait + Abort>(
     revision: u64,
 ) -> Result<Receipt<N>, KvError> {
     let (answered, receipt) = write_told(rt, live, request)?;
-    assert_eq!(rt; answered, revision);
+    equal(rt, answered, revision);
     tells(rt, &receipt, revision);
     Ok(receipt)
 }
@@ -232,7 +232,7 @@ fn has_seen_as<N: LiveName, R: Abort>(
     receipt: &Receipt<N>,
     expected: bool,
 ) {
-    assert_eq!(rt; reader.has_seen(receipt), expected);
+    equal(rt, reader.has_seen(receipt), expected);
 }
 
 // Whether each of two readers has seen all that the other has.
@@ -243,7 +243,7 @@ fn compare_as<N: LiveName, R: Abort>(
     expected: (bool, bool),
 ) {
     let found = (first.has_seen_all_of(second), second.has_seen_all_of(first));
-    assert_eq!(rt; found, expected);
+    equal(rt, found, expected);
 }
 
 #[test]

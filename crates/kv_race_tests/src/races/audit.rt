@@ -68,6 +68,6 @@ fn audit_over<R: Threads + Wait + Abort + Sync>(
     scripts: &[Vec<Request>],
 ) -> Result<(), KvError> {
     let watches = all_watches(alloc)?;
-    assert_eq!(rt; watches.len(), 32);
+    equal(rt, watches.len(), 32);
     race_beside(rt, alloc, scripts, &watches, &NoGate, 160)
 }

@@ -71,7 +71,11 @@ fn refusals_in_their_order(rt: HostRuntime) -> Result<(), Fail> {
         ("my.bucket", 16, 33, Err(KvError::BadBucket)),
     ];
     for (name, workers, watches, answer) in rows {
-        assert_eq!(rt; refused(&rt, rt.alloc(), name, workers, watches), answer);
+        equal(
+            &rt,
+            refused(&rt, rt.alloc(), name, workers, watches),
+            answer,
+        );
     }
     Ok(())
 }
@@ -97,7 +101,7 @@ fn accepts_each_once<R: Threads + Wait + Abort + Sync>(
 #[test]
 fn accepted_where_memory_is_refused(rt: HostRuntime) -> Result<(), Fail> {
     if let Err(error) = accepts_each_once(&rt, rt.alloc()) {
-        assert_eq!(rt; error, KvError::OutOfMemory);
+        equal(&rt, error, KvError::OutOfMemory);
     }
     Ok(())
 }

@@ -64,14 +64,14 @@ fn one_watched<R: Threads + Wait + Abort + Sync>(
 }
 
 fn answers_both<R: Abort>(rt: &R, report: &Report) {
-    assert_eq!(rt; report.replies.len(), 1);
+    equal(rt, report.replies.len(), 1);
     for replies in &report.replies {
-        assert_eq!(rt; replies.as_slice(), [Ok(1), Ok(2)].as_slice());
+        equal(rt, replies.as_slice(), [Ok(1), Ok(2)].as_slice());
     }
 }
 
 fn sees_both<R: Abort>(rt: &R, report: &Report) {
-    assert_eq!(rt; report.seen.len(), 1);
+    equal(rt, report.seen.len(), 1);
     for items in &report.seen {
         assert!(rt;
             are(
@@ -91,11 +91,12 @@ fn shows_both<R: Abort>(rt: &R, items: &[Reply]) {
     let [_, first, second] = items else {
         return;
     };
-    assert_eq!(rt;
+    equal(
+        rt,
         shown_of_k(first),
-        Some((1, Op::Put, 1, Some(b"1".as_slice())))
+        Some((1, Op::Put, 1, Some(b"1".as_slice()))),
     );
-    assert_eq!(rt; shown_of_k(second), Some((2, Op::Delete, 0, None)));
+    equal(rt, shown_of_k(second), Some((2, Op::Delete, 0, None)));
 }
 
 fn keeps_the_delete<R: Abort>(rt: &R, alloc: Global, last: &Version) -> Result<(), KvError> {
@@ -106,12 +107,12 @@ fn keeps_the_delete<R: Abort>(rt: &R, alloc: Global, last: &Version) -> Result<(
         stored: 2,
         values: 1,
     };
-    assert_eq!(rt; last.status(), status);
+    equal(rt, last.status(), status);
     let key = Key::parse(alloc, "k")?;
     let kept = last.history(alloc, &key)?;
-    assert_eq!(rt; kept.len(), 1);
+    equal(rt, kept.len(), 1);
     for write in kept {
-        assert_eq!(rt; (write.op(), write.revision()), (Op::Delete, 2));
+        equal(rt, (write.op(), write.revision()), (Op::Delete, 2));
     }
     Ok(())
 }

@@ -15,17 +15,17 @@ fn a_reader_that_fails_and_goes_on(rt: HostRuntime) -> Result<(), Fail> {
     let mut reader = CountedReader::new(&mut drip);
     let mut buffer = [0u8; 4];
     assert!(rt; reader.read(&mut buffer) == Ok(1));
-    assert_eq!(rt; (reader.asked(), reader.failures()), (1, 0));
+    equal(&rt, (reader.asked(), reader.failures()), (1, 0));
     assert!(rt; reader.read(&mut buffer) == Err(KvError::ReadFault));
-    assert_eq!(rt; (reader.asked(), reader.failures()), (2, 1));
+    equal(&rt, (reader.asked(), reader.failures()), (2, 1));
     assert!(rt; reader.read(&mut buffer) == Ok(1));
-    assert_eq!(rt; (reader.asked(), reader.failures()), (3, 1));
+    equal(&rt, (reader.asked(), reader.failures()), (3, 1));
     assert!(rt; !reader.has_ended() && !reader.was_asked_late());
     assert!(rt; reader.read(&mut buffer) == Ok(0));
     assert!(rt; reader.has_ended() && !reader.was_asked_late());
     assert!(rt; reader.read(&mut buffer) == Ok(0));
     assert!(rt; reader.has_ended() && reader.was_asked_late());
-    assert_eq!(rt; (reader.asked(), reader.failures()), (5, 1));
+    equal(&rt, (reader.asked(), reader.failures()), (5, 1));
     Ok(())
 }
 
@@ -38,11 +38,11 @@ fn a_writer_that_fails(rt: HostRuntime) -> Result<(), Fail> {
     };
     let mut writer = CountedWriter::new(&mut narrow);
     assert!(rt; writer.write(b"abc") == Ok(()));
-    assert_eq!(rt; writer.failures(), 0);
+    equal(&rt, writer.failures(), 0);
     assert!(rt; writer.write(b"") == Ok(()));
-    assert_eq!(rt; writer.failures(), 0);
+    equal(&rt, writer.failures(), 0);
     assert!(rt; writer.write(b"d") == Err(KvError::WriteFault));
-    assert_eq!(rt; writer.failures(), 1);
+    equal(&rt, writer.failures(), 1);
     assert!(rt; narrow.bytes.as_slice() == b"abc".as_slice());
     Ok(())
 }
@@ -57,6 +57,6 @@ fn a_writer_that_takes_nothing(rt: HostRuntime) -> Result<(), Fail> {
     let mut writer = CountedWriter::new(&mut narrow);
     assert!(rt; writer.write(b"a") == Err(KvError::WriteFault));
     assert!(rt; writer.write(b"a") == Err(KvError::WriteFault));
-    assert_eq!(rt; writer.failures(), 2);
+    equal(&rt, writer.failures(), 2);
     Ok(())
 }

@@ -73,7 +73,7 @@ fn one_byte_a_call(rt: HostRuntime) -> Result<(), Fail> {
     };
     let ran = replayed(rt.alloc(), given)?;
     assert!(rt; is(&ran, Ok(()), TEXT));
-    assert_eq!(rt; ran.asked, SCRIPT.len() + 1);
+    equal(&rt, ran.asked, SCRIPT.len() + 1);
     Ok(())
 }
 
@@ -81,7 +81,7 @@ fn one_byte_a_call(rt: HostRuntime) -> Result<(), Fail> {
 fn nothing_is_read_after_the_end(rt: HostRuntime) -> Result<(), Fail> {
     let ran = replayed(rt.alloc(), PLAIN)?;
     assert!(rt; is(&ran, Ok(()), TEXT));
-    assert_eq!(rt; ran.asked, 2);
+    equal(&rt, ran.asked, 2);
     Ok(())
 }
 
@@ -144,7 +144,7 @@ fn calls_end_at(
 ) -> Result<(), KvError> {
     let ran = replayed(alloc, given)?;
     assert!(rt; is(&ran, Err(KvError::ReadFault), text));
-    assert_eq!(rt; ran.asked as u64, given.calls);
+    equal(rt, ran.asked as u64, given.calls);
     Ok(())
 }
 

@@ -1,6 +1,5 @@
 -- What a version's fields store.
-use Rattle.std.specs.Prelude.{ℕ, List, map, string_bytes, Vec}
-use Rattle.std.specs.Arc.{arc_value}
+use Rattle.std.specs.Prelude.{ℕ, List, map, Vec}
 use Rattle.std.specs.declared.alloc.Global.{Global}
 use Rattle.kv_store.specs.Stored.{Stored}
 use Rattle.kv_store.specs.declared.version.Version.TheInside.{Inside}
@@ -12,7 +11,7 @@ kept_entries entries = map (λ e. (e.0, e.1.items)) entries
 abbrev pub stored_of : Inside → Stored
 stored_of v = record {
   config = record {
-    bucket = string_bytes (arc_value v.name);
+    bucket = v.name.bytes;
     history = v.history;
     value_limit = v.value_limit;
     write_limit = v.write_limit;

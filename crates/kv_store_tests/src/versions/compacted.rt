@@ -73,12 +73,12 @@ fn has_the_rest(rt: &impl Abort, alloc: Global, version: &Version) -> Result<(),
         stored: 3,
         values: 3,
     };
-    assert_eq!(rt; numbers(version), status);
-    assert_eq!(rt; floor(version), 4);
+    equal(rt, numbers(version), status);
+    equal(rt, floor(version), 4);
     let a = key(alloc, "a")?;
     assert!(rt; has_value_at(version, &a, 2, b"2"));
     let b = key(alloc, "b")?;
-    assert_eq!(rt; last_revision(version, &b), 0);
+    equal(rt, last_revision(version, &b), 0);
     Ok(())
 }
 
@@ -90,7 +90,7 @@ fn compaction(rt: HostRuntime) -> Result<(), Fail> {
 }
 
 fn compacts(rt: &impl Abort, alloc: Global, version: &Version) -> Result<(), KvError> {
-    assert_eq!(rt; floor(version), 0);
+    equal(rt, floor(version), 0);
     has_bad_floor(rt, alloc, version, 0);
     has_bad_floor(rt, alloc, version, 6);
     let compacted = compact(rt, alloc, version, 4)?;
@@ -185,7 +185,7 @@ fn compacted_to(
 ) -> Result<Version, KvError> {
     let key = key(alloc, "k")?;
     let compacted = compact(rt, alloc, version, floor)?;
-    assert_eq!(rt; last_revision(&compacted, &key), last);
+    equal(rt, last_revision(&compacted, &key), last);
     Ok(compacted)
 }
 

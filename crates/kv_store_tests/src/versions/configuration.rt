@@ -45,20 +45,21 @@ fn bucket_names(rt: HostRuntime) -> Result<(), Fail> {
     let bad = Err(KvError::BadBucket);
     let longest = "0123456789-abcdefghijklmnopqrstuvwxyz_ABCDEFGHIJKLMNOPQRSTUVWXYZ";
     let longer = "0123456789-abcdefghijklmnopqrstuvwxyz_ABCDEFGHIJKLMNOPQRSTUVWXYZ0";
-    assert_eq!(rt; longest.len(), 64);
-    assert_eq!(rt; answer_to_name(rt.alloc(), longest), Ok(()));
-    assert_eq!(rt; answer_to_name(rt.alloc(), longer), bad);
-    assert_eq!(rt; answer_to_name(rt.alloc(), "my.bucket"), bad);
-    assert_eq!(rt; answer_to_name(rt.alloc(), ""), bad);
+    equal(&rt, longest.len(), 64);
+    equal(&rt, answer_to_name(rt.alloc(), longest), Ok(()));
+    equal(&rt, answer_to_name(rt.alloc(), longer), bad);
+    equal(&rt, answer_to_name(rt.alloc(), "my.bucket"), bad);
+    equal(&rt, answer_to_name(rt.alloc(), ""), bad);
     Ok(())
 }
 
 #[test]
 fn smallest_and_largest_numbers(rt: HostRuntime) -> Result<(), Fail> {
-    assert_eq!(rt; answer_to_numbers(rt.alloc(), 1, 0, 1, 1), Ok(()));
-    assert_eq!(rt;
+    equal(&rt, answer_to_numbers(rt.alloc(), 1, 0, 1, 1), Ok(()));
+    equal(
+        &rt,
         answer_to_numbers(rt.alloc(), 64, 1_048_576, 1_000_000, 4_294_967_295),
-        Ok(())
+        Ok(()),
     );
     Ok(())
 }
@@ -66,19 +67,23 @@ fn smallest_and_largest_numbers(rt: HostRuntime) -> Result<(), Fail> {
 #[test]
 fn numbers_below_their_limits(rt: HostRuntime) -> Result<(), Fail> {
     let bad = Err(KvError::BadConfig);
-    assert_eq!(rt; answer_to_numbers(rt.alloc(), 0, 0, 1, 1), bad);
-    assert_eq!(rt; answer_to_numbers(rt.alloc(), 1, 0, 0, 1), bad);
-    assert_eq!(rt; answer_to_numbers(rt.alloc(), 1, 0, 1, 0), bad);
+    equal(&rt, answer_to_numbers(rt.alloc(), 0, 0, 1, 1), bad);
+    equal(&rt, answer_to_numbers(rt.alloc(), 1, 0, 0, 1), bad);
+    equal(&rt, answer_to_numbers(rt.alloc(), 1, 0, 1, 0), bad);
     Ok(())
 }
 
 #[test]
 fn numbers_above_their_limits(rt: HostRuntime) -> Result<(), Fail> {
     let bad = Err(KvError::BadConfig);
-    assert_eq!(rt; answer_to_numbers(rt.alloc(), 65, 0, 1, 1), bad);
-    assert_eq!(rt; answer_to_numbers(rt.alloc(), 1, 1_048_577, 1, 1), bad);
-    assert_eq!(rt; answer_to_numbers(rt.alloc(), 1, 0, 1_000_001, 1), bad);
-    assert_eq!(rt; answer_to_numbers(rt.alloc(), 1, 0, 1, 4_294_967_296), bad);
+    equal(&rt, answer_to_numbers(rt.alloc(), 65, 0, 1, 1), bad);
+    equal(&rt, answer_to_numbers(rt.alloc(), 1, 1_048_577, 1, 1), bad);
+    equal(&rt, answer_to_numbers(rt.alloc(), 1, 0, 1_000_001, 1), bad);
+    equal(
+        &rt,
+        answer_to_numbers(rt.alloc(), 1, 0, 1, 4_294_967_296),
+        bad,
+    );
     Ok(())
 }
 
@@ -86,10 +91,10 @@ fn numbers_above_their_limits(rt: HostRuntime) -> Result<(), Fail> {
 fn the_name_comes_before_the_numbers(rt: HostRuntime) -> Result<(), Fail> {
     let mut config = named(rt.alloc(), "my.bucket")?;
     config.history = 0;
-    assert_eq!(rt; config.check(), Err(KvError::BadBucket));
+    equal(&rt, config.check(), Err(KvError::BadBucket));
     let refused = empty(rt.alloc(), &config);
-    assert_eq!(rt; refused.err(), Some(KvError::BadBucket));
-    assert_eq!(rt; config.bucket.as_str(), "my.bucket");
-    assert_eq!(rt; config.history, 0);
+    equal(&rt, refused.err(), Some(KvError::BadBucket));
+    equal(&rt, config.bucket.as_str(), "my.bucket");
+    equal(&rt, config.history, 0);
     Ok(())
 }

@@ -15,7 +15,7 @@ fn write_here(
         Ok(()) => Ok(()),
         Err(error) => {
             assert!(rt; look(alloc, version)? == before);
-            assert_eq!(rt; version.last_revision(request.key()), last);
+            equal(rt, version.last_revision(request.key()), last);
             match error {
                 KvError::OutOfMemory => version.write(alloc, request),
                 _ => Err(error),
@@ -155,6 +155,6 @@ fn empty_and_sealed(rt: &impl Abort, alloc: Global) -> Result<Version, KvError> 
 fn refuses(rt: &impl Abort, alloc: Global, here: &mut Version) -> Result<(), KvError> {
     let refused = [("a", Ask::Put("1"), Err(KvError::Sealed))];
     run_here(rt, alloc, here, &refused)?;
-    assert_eq!(rt; newest(here), 0);
+    equal(rt, newest(here), 0);
     Ok(())
 }

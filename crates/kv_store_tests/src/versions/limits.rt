@@ -46,7 +46,7 @@ fn write_limit(rt: HostRuntime) -> Result<(), Fail> {
         ("n", Ask::Purge(None), Err(KvError::JournalFull)),
     ];
     let version = run(&rt, rt.alloc(), full(&rt, rt.alloc())?, &steps)?;
-    assert_eq!(rt; newest(&version), 2);
+    equal(&rt, newest(&version), 2);
     Ok(())
 }
 
@@ -108,7 +108,7 @@ fn is_sealed_again(rt: &impl Abort, alloc: Global, once: &Version) -> Result<(),
         stored: 2,
         values: 2,
     };
-    assert_eq!(rt; numbers(&twice), status);
+    equal(rt, numbers(&twice), status);
     tell_the_same(rt, alloc, once, &twice)
 }
 
@@ -153,7 +153,7 @@ fn size_at(alloc: Global, version: &Version, text: &str) -> Result<usize, KvErro
 fn too_large_a_value(rt: HostRuntime) -> Result<(), Fail> {
     let first = kv(rt.alloc())?;
     let refused = put_of(&rt, rt.alloc(), &first, 1_048_577);
-    assert_eq!(rt; refused.err(), Some(KvError::ValueTooLarge));
+    equal(&rt, refused.err(), Some(KvError::ValueTooLarge));
     Ok(())
 }
 
@@ -161,6 +161,6 @@ fn too_large_a_value(rt: HostRuntime) -> Result<(), Fail> {
 fn largest_value(rt: HostRuntime) -> Result<(), Fail> {
     let first = kv(rt.alloc())?;
     let second = put_of(&rt, rt.alloc(), &first, 1_048_576)?;
-    assert_eq!(rt; size_at(rt.alloc(), &second, "a"), Ok(1_048_576));
+    equal(&rt, size_at(rt.alloc(), &second, "a"), Ok(1_048_576));
     Ok(())
 }

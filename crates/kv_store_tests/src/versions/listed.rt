@@ -1,7 +1,7 @@
 //! Keys and histories that are read back. Each test also passes where any one request for memory is refused: the same
 //! call, made again, answers.
 
-use super::{Ask, keeping, key, request};
+use super::{Ask, equal, keeping, key, request};
 use kv_keys::{Filter, Filters, Key, KvError};
 use kv_model::{Op, Request, Start, Write};
 use kv_store::Version;
@@ -73,7 +73,7 @@ fn lists(
     filter: &str,
     keys: &str,
 ) -> Result<(), KvError> {
-    assert_eq!(rt; listed(alloc, version, filter)?.as_str(), keys);
+    equal(rt, listed(alloc, version, filter)?.as_str(), keys);
     Ok(())
 }
 
@@ -107,7 +107,7 @@ fn retains(
     text: &str,
     numbers: &[(Op, u64)],
 ) -> Result<(), KvError> {
-    assert_eq!(rt; entries(alloc, version, text)?.as_slice(), numbers);
+    equal(rt, entries(alloc, version, text)?.as_slice(), numbers);
     Ok(())
 }
 
@@ -142,9 +142,10 @@ fn selects(
     start: Start,
     wanted: &[u64],
 ) -> Result<(), KvError> {
-    assert_eq!(rt;
+    equal(
+        rt,
         revisions(alloc, version, filters, start)?.as_slice(),
-        wanted
+        wanted,
     );
     Ok(())
 }
@@ -195,9 +196,10 @@ fn latest_come_last(rt: &impl Abort, alloc: Global, version: &Version) -> Result
 }
 
 fn knows_not(rt: &impl Abort, alloc: Global, version: &Version, text: &str) {
-    assert_eq!(rt;
+    equal(
+        rt,
         entries(alloc, version, text).err(),
-        Some(KvError::KeyNotFound)
+        Some(KvError::KeyNotFound),
     );
 }
 

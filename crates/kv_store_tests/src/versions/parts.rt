@@ -18,11 +18,11 @@ fn small(rt: &impl Abort, alloc: Global) -> Result<Version, KvError> {
 }
 
 fn has_the_defaults(rt: &impl Abort, config: &Config) {
-    assert_eq!(rt; config.bucket.as_str(), "my.bucket");
-    assert_eq!(rt; config.history, 1);
-    assert_eq!(rt; config.value_limit, 1_048_576);
-    assert_eq!(rt; config.write_limit, 1_000_000);
-    assert_eq!(rt; config.revision_limit, 4_294_967_295);
+    equal(rt, config.bucket.as_str(), "my.bucket");
+    equal(rt, config.history, 1);
+    equal(rt, config.value_limit, 1_048_576);
+    equal(rt, config.write_limit, 1_000_000);
+    equal(rt, config.revision_limit, 4_294_967_295);
 }
 
 #[test]
@@ -45,9 +45,9 @@ fn value_asked(request: &Request) -> &[u8] {
 }
 
 fn asks_for(rt: &impl Abort, request: &Request, text: &str, op: Op, value: &[u8]) {
-    assert_eq!(rt; text_asked(request), text);
-    assert_eq!(rt; op_asked(request), op);
-    assert_eq!(rt; value_asked(request), value);
+    equal(rt, text_asked(request), text);
+    equal(rt, op_asked(request), op);
+    equal(rt, value_asked(request), value);
 }
 
 #[test]
@@ -60,8 +60,8 @@ fn what_a_request_asks_for(rt: HostRuntime) -> Result<(), Fail> {
 }
 
 fn does(rt: &impl Abort, op: Op, is_put: bool, is_purge: bool) {
-    assert_eq!(rt; op.is_put(), is_put);
-    assert_eq!(rt; op.is_purge(), is_purge);
+    equal(rt, op.is_put(), is_put);
+    equal(rt, op.is_purge(), is_purge);
 }
 
 #[test]
@@ -74,10 +74,10 @@ fn what_an_op_does(rt: HostRuntime) {
 #[test]
 fn revisions_as_keys(rt: HostRuntime) {
     let rev = Rev::new(7);
-    assert_eq!(rt; rev.number(), 7);
-    assert_eq!(rt; rev.place(), 7 << 25);
-    assert_eq!(rt; Rev::new(32).place(), 1 << 20);
-    assert_eq!(rt; Rev::new(4_294_967_295).place(), 4_294_967_295);
+    equal(&rt, rev.number(), 7);
+    equal(&rt, rev.place(), 7 << 25);
+    equal(&rt, Rev::new(32).place(), 1 << 20);
+    equal(&rt, Rev::new(4_294_967_295).place(), 4_294_967_295);
     assert!(rt; rev == Rev::new(7));
     assert!(rt; rev < Rev::new(4_294_967_295));
 }
@@ -100,10 +100,10 @@ fn revision_of(write: &Write) -> u64 {
 
 // The write is the put of the empty value to `b`.
 fn puts_b(rt: &impl Abort, write: &Write) {
-    assert_eq!(rt; text_of(write), "b");
-    assert_eq!(rt; op_of(write), Op::Put);
-    assert_eq!(rt; value_of(write), b"".as_slice());
-    assert_eq!(rt; revision_of(write), 3);
+    equal(rt, text_of(write), "b");
+    equal(rt, op_of(write), Op::Put);
+    equal(rt, value_of(write), b"".as_slice());
+    equal(rt, revision_of(write), 3);
 }
 
 fn has_put_of_b(rt: &impl Abort, alloc: Global, version: &Version) -> Result<(), KvError> {
@@ -134,9 +134,9 @@ fn tells_its_numbers(rt: &impl Abort, alloc: Global, version: &Version) -> Resul
         stored: 4,
         values: 3,
     };
-    assert_eq!(rt; version.status(), status);
-    assert_eq!(rt; version.bucket(), "small");
-    assert_eq!(rt; version.revision(), 4);
+    equal(rt, version.status(), status);
+    equal(rt, version.bucket(), "small");
+    equal(rt, version.revision(), 4);
     assert!(rt; !version.sealed());
     Ok(())
 }
@@ -191,8 +191,8 @@ fn has_kept(
     last: u64,
 ) -> Result<(), KvError> {
     let key = key(alloc, text)?;
-    assert_eq!(rt; kept_at(version, &key), kept);
-    assert_eq!(rt; last_revision(version, &key), last);
+    equal(rt, kept_at(version, &key), kept);
+    equal(rt, last_revision(version, &key), last);
     Ok(())
 }
 
@@ -240,8 +240,8 @@ fn the_trie_by_key(rt: HostRuntime) -> Result<(), Fail> {
 
 fn has_a_trie_by_key(rt: &impl Abort, alloc: Global, version: &Version) -> Result<(), KvError> {
     let a = key(alloc, "a")?;
-    assert_eq!(rt; keys_in_trie(version), 2);
-    assert_eq!(rt; kept_in_trie(version, &a), Some(2));
+    equal(rt, keys_in_trie(version), 2);
+    equal(rt, kept_in_trie(version, &a), Some(2));
     Ok(())
 }
 
@@ -257,8 +257,8 @@ fn has_a_trie_by_revision(
     alloc: Global,
     version: &Version,
 ) -> Result<(), KvError> {
-    assert_eq!(rt; writes_in_trie(version), 4);
-    assert_eq!(rt; op_in_trie(version, 4), Some(Op::Delete));
+    equal(rt, writes_in_trie(version), 4);
+    equal(rt, op_in_trie(version, 4), Some(Op::Delete));
     Ok(())
 }
 
@@ -320,9 +320,9 @@ fn asks_by_name<W: Wanted>(
     named: Option<u64>,
     wants_a: bool,
 ) -> Result<(), KvError> {
-    assert_eq!(rt; asked_by_name(alloc, wanted)?, named);
+    equal(rt, asked_by_name(alloc, wanted)?, named);
     let a = key(alloc, "a")?;
-    assert_eq!(rt; wants(wanted, &a), wants_a);
+    equal(rt, wants(wanted, &a), wants_a);
     Ok(())
 }
 

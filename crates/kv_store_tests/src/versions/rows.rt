@@ -58,7 +58,7 @@ fn compare_and_set(rt: HostRuntime) -> Result<(), Fail> {
 
 fn ends_by_a_delete(rt: &impl Abort, alloc: Global, version: &Version) -> Result<(), KvError> {
     let k = key(alloc, "k")?;
-    assert_eq!(rt; last_revision(version, &k), 5);
+    equal(rt, last_revision(version, &k), 5);
     Ok(())
 }
 
@@ -83,7 +83,7 @@ fn largest_last_revision(rt: HostRuntime) -> Result<(), Fail> {
         ),
     ];
     let version = run(&rt, rt.alloc(), kv(rt.alloc())?, &steps)?;
-    assert_eq!(rt; newest(&version), 1);
+    equal(&rt, newest(&version), 1);
     Ok(())
 }
 
@@ -108,7 +108,7 @@ fn markers_of_keys_that_never_were(rt: HostRuntime) -> Result<(), Fail> {
 fn has_four_markers(rt: &impl Abort, alloc: Global, version: &Version) -> Result<(), KvError> {
     let sight = look(alloc, version)?;
     assert!(rt; has_ops(&sight, &[Op::Delete, Op::Purge, Op::Delete, Op::Purge]));
-    assert_eq!(rt; numbers(version).values, 4);
+    equal(rt, numbers(version).values, 4);
     Ok(())
 }
 

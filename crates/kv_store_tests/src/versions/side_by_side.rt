@@ -68,8 +68,8 @@ fn stay(
     has_none(rt, alloc, empty);
     has_numbers(rt, put, status(1, 1, false));
     has_numbers(rt, same, status(1, 1, false));
-    assert_eq!(rt; revision_of_a(alloc, same), Ok(1));
-    assert_eq!(rt; entries(alloc, put), Ok(1));
+    equal(rt, revision_of_a(alloc, same), Ok(1));
+    equal(rt, entries(alloc, put), Ok(1));
     tell_the_same(rt, alloc, put, same)
 }
 
@@ -84,8 +84,8 @@ fn status(last: u64, values: u64, sealed: bool) -> Status {
 }
 
 fn has_numbers(rt: &impl Abort, version: &Version, numbers: Status) {
-    assert_eq!(rt; super::numbers(version), numbers);
-    assert_eq!(rt; version.sealed(), numbers.sealed);
+    equal(rt, super::numbers(version), numbers);
+    equal(rt, version.sealed(), numbers.sealed);
 }
 
 // The revision of the latest entry of `a`.
@@ -96,7 +96,7 @@ fn revision_of_a(alloc: Global, version: &Version) -> Result<u64, KvError> {
 }
 
 fn has_none(rt: &impl Abort, alloc: Global, version: &Version) {
-    assert_eq!(rt; revision_of_a(alloc, version), Err(KvError::KeyNotFound));
+    equal(rt, revision_of_a(alloc, version), Err(KvError::KeyNotFound));
 }
 
 // How many entries are seen in the version.

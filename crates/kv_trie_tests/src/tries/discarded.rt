@@ -117,7 +117,7 @@ fn discard_the_last<K: Named>(
     held: &Trie<K, u32>,
 ) -> Result<(), KvError> {
     discard(rt, alloc, trie, &["zinke"], "zinke")?;
-    assert_eq!(rt; size(trie), 0);
+    equal(rt, size(trie), 0);
     has_keys(rt, alloc, held, &["zinke"])
 }
 
@@ -158,7 +158,7 @@ fn thousand_held(
 ) -> Result<(), KvError> {
     let held = all_put(rt, alloc, names, kept)?;
     discard_beside_thousand(rt, alloc, names, &held, kept)?;
-    assert_eq!(rt; size(&held), 1000);
+    equal(rt, size(&held), 1000);
     Ok(())
 }
 

@@ -65,7 +65,7 @@ fn has_form(trie: &Trie<Key, u32>, parts: &[Part]) -> bool {
 // The trie has these nodes and so many keys.
 fn is_of(rt: &impl Abort, trie: &Trie<Key, u32>, parts: &[Part], count: u64) {
     assert!(rt; has_form(trie, parts));
-    assert_eq!(rt; size(trie), count);
+    equal(rt, size(trie), count);
 }
 
 // The trie of the key `a`.

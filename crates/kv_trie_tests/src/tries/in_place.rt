@@ -74,7 +74,7 @@ pub fn has_keys<K: Named>(
         apart => apart?,
     };
     assert!(rt; is_same(trie, &apart));
-    assert_eq!(rt; size(trie), names.len() as u64);
+    equal(rt, size(trie), names.len() as u64);
     Ok(())
 }
 
@@ -87,8 +87,8 @@ pub fn has_names<K: Named>(
     last: u32,
 ) -> Result<(), KvError> {
     has_keys(rt, alloc, trie, &NAMES)?;
-    assert_eq!(rt; value_of(alloc, trie, "k0")?, Some(first));
-    assert_eq!(rt; value_of(alloc, trie, "zinke")?, Some(last));
+    equal(rt, value_of(alloc, trie, "k0")?, Some(first));
+    equal(rt, value_of(alloc, trie, "zinke")?, Some(last));
     Ok(())
 }
 
@@ -173,7 +173,7 @@ fn put_the_last_beside(
 ) -> Result<(), KvError> {
     put_here(rt, alloc, trie, &NAMES[..11], NAMES[11], 11)?;
     has_names(rt, alloc, trie, 0, 11)?;
-    assert_eq!(rt; size(held), 11);
-    assert_eq!(rt; value_of(alloc, held, "zinke")?, None);
+    equal(rt, size(held), 11);
+    equal(rt, value_of(alloc, held, "zinke")?, None);
     Ok(())
 }

@@ -90,8 +90,8 @@ fn stays<K: Named>(
     let rest = kept(rt, alloc, all, names, limit)?;
     let apart = made(alloc, names, values, limit)?;
     assert!(rt; is_same(&rest, &apart), "{limit}");
-    assert_eq!(rt; size(&rest), size(&apart));
-    assert_eq!(rt; size(all), names.len() as u64);
+    equal(rt, size(&rest), size(&apart));
+    equal(rt, size(all), names.len() as u64);
     Ok(rest)
 }
 
@@ -161,7 +161,7 @@ fn shared_children(trie: &Trie<Key, u32>) -> u64 {
 #[test]
 fn parts_are_shared(rt: HostRuntime) -> Result<(), Fail> {
     let all: Trie<Key, u32> = made(rt.alloc(), &WORKED, &[0, 1, 2, 3], 4)?;
-    assert_eq!(rt; shared_children(&all), 0);
+    equal(&rt, shared_children(&all), 0);
     shares_two(&rt, rt.alloc(), &all)?;
     shares_all(&rt, rt.alloc(), &all)?;
     Ok(())
@@ -169,14 +169,14 @@ fn parts_are_shared(rt: HostRuntime) -> Result<(), Fail> {
 
 fn shares_two(rt: &impl Abort, alloc: Global, all: &Trie<Key, u32>) -> Result<(), KvError> {
     let three = stays(rt, alloc, all, &WORKED, &[0, 1, 2, 3], 3)?;
-    assert_eq!(rt; shared_children(all), 2);
+    equal(rt, shared_children(all), 2);
     drop(three);
     Ok(())
 }
 
 fn shares_all(rt: &impl Abort, alloc: Global, all: &Trie<Key, u32>) -> Result<(), KvError> {
     let four = stays(rt, alloc, all, &WORKED, &[0, 1, 2, 3], 4)?;
-    assert_eq!(rt; shared_children(&four), 0);
+    equal(rt, shared_children(&four), 0);
     Ok(())
 }
 

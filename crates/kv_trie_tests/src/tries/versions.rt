@@ -49,7 +49,7 @@ fn has_at(
     value: Option<u32>,
 ) -> Result<(), KvError> {
     let key = key_of(alloc, text)?;
-    assert_eq!(rt; value_at(trie, &key), value);
+    equal(rt, value_at(trie, &key), value);
     Ok(())
 }
 
@@ -88,7 +88,7 @@ fn have_their_values(
     two: &Trie<Key, u32>,
     new: &Trie<Key, u32>,
 ) -> Result<(), KvError> {
-    assert_eq!(rt; size(new), 2);
+    equal(rt, size(new), 2);
     has_at(rt, alloc, new, "a", Some(3))?;
     has_at(rt, alloc, two, "a", Some(1))?;
     has_at(rt, alloc, one, "b", None)?;
@@ -105,7 +105,7 @@ fn is_rest(rt: &impl Abort, alloc: Global, rest: &Trie<Key, u32>) -> Result<(), 
     has_at(rt, alloc, rest, "b", None)?;
     let same = take(rt, alloc, rest, &["a"], "b")?;
     assert!(rt; is_same(&same, rest));
-    assert_eq!(rt; size(&same), 1);
+    equal(rt, size(&same), 1);
     Ok(())
 }
 
@@ -137,14 +137,14 @@ fn ten_keys_of_one_place(rt: HostRuntime) -> Result<(), Fail> {
     let ten = ten_keys(&rt, rt.alloc())?;
     shows_ten(&rt, &ten);
     leaves_one(&rt, rt.alloc(), &ten)?;
-    assert_eq!(rt; size(&ten), 10);
+    equal(&rt, size(&ten), 10);
     Ok(())
 }
 
 fn leaves_one(rt: &impl Abort, alloc: Global, ten: &Trie<Short, u32>) -> Result<(), KvError> {
     let last = one_left(rt, alloc, hold(ten)?)?;
     assert!(rt; !is_same(&last, ten));
-    assert_eq!(rt; size(&last), 1);
+    equal(rt, size(&last), 1);
     is_alone(rt, alloc, &last)
 }
 
@@ -158,16 +158,16 @@ fn is_alone(rt: &impl Abort, alloc: Global, last: &Trie<Short, u32>) -> Result<(
 // A walk through the ten keys shows each, or ends behind the first that it does not take in.
 fn shows_ten(rt: &impl Abort, ten: &Trie<Short, u32>) {
     let (result, counter) = counted(ten, 10);
-    assert_eq!(rt; result, Ok(()));
-    assert_eq!(rt; counter.shown, 10);
-    assert_eq!(rt; counter.sum, 45);
+    equal(rt, result, Ok(()));
+    equal(rt, counter.shown, 10);
+    equal(rt, counter.sum, 45);
     shows_four(rt, ten);
 }
 
 fn shows_four(rt: &impl Abort, ten: &Trie<Short, u32>) {
     let (result, counter) = counted(ten, 3);
-    assert_eq!(rt; result, Err(KvError::JournalFull));
-    assert_eq!(rt; counter.shown, 4);
+    equal(rt, result, Err(KvError::JournalFull));
+    equal(rt, counter.shown, 4);
 }
 
 // The three digits of a number, as a text.
@@ -236,7 +236,7 @@ pub fn is_earlier(
         Some(earlier) => assert!(rt; is_same(trie, &earlier), "{count}"),
         None => assert!(rt; false, "kept"),
     }
-    assert_eq!(rt; size(trie), count as u64);
+    equal(rt, size(trie), count as u64);
 }
 
 // The names are removed in reverse, and each trie that is made so is one of those before.
@@ -268,7 +268,7 @@ fn put_and_taken_again(
     kept: &mut Vec<Trie<Short, u32>>,
 ) -> Result<(), KvError> {
     let all = all_put(rt, alloc, names, kept)?;
-    assert_eq!(rt; size(&all), 1000);
+    equal(rt, size(&all), 1000);
     all_taken(rt, alloc, names, all, kept)
 }
 

@@ -20,7 +20,7 @@ fn gives(
 }
 
 fn reaches(rt: &impl Abort, cursor: &Cursor, now: &Version, reach: u64) {
-    assert_eq!(rt; cursor.reach(now), reach);
+    equal(rt, cursor.reach(now), reach);
     assert!(rt; !cursor.behind(now, reach));
 }
 

@@ -71,9 +71,10 @@ fn lists(
     let events = listed(alloc, now, base.revision(), filters, row)?;
     assert!(rt; events.starts_with(row.initial));
     assert!(rt; events.ends_with(row.live));
-    assert_eq!(rt;
+    equal(
+        rt,
         events.len().saturating_sub(row.live.len()),
-        row.initial.len()
+        row.initial.len(),
     );
     Ok(())
 }
@@ -81,7 +82,7 @@ fn lists(
 // The cursor hands out these items.
 fn hands_out(rt: &impl Abort, cursor: &mut Cursor, base: &Version, now: &Version, items: &[Event]) {
     for item in items {
-        assert_eq!(rt; step(rt, cursor, base, now), Some(*item));
+        equal(rt, step(rt, cursor, base, now), Some(*item));
     }
 }
 
@@ -94,15 +95,15 @@ fn hands_out_all(
     items: &[Event],
 ) {
     hands_out(rt, cursor, base, now, items);
-    assert_eq!(rt; step(rt, cursor, base, now), None);
+    equal(rt, step(rt, cursor, base, now), None);
     cursor.settle(now);
-    assert_eq!(rt; step(rt, cursor, base, now), None);
+    equal(rt, step(rt, cursor, base, now), None);
 }
 
 fn stands_at_its_beginning(rt: &impl Abort, cursor: &Cursor, options: Options) {
     let shown = cursor.options();
     assert!(rt; shown == options);
-    assert_eq!(rt; cursor.handed(), 0);
+    equal(rt, cursor.handed(), 0);
 }
 
 // The first part is handed out before the later writes are there, the rest behind them.

@@ -19,10 +19,10 @@ fn flags_make_options(rt: HostRuntime) {
         let options = Options::of_flags(history, updates, from, true, false);
         match (options, start) {
             (Ok(options), Ok(start)) => {
-                assert_eq!(rt; options.start, start);
+                equal(&rt, options.start, start);
                 assert!(rt; options.ignore_deletes && !options.headers_only);
             }
-            (Err(error), Err(other)) => assert_eq!(rt; error, other),
+            (Err(error), Err(other)) => equal(&rt, error, other),
             _ => assert!(rt; false, "another outcome"),
         }
     }

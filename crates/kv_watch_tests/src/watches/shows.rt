@@ -20,17 +20,17 @@ struct Parts<'a> {
 }
 
 fn has_name(rt: &impl Abort, entry: &Shown<'_>, key: &str, op: Op) {
-    assert_eq!(rt; entry.key().as_str(), key);
-    assert_eq!(rt; entry.op(), op);
+    equal(rt, entry.key().as_str(), key);
+    equal(rt, entry.op(), op);
 }
 
 fn has_numbers(rt: &impl Abort, entry: &Shown<'_>, revision: u64, size: u64) {
-    assert_eq!(rt; entry.revision(), revision);
-    assert_eq!(rt; entry.size(), size);
+    equal(rt, entry.revision(), revision);
+    equal(rt, entry.size(), size);
 }
 
 fn has_value(rt: &impl Abort, entry: &Shown<'_>, value: Option<&[u8]>) {
-    assert_eq!(rt; entry.value(), value);
+    equal(rt, entry.value(), value);
 }
 
 fn has_parts(rt: &impl Abort, entry: &Shown<'_>, parts: Parts<'_>) {
@@ -63,7 +63,7 @@ fn shows_put_and_delete(
     };
     shows(rt, &cursor.peek(Some(base), now), first);
     shows(rt, &cursor.take(Some(base), now), first);
-    assert_eq!(rt; step(rt, cursor, base, now), Some(Event::Marker));
+    equal(rt, step(rt, cursor, base, now), Some(Event::Marker));
     shows_delete(rt, &cursor.take(Some(base), now));
 }
 
@@ -153,7 +153,7 @@ fn looks_behind_its_beginning(
     passed: &Version,
 ) {
     for item in [Event::Entry { revision: 1 }, Event::Marker] {
-        assert_eq!(rt; step(rt, cursor, base, passed), Some(item));
+        equal(rt, step(rt, cursor, base, passed), Some(item));
         looks_at(rt, cursor, 2);
     }
     cursor.settle(passed);
@@ -161,17 +161,18 @@ fn looks_behind_its_beginning(
 }
 
 fn looks_at(rt: &impl Abort, cursor: &Cursor, revision: u64) {
-    assert_eq!(rt; cursor.next(), revision);
+    equal(rt, cursor.next(), revision);
 }
 
 // And then behind each live entry.
 fn looks_behind_the_third(rt: &impl Abort, cursor: &mut Cursor, base: &Version, now: &Version) {
-    assert_eq!(rt;
+    equal(
+        rt,
         step(rt, cursor, base, now),
-        Some(Event::Entry { revision: 3 })
+        Some(Event::Entry { revision: 3 }),
     );
     looks_at(rt, cursor, 4);
-    assert_eq!(rt; cursor.handed(), 3);
+    equal(rt, cursor.handed(), 3);
 }
 
 // Writes what the watch wants.
