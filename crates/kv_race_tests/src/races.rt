@@ -239,7 +239,7 @@ fn all_saw_what_is_given<R: Abort>(
     watches: &[(Filters, Options)],
     report: &Report,
 ) -> Result<(), KvError> {
-    equal(rt, report.seen.len(), watches.len());
+    assert_eq!(rt; report.seen.len(), watches.len());
     let writes = writes_of(alloc, &report.last)?;
     for place in 0..watches.len() {
         saw_what_is_given(rt, alloc, &writes, &watches[place], &report.seen[place])?;

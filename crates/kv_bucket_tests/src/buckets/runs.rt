@@ -283,7 +283,7 @@ fn many_calls(alloc: Global) -> Result<Vec<Call>, KvError> {
 }
 
 fn are_many(rt: &impl Abort, replies: &[Reply]) {
-    equal(rt, replies.len(), 10_001);
+    assert_eq!(rt; replies.len(), 10_001);
     are_answers(
         rt,
         &replies[9_999..],
