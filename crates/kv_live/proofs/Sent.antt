@@ -19,6 +19,7 @@ use Rattle.kv_live.specs.contracts.last.Last as Last
 use Rattle.kv_live.specs.contracts.publisher.Publisher as Publisher
 use Rattle.kv_live.specs.contracts.reader.Reader as Reader
 use Rattle.kv_live.specs.contracts.receipt.Receipt as Receipt
+use Rattle.kv_live.specs.contracts.recent.Recent as Recent
 use Rattle.kv_live.specs.contracts.shelf.Shelf as Shelf
 use Rattle.kv_live.proofs.front.Front.TheSendSync as front
 use Rattle.kv_live.proofs.front.Glimpse.TheSendSync as glimpse
@@ -37,6 +38,9 @@ shelf_sync = let v = version_sync in search (sendable, glimpse.the_field_sync) d
 
 bucket_send : IsSend Bucket.the_row
 bucket_send = let v = version_send in let c = cursor.the_send in search (sendable, crosses) depth 20
+
+recent_send : IsSend (Recent.the_field).row
+recent_send = let v = version_send in search (sendable, crosses) depth 20
 
 held_send : IsSend (Held.the_field).row
 held_send = let h = shelf_send in let v = version_send in search (sendable, crosses) depth 20
@@ -79,7 +83,7 @@ module _ (N : RattleType) (g : live_name.Ghosts N.Denot) (s : IsSend N) (y : IsS
   copies_send = let h = shelf_send in let i = shelf_sync in search (sendable, crosses, writer.the_send, writer.the_field_send, head.the_field_send) depth 20
 
   publisher_send : IsSend (Publisher.the_row N g)
-  publisher_send = let h = shelf_send in let c = copies_send in let b = bell_send in search (sendable, crosses, front.the_send) depth 20
+  publisher_send = let h = shelf_send in let c = copies_send in let b = bell_send in let r = recent_send in search (sendable, crosses, front.the_send) depth 20
 
   keeper_send : IsSend (Keeper.the_row N g)
   keeper_send = let b = bucket_send in let p = publisher_send in search (sendable, crosses) depth 20

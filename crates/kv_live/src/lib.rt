@@ -16,6 +16,7 @@ mod live;
 mod publisher;
 mod reader;
 mod receipt;
+mod recent;
 mod rule;
 mod shelf;
 

@@ -16,6 +16,7 @@ use crate::history::{Blank, Head, LiveName};
 use crate::last::Last;
 use crate::reader::Reader;
 use crate::receipt::Receipt;
+use crate::recent::Recent;
 use crate::shelf::Shelf;
 use kv_keys::KvError;
 use kv_store::Version;
@@ -41,6 +42,8 @@ pub struct Publisher<N: LiveName> {
     noted: Front<N>,
     /// `None` once an act could not be published that the history has. That never comes.
     copies: Option<Copies<N>>,
+    /// The versions that were published last.
+    recent: Recent,
 }
 
 impl<N: LiveName> Model for Publisher<N> {
@@ -152,6 +155,7 @@ impl<N: LiveName> Publisher<N> {
             noted: front.again(),
             front,
             copies: Some(copies),
+            recent: Recent::new(),
         })
     }
 
@@ -172,8 +176,10 @@ impl<N: LiveName> Publisher<N> {
             front,
             noted,
             copies: place,
+            recent,
             ..
         } = self;
+        recent.add(next);
         let (copies, shown) = show::<N, R>(rt, bell, front, noted, copies, deed, next);
         put(rt, place, copies);
         shown
@@ -246,6 +252,7 @@ impl<N: LiveName> Publisher<N> {
             front,
             noted: _,
             copies,
+            recent: _,
         } = self;
         if let Ok(version) = version.snapshot() {
             bell.leave(Last::new(Shelf::new(version, front.glimpse())));
