@@ -1,10 +1,11 @@
-//! What tests of followers have in common: a write, a watch from the empty bucket, and its items to the end.
+//! What tests of followers have in common: a write, a reader, a watch of its own, and its items to the end.
 
 use kv_live::{
     Feed, Filters, Key, KvError, Live, LiveName, Options, Reader, Request, Start, Taken,
 };
 use std::alloc::Global;
 use std::sync::Wait;
+use std::sync::atomic::{AtomicU64, Ordering};
 
 const LATEST: Options = Options {
     start: Start::Latest,
@@ -12,22 +13,47 @@ const LATEST: Options = Options {
     headers_only: false,
 };
 
-pub fn put<N: LiveName, R: Wait>(
-    rt: &R,
-    alloc: Global,
-    live: &Live<N>,
-    key: &str,
-) -> Result<u64, KvError> {
-    let key = Key::parse(alloc, key)?;
+pub fn put<N: LiveName, R: Wait>(rt: &R, alloc: Global, live: &Live<N>) -> Result<u64, KvError> {
+    let key = Key::parse(alloc, "app.port")?;
     let value = Vec::from_slice(alloc, b"80")?;
     live.write(rt, &Request::Put { key, value })
 }
 
-pub fn watch<N: LiveName>(reader: Reader<N>, filters: &Filters) -> Result<Feed<N>, KvError> {
-    match reader.watch_from_empty(filters, LATEST) {
+// A reader at a place that is free.
+pub fn seat<N: LiveName, R: Wait>(rt: &R, live: &Live<N>) -> Result<Reader<N>, KvError> {
+    live.lock(rt).reader()
+}
+
+// Where a feed begins.
+#[derive(Clone, Copy)]
+pub enum From {
+    EmptyBucket,
+    ItsReader,
+}
+
+pub fn watch<N: LiveName>(
+    reader: Reader<N>,
+    filters: &Filters,
+    from: From,
+) -> Result<Feed<N>, KvError> {
+    let opened = match from {
+        From::EmptyBucket => reader.watch_from_empty(filters, LATEST),
+        From::ItsReader => reader.watch(filters, LATEST),
+    };
+    match opened {
         Ok(feed) => Ok(feed),
         Err((_, refusal)) => Err(refusal),
     }
+}
+
+// A feed of a reader of its own, which has yet to look at any write.
+pub fn watch_all<N: LiveName, R: Wait>(
+    rt: &R,
+    alloc: Global,
+    live: &Live<N>,
+) -> Result<Feed<N>, KvError> {
+    let filters = Filters::parse(alloc, "app.>")?;
+    watch(seat(rt, live)?, &filters, From::EmptyBucket)
 }
 
 // Whether an item comes after all that came before it. The revisions of entries rise one by one.
@@ -41,8 +67,13 @@ fn is_next(item: Taken<'_>, last: &mut u64) -> bool {
     }
 }
 
-// How many items it was handed, or 0 where one was left out or out of order.
-pub fn follow_to_the_end<N: LiveName, R: Wait>(rt: &R, feed: &mut Feed<N>) -> Result<u64, KvError> {
+// How many items it was handed, or 0 where one was left out or out of order. Each is counted, and who waits for that
+// is woken.
+pub fn follow_to_the_end<N: LiveName, R: Wait>(
+    rt: &R,
+    feed: &mut Feed<N>,
+    handed: &AtomicU64,
+) -> Result<u64, KvError> {
     let mut last = 0;
     for _ in rt.forever() {
         match feed.next(rt)? {
@@ -53,6 +84,8 @@ pub fn follow_to_the_end<N: LiveName, R: Wait>(rt: &R, feed: &mut Feed<N>) -> Re
                 }
             }
         }
+        handed.fetch_add(1, Ordering::SeqCst);
+        handed.wake_all();
     }
     Ok(0)
 }

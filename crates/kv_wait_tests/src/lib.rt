@@ -8,6 +8,8 @@ mod equal;
 #[cfg(test)]
 mod following;
 #[cfg(test)]
+mod opening;
+#[cfg(test)]
 mod rounds;
 #[cfg(test)]
 mod sleepers;

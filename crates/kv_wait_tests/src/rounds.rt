@@ -1,15 +1,13 @@
-//! Followers in `next` beside a writer that pauses, waits for each to be handed its write, or does nothing. The threads
-//! wait for one another, so no request for memory is refused to them.
-
-ghost use Rattle.std.specs.Prelude.{◌≡◌};
+//! Four followers in `next` beside two writers. The threads wait for one another, so no request for memory is refused to
+//! them.
 
 use crate::equal::equal;
-use kv_live::{
-    Config, Feed, Filters, Key, KvError, Live, LiveName, Opened, Options, Reader, Request, Start,
-    Taken,
-};
+use crate::following::{follow_to_the_end, put, watch_all};
+use crate::opening::{Row, run};
+use crate::sleepers::pause;
+use kv_live::{KvError, Live, LiveName};
 use std::alloc::Global;
-use std::marker::Brand;
+use std::process::Abort;
 use std::rt::Clock;
 use std::sync::Wait;
 use std::sync::atomic::{AtomicU64, Ordering};
@@ -18,268 +16,201 @@ use std::thread;
 use std::thread::{Threads, join};
 use std::time::{CpuClock, Duration};
 
-const LATEST: Options = Options {
-    start: Start::Latest,
-    ignore_deletes: false,
-    headers_only: false,
-};
-
-// What the threads do.
+// What a writer does.
 #[derive(Clone, Copy)]
-enum Plan {
-    // So many writes, with a pause after each tenth, and a seal, which wakes the followers and gives them nothing.
+pub enum Plan {
+    // So many writes, with a pause after each thousandth.
     Pauses(u64),
-    // So many writes, each once the one before was handed out.
+    // So many writes, each once all four were handed the one before.
     Rounds(u64),
-    // A second without writes.
+    // A write, and a second without one.
     Idle,
 }
 
-// What the two followers were handed, and the microseconds that the processor spent over the idle second.
-#[derive(Clone, Copy, Debug, PartialEq, Eq)]
-struct Told {
-    one: u64,
-    two: u64,
-    idle: u64,
+fn write<N: LiveName, R: Wait + Clock + CpuClock + Abort>(
+    rt: &R,
+    alloc: Global,
+    live: &Live<N>,
+    handed: &AtomicU64,
+    plan: Plan,
+) -> Result<(), KvError> {
+    match plan {
+        Plan::Pauses(count) => write_with_pauses(rt, alloc, live, count),
+        Plan::Rounds(count) => write_in_rounds(rt, alloc, live, handed, count),
+        Plan::Idle => write_once(rt, alloc, live),
+    }
 }
 
-fn put<N: LiveName, R: Wait>(rt: &R, alloc: Global, live: &Live<N>) -> Result<u64, KvError> {
-    let key = Key::parse(alloc, "app.port")?;
-    let value = Vec::from_slice(alloc, b"80")?;
-    live.write(rt, &Request::Put { key, value })
+fn write_with_pauses<N: LiveName, R: Wait + Clock>(
+    rt: &R,
+    alloc: Global,
+    live: &Live<N>,
+    count: u64,
+) -> Result<(), KvError> {
+    for n in 0..count {
+        put(rt, alloc, live)?;
+        if n % 1000 == 0 {
+            thread::sleep(rt, Duration::from_millis(1));
+        }
+    }
+    Ok(())
 }
 
-fn wait_for<R: Wait>(rt: &R, acks: &AtomicU64, revision: u64) {
+fn write_in_rounds<N: LiveName, R: Wait>(
+    rt: &R,
+    alloc: Global,
+    live: &Live<N>,
+    handed: &AtomicU64,
+    count: u64,
+) -> Result<(), KvError> {
+    for _ in 0..count {
+        let revision = put(rt, alloc, live)?;
+        // the marker, and the writes
+        let items = revision.saturating_add(1);
+        wait_for(rt, handed, items.saturating_mul(4));
+    }
+    Ok(())
+}
+
+fn wait_for<R: Wait>(rt: &R, handed: &AtomicU64, items: u64) {
     for _ in rt.forever() {
-        let seen = acks.load(Ordering::SeqCst);
-        if seen >= revision {
+        let seen = handed.load(Ordering::SeqCst);
+        if seen >= items {
             return;
         }
-        acks.park(rt, (seen & 0xffff_ffff) as u32);
+        handed.park(rt, (seen & 0xffff_ffff) as u32);
     }
 }
 
-fn pause<R: Clock>(rt: &R, millis: u64) {
-    thread::sleep(rt, Duration::from_millis(millis));
-}
-
-fn micros(time: Duration) -> u64 {
-    u64::try_from(time.as_micros()).unwrap_or(u64::MAX)
-}
-
-fn run<N: LiveName, R: Wait + Clock + CpuClock>(
+// The processor spends less than ten milliseconds over a second in which all four sleep.
+fn write_once<N: LiveName, R: Wait + Clock + CpuClock + Abort>(
     rt: &R,
     alloc: Global,
     live: &Live<N>,
-    acks: (&AtomicU64, &AtomicU64),
+) -> Result<(), KvError> {
+    put(rt, alloc, live)?;
+    thread::sleep(rt, Duration::from_millis(100));
+    let before = rt.process_cpu_time().unwrap_or(Duration::ZERO);
+    thread::sleep(rt, Duration::from_millis(1000));
+    let after = rt.process_cpu_time().unwrap_or(Duration::MAX);
+    assert!(rt; after.saturating_sub(before) < Duration::from_millis(10));
+    Ok(())
+}
+
+// The last of both writers ends the waits, behind a seal, which wakes the followers and gives them nothing.
+fn write_to_the_end<N: LiveName, R: Wait + Clock + CpuClock + Abort>(
+    rt: &R,
+    alloc: Global,
+    live: &Live<N>,
+    (handed, ended): (&AtomicU64, &AtomicU64),
     plan: Plan,
-) -> Result<u64, KvError> {
-    match plan {
-        Plan::Pauses(count) => {
-            for i in 0..count {
-                put(rt, alloc, live)?;
-                if i % 10 == 0 {
-                    pause(rt, 1);
-                }
-            }
-            live.seal(rt)?;
-            Ok(0)
-        }
-        Plan::Rounds(count) => {
-            for _ in 0..count {
-                let revision = put(rt, alloc, live)?;
-                wait_for(rt, acks.0, revision);
-                wait_for(rt, acks.1, revision);
-            }
-            Ok(0)
-        }
-        Plan::Idle => {
-            put(rt, alloc, live)?;
-            pause(rt, 100);
-            let before = rt.process_cpu_time().unwrap_or(Duration::ZERO);
-            pause(rt, 1000);
-            let after = rt.process_cpu_time().unwrap_or(Duration::MAX);
-            Ok(micros(after.saturating_sub(before)))
-        }
+) -> Result<(), KvError> {
+    let written = write(rt, alloc, live, handed, plan);
+    if ended.fetch_add(1, Ordering::SeqCst) == 0 {
+        return written;
     }
-}
-
-// Writes, and tells the followers that this was all.
-fn serve<N: LiveName, R: Wait + Clock + CpuClock>(
-    rt: &R,
-    alloc: Global,
-    live: &Live<N>,
-    acks: (&AtomicU64, &AtomicU64),
-    plan: Plan,
-) -> Result<u64, KvError> {
-    let done = run(rt, alloc, live, acks, plan);
+    let sealed = live.seal(rt);
+    pause(rt);
     live.finish();
-    done
+    written?;
+    sealed
 }
 
-fn follow<N: LiveName, R: Wait>(rt: &R, feed: Feed<N>, ack: &AtomicU64) -> Result<u64, KvError> {
-    let mut feed = feed;
-    follow_to_the_end(rt, &mut feed, ack)
-}
-
-// How many items it was handed, or 0 where one was out of order.
-fn follow_to_the_end<N: LiveName, R: Wait>(
-    rt: &R,
-    feed: &mut Feed<N>,
-    ack: &AtomicU64,
-) -> Result<u64, KvError> {
-    let mut last = 0;
-    for _ in rt.forever() {
-        match feed.next(rt)? {
-            Taken::Entry(shown) => {
-                if shown.revision() <= last {
-                    return Ok(0);
-                }
-                last = shown.revision();
-                ack.store(last, Ordering::SeqCst);
-                ack.wake_all();
-            }
-            Taken::Marker => {}
-            Taken::Empty => return Ok(feed.handed()),
-        }
-    }
-    Ok(0)
-}
-
-// The second follower, beside the writer.
-fn serve_a_follower<N: LiveName + Send + Sync, R: Threads + Wait + Sync + Clock + CpuClock>(
+fn follow<N: LiveName, R: Wait + Abort>(
     rt: &R,
     alloc: Global,
     live: &Live<N>,
-    feed: Feed<N>,
-    acks: (&AtomicU64, &AtomicU64),
+    handed: &AtomicU64,
+    all: u64,
+) -> Result<(), KvError> {
+    let mut feed = watch_all(rt, alloc, live)?;
+    equal(rt, follow_to_the_end(rt, &mut feed, handed)?, all);
+    Ok(())
+}
+
+fn write_beside_one<N: LiveName + Send + Sync, R: Threads + Wait + Clock + CpuClock + Abort + Sync>(
+    rt: &R,
+    alloc: Global,
+    live: &Live<N>,
+    handed: &AtomicU64,
+    ended: &AtomicU64,
     plan: Plan,
-) -> Result<(u64, u64), KvError> {
-    let ack = acks.1;
-    let (followed, served) = join(
+    all: u64,
+) -> Result<(), KvError> {
+    let (followed, written) = join(
         rt,
-        || follow(rt, feed, ack),
-        || serve(rt, alloc, live, acks, plan),
+        || follow(rt, alloc, live, handed, all),
+        || write_to_the_end(rt, alloc, live, (handed, ended), plan),
     );
-    Ok((followed?, served?))
+    followed?;
+    written
 }
 
-fn share<N: LiveName + Send + Sync, R: Threads + Wait + Sync + Clock + CpuClock>(
+fn write_beside_two<N: LiveName + Send + Sync, R: Threads + Wait + Clock + CpuClock + Abort + Sync>(
     rt: &R,
     alloc: Global,
     live: &Live<N>,
-    one: Feed<N>,
-    two: Feed<N>,
+    handed: &AtomicU64,
+    ended: &AtomicU64,
     plan: Plan,
-) -> Result<Told, KvError> {
-    let first = AtomicU64::new(0);
-    let second = AtomicU64::new(0);
-    let ack = &first;
-    let acks = (&first, &second);
-    let (followed, served) = join(
+    all: u64,
+) -> Result<(), KvError> {
+    let (followed, written) = join(
         rt,
-        || follow(rt, one, ack),
-        || serve_a_follower(rt, alloc, live, two, acks, plan),
+        || follow(rt, alloc, live, handed, all),
+        || write_beside_one(rt, alloc, live, handed, ended, plan, all),
     );
-    let one = followed?;
-    let (two, idle) = served?;
-    Ok(Told { one, two, idle })
+    followed?;
+    written
 }
 
-fn feed<N: LiveName>(reader: Reader<N>, filters: &Filters) -> Result<Feed<N>, KvError> {
-    match reader.watch_from_empty(filters, LATEST) {
-        Ok(feed) => Ok(feed),
-        Err((_, refusal)) => Err(refusal),
-    }
-}
-
-fn feed_with<N: LiveName>(
-    readers: &mut Vec<Reader<N>>,
-    filters: &Filters,
-) -> Result<Feed<N>, KvError> {
-    match readers.pop() {
-        Some(reader) => feed(reader, filters),
-        None => Err(KvError::NoReader),
-    }
-}
-
-fn feed_twice<N: LiveName>(
-    readers: &mut Vec<Reader<N>>,
-    filters: &Filters,
-) -> Result<(Feed<N>, Feed<N>), KvError> {
-    let one = feed_with(readers, filters)?;
-    let two = feed_with(readers, filters)?;
-    Ok((one, two))
-}
-
-fn feeds_with<N: LiveName>(
-    alloc: Global,
-    readers: &mut Vec<Reader<N>>,
-) -> Result<(Feed<N>, Feed<N>), KvError> {
-    let filters = Filters::parse(alloc, "app.>")?;
-    feed_twice(readers, &filters)
-}
-
-fn feeds<N: LiveName>(
-    alloc: Global,
-    readers: Vec<Reader<N>>,
-) -> Result<(Feed<N>, Feed<N>), KvError> {
-    let mut readers = readers;
-    feeds_with(alloc, &mut readers)
-}
-
-fn serve_readers<N: LiveName + Send + Sync, R: Threads + Wait + Sync + Clock + CpuClock>(
+// Each follower is handed all, and each writer has two of them beside it.
+pub fn follow_four<N: LiveName + Send + Sync, R: Threads + Wait + Clock + CpuClock + Abort + Sync>(
     rt: &R,
     alloc: Global,
     live: &Live<N>,
-    readers: Vec<Reader<N>>,
-    plan: Plan,
-) -> Result<Told, KvError> {
-    let (one, two) = feeds(alloc, readers)?;
-    share(rt, alloc, live, one, two, plan)
+    (plan, others): (Plan, u64),
+    all: u64,
+) -> Result<(), KvError> {
+    let handed = AtomicU64::new(0);
+    let ended = AtomicU64::new(0);
+    follow_beside(rt, alloc, live, &handed, &ended, (plan, others), all)
 }
 
-fn opened_and_served<N: LiveName + Send + Sync, R: Threads + Wait + Sync + Clock + CpuClock>(
+fn follow_beside<N: LiveName + Send + Sync, R: Threads + Wait + Clock + CpuClock + Abort + Sync>(
     rt: &R,
     alloc: Global,
-    opened: Opened,
-    plan: Plan,
-) -> Result<Told, KvError>
-    requires { opened.opening ≡ N.opening }
-{
-    let (live, readers) = opened.live::<N, R>(rt)?;
-    let done = serve_readers(rt, alloc, &live, readers, plan);
-    live.close(rt);
-    done
-}
-
-fn served<R: Threads + Wait + Sync + Clock + CpuClock>(
-    rt: &R,
-    alloc: Global,
-    plan: Plan,
-) -> Result<Told, KvError> {
-    let opened = Live::open(alloc, &Config::named(alloc, "settings")?, 2)?;
-    opened_and_served::<Brand, R>(rt, alloc, opened, plan)
+    live: &Live<N>,
+    handed: &AtomicU64,
+    ended: &AtomicU64,
+    (plan, others): (Plan, u64),
+    all: u64,
+) -> Result<(), KvError> {
+    let (followed, beside) = join(
+        rt,
+        || write_beside_two(rt, alloc, live, handed, ended, Plan::Pauses(others), all),
+        || write_beside_two(rt, alloc, live, handed, ended, plan, all),
+    );
+    followed?;
+    beside
 }
 
 #[test]
-fn two_followers_and_a_writer_with_pauses(rt: HostRuntime) -> Result<(), Fail> {
-    let told = served(&rt, rt.alloc(), Plan::Pauses(2000))?;
-    equal(&rt, (told.one, told.two), (2001, 2001));
+fn four_followers_and_two_writers(rt: HostRuntime) -> Result<(), Fail> {
+    let row = Row::Followers(Plan::Pauses(50_000), 50_000, 100_001);
+    run(&rt, rt.alloc(), row)?;
     Ok(())
 }
 
 #[test]
 fn no_wake_up_is_lost(rt: HostRuntime) -> Result<(), Fail> {
-    let told = served(&rt, rt.alloc(), Plan::Rounds(10_000))?;
-    equal(&rt, (told.one, told.two), (10_001, 10_001));
+    let row = Row::Followers(Plan::Rounds(10_000), 0, 10_001);
+    run(&rt, rt.alloc(), row)?;
     Ok(())
 }
 
 #[test]
 fn a_sleeper_takes_no_processor_time(rt: HostRuntime) -> Result<(), Fail> {
-    let told = served(&rt, rt.alloc(), Plan::Idle)?;
-    equal(&rt, (told.one, told.two), (2, 2));
-    assert!(rt; told.idle < 10_000);
+    run(&rt, rt.alloc(), Row::Followers(Plan::Idle, 0, 2))?;
     Ok(())
 }

@@ -2,12 +2,12 @@ use denote.Param.{param}
 use denote.Param.Send.{sendable}
 use Rattle.std.proofs.Crossing.{crosses}
 use Rattle.kv_keys.proofs.error.KvError.TheSendSync as error
-use Rattle.kv_live.proofs.Sent.{feed_send}
-use Rattle.kv_wait_tests.proofs.sleepers.write_beside_two.Goals as goal
+use Rattle.kv_live.proofs.Sent.{live_sync}
+use Rattle.kv_wait_tests.proofs.rounds.write_beside_one.Goals as goal
 
 pub join-followed-requires-send-F : goal.join-followed-requires-send-F
 join-followed-requires-send-F g c κs within =
-    let held = feed_send (param 0 g.row.N) g.N.LiveName c.type_bounds.send-N c.type_bounds.sync-N in
+    let live = live_sync (param 0 g.row.N) g.N.LiveName c.type_bounds.send-N c.type_bounds.sync-N in
     let rt = c.type_bounds.sync-R in
     search (sendable, crosses) depth 20
 

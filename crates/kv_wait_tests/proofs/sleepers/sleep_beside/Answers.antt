@@ -3,13 +3,13 @@ use denote.Param.Send.{sendable}
 use Rattle.std.proofs.Crossing.{crosses}
 use Rattle.kv_keys.proofs.error.KvError.TheSendSync as error
 use Rattle.kv_live.proofs.Sent.{live_sync}
-use Rattle.kv_wait_tests.proofs.sleepers.revision.Goals as goal
+use Rattle.kv_wait_tests.proofs.sleepers.sleep_beside.Goals as goal
 
-pub join-written-requires-send-F : goal.join-written-requires-send-F
-join-written-requires-send-F g c κs within =
+pub join-disturbed-requires-send-F : goal.join-disturbed-requires-send-F
+join-disturbed-requires-send-F g c κs within =
     let live = live_sync (param 0 g.row.N) g.N.LiveName c.type_bounds.send-N c.type_bounds.sync-N in
     let rt = c.type_bounds.sync-R in
     search (sendable, crosses) depth 20
 
-pub join-written-requires-send-A : goal.join-written-requires-send-A
-join-written-requires-send-A g c κs within = search (sendable, crosses, error.the_send) depth 30
+pub join-disturbed-requires-send-A : goal.join-disturbed-requires-send-A
+join-disturbed-requires-send-A g c κs within = search (sendable, crosses, error.the_send) depth 30

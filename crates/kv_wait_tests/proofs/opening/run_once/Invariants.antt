@@ -1,4 +1,4 @@
-use Rattle.kv_wait_tests.proofs.waits.run_once.Given as goal
+use Rattle.kv_wait_tests.proofs.opening.run_once.Given as goal
 
 -- the opening that was just made
 abbrev pub ghosts-run_on : goal.ghosts-run_on
