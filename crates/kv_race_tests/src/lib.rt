@@ -1,4 +1,4 @@
-//! Tests of races by worked rows, and nothing else. They use public calls alone.
+//! Tests of races, and nothing else. They use public calls alone.
 #![tactic(auto)]
 
 #[cfg(test)]

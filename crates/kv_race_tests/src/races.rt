@@ -15,7 +15,6 @@ use std::thread::Threads;
 mod audit;
 mod gates;
 mod refusals;
-mod rows;
 
 const LATEST: Options = Options {
     start: Start::Latest,
@@ -26,8 +25,6 @@ const LATEST: Options = Options {
 // What is run.
 #[derive(Clone, Copy)]
 enum Row {
-    OneWorker,
-    FourWorkers,
     Meeting,
     Between,
     Sleeping,
@@ -48,8 +45,6 @@ fn run_once<R: Threads + Wait + Abort + Sync>(
     row: Row,
 ) -> Result<(), KvError> {
     match row {
-        Row::OneWorker => rows::one_worker(rt, alloc),
-        Row::FourWorkers => rows::four_workers(rt, alloc),
         Row::Meeting => gates::all_meet(rt, alloc),
         Row::Between => gates::round_between(rt, alloc),
         Row::Sleeping => gates::sleeps_until_written(rt, alloc),

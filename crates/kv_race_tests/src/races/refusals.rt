@@ -58,24 +58,23 @@ fn refused<R: Threads + Wait + Sync>(
     }
 }
 
+// The bucket's name, how many workers and watches, and the answer.
+const REFUSALS: [(&str, usize, usize, Result<(), KvError>); 8] = [
+    ("kv", 1, 0, Ok(())),
+    ("kv", 16, 1, Ok(())),
+    ("kv", 0, 1, Err(KvError::BadConfig)),
+    ("kv", 17, 1, Err(KvError::BadConfig)),
+    ("kv", 17, 33, Err(KvError::BadConfig)),
+    ("kv", 16, 33, Err(KvError::NoReader)),
+    ("my.bucket", 0, 33, Err(KvError::BadBucket)),
+    ("my.bucket", 16, 33, Err(KvError::BadBucket)),
+];
+
 #[test]
 fn refusals_in_their_order(rt: HostRuntime) -> Result<(), Fail> {
-    let rows = [
-        ("kv", 1, 0, Ok(())),
-        ("kv", 16, 1, Ok(())),
-        ("kv", 0, 1, Err(KvError::BadConfig)),
-        ("kv", 17, 1, Err(KvError::BadConfig)),
-        ("kv", 17, 33, Err(KvError::BadConfig)),
-        ("kv", 16, 33, Err(KvError::NoReader)),
-        ("my.bucket", 0, 33, Err(KvError::BadBucket)),
-        ("my.bucket", 16, 33, Err(KvError::BadBucket)),
-    ];
-    for (name, workers, watches, answer) in rows {
-        equal(
-            &rt,
-            refused(&rt, rt.alloc(), name, workers, watches),
-            answer,
-        );
+    let alloc = rt.alloc();
+    for (name, workers, watches, answer) in REFUSALS {
+        equal(&rt, refused(&rt, alloc, name, workers, watches), answer);
     }
     Ok(())
 }
