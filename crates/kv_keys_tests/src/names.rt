@@ -14,66 +14,100 @@ mod refusals;
 mod values;
 mod wildcards;
 
-fn key_once(alloc: Global, text: &str) -> Result<Key, KvError> {
-    Key::parse(alloc, text)
+// What is made of a text: keys, filters and lists of filters.
+trait Parsed: Drop {
+    fn parsed(alloc: Global, text: &str) -> Result<Self, KvError>;
+
+    fn copied(&self, alloc: Global) -> Result<Self, KvError>;
+
+    fn text(&self) -> &str;
+    // How many filters it is.
+    fn filters(&self) -> u64;
 }
 
-fn key(alloc: Global, text: &str) -> Result<Key, KvError> {
-    match key_once(alloc, text) {
-        Err(KvError::OutOfMemory) => key_once(alloc, text),
+impl Parsed for Key {
+    fn parsed(alloc: Global, text: &str) -> Result<Key, KvError> {
+        Key::parse(alloc, text)
+    }
+
+    fn copied(&self, alloc: Global) -> Result<Key, KvError> {
+        self.copy(alloc)
+    }
+
+    fn text(&self) -> &str {
+        self.as_str()
+    }
+
+    fn filters(&self) -> u64 {
+        1
+    }
+}
+
+impl Parsed for Filter {
+    fn parsed(alloc: Global, text: &str) -> Result<Filter, KvError> {
+        Filter::parse(alloc, text)
+    }
+
+    fn copied(&self, alloc: Global) -> Result<Filter, KvError> {
+        self.copy(alloc)
+    }
+
+    fn text(&self) -> &str {
+        self.as_str()
+    }
+
+    fn filters(&self) -> u64 {
+        1
+    }
+}
+
+impl Parsed for Filters {
+    fn parsed(alloc: Global, text: &str) -> Result<Filters, KvError> {
+        Filters::parse(alloc, text)
+    }
+
+    fn copied(&self, alloc: Global) -> Result<Filters, KvError> {
+        self.copy(alloc)
+    }
+
+    fn text(&self) -> &str {
+        self.as_str()
+    }
+
+    fn filters(&self) -> u64 {
+        self.count()
+    }
+}
+
+fn made<T: Parsed>(alloc: Global, text: &str) -> Result<T, KvError> {
+    match T::parsed(alloc, text) {
+        Err(KvError::OutOfMemory) => T::parsed(alloc, text),
         parsed => parsed,
     }
 }
 
-fn filter_once(alloc: Global, text: &str) -> Result<Filter, KvError> {
-    Filter::parse(alloc, text)
-}
-
-fn filter(alloc: Global, text: &str) -> Result<Filter, KvError> {
-    match filter_once(alloc, text) {
-        Err(KvError::OutOfMemory) => filter_once(alloc, text),
-        parsed => parsed,
+fn push(text: &mut String, part: &str) -> Result<(), AllocError> {
+    match text.push_str(part) {
+        Ok(()) => Ok(()),
+        Err(_) => text.push_str(part),
     }
 }
 
-fn filters_once(alloc: Global, text: &str) -> Result<Filters, KvError> {
-    Filters::parse(alloc, text)
-}
-
-fn filters(alloc: Global, text: &str) -> Result<Filters, KvError> {
-    match filters_once(alloc, text) {
-        Err(KvError::OutOfMemory) => filters_once(alloc, text),
-        parsed => parsed,
-    }
-}
-
-fn count(list: &Filters) -> u64 {
-    list.count()
-}
-
-fn list_matches(list: &Filters, key: &Key) -> bool {
-    list.matches(key)
-}
-
-// `count` times `part`, and then `end`.
-fn repeated(alloc: Global, part: &str, count: u64, end: &str) -> Result<String, AllocError> {
+// `count` times `part` behind `start`, and then `end`.
+fn repeated(
+    alloc: Global,
+    start: &str,
+    part: &str,
+    count: u64,
+    end: &str,
+) -> Result<String, AllocError> {
     let mut text = String::new(alloc);
+    push(&mut text, start)?;
     for _ in 0..count {
-        if text.push_str(part).is_err() {
-            text.push_str(part)?;
-        }
+        push(&mut text, part)?;
     }
-    if text.push_str(end).is_err() {
-        text.push_str(end)?;
-    }
+    push(&mut text, end)?;
     Ok(text)
-}
-
-fn is_refused<T: Drop>(outcome: Result<T, KvError>, refusal: KvError) -> bool {
-    match outcome {
-        Ok(_) => false,
-        Err(error) => error == refusal,
-    }
 }
 
 // Ends the test where what was found is not what was wanted. A call of it is proved sooner than `assert_eq!` in its place.

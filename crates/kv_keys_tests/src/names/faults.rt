@@ -2,290 +2,188 @@
 
 use super::*;
 
-fn expect_key(rt: &impl Abort, alloc: Global, text: &str) -> Result<(), KvError> {
-    let parsed = key(alloc, text)?;
-    equal(rt, parsed.as_str(), text);
-    Ok(())
-}
+// How many filters a text is as a key, as a filter and as a list of filters: 0 where it is none.
+type Kind = [u64; 3];
 
-fn expect_filter(rt: &impl Abort, alloc: Global, text: &str) -> Result<(), KvError> {
-    let parsed = filter(alloc, text)?;
-    equal(rt, parsed.as_str(), text);
-    Ok(())
-}
+const KEY: Kind = [1, 1, 1];
 
-fn has_text_and_count(rt: &impl Abort, list: &Filters, text: &str, count: u64) {
-    equal(rt, list.as_str(), text);
-    equal(rt, super::count(list), count);
-}
+const PATTERN: Kind = [0, 1, 1];
 
-fn expect_filters(rt: &impl Abort, alloc: Global, text: &str, count: u64) -> Result<(), KvError> {
-    let parsed = filters(alloc, text)?;
-    has_text_and_count(rt, &parsed, text, count);
-    Ok(())
-}
+const NOTHING: Kind = [0, 0, 0];
 
-fn is_no_key(alloc: Global, text: &str) -> bool {
-    is_refused(key(alloc, text), KvError::BadKey)
-}
-
-fn expect_no_key(rt: &impl Abort, alloc: Global, text: &str) {
-    assert!(rt; is_no_key(alloc, text), "{text}");
-}
-
-fn is_no_list(alloc: Global, text: &str) -> bool {
-    is_refused(filters(alloc, text), KvError::BadFilter)
-}
-
-fn expect_no_filters(rt: &impl Abort, alloc: Global, text: &str) {
-    assert!(rt; is_no_list(alloc, text), "{text}");
-}
-
-fn is_no_filter(alloc: Global, text: &str) -> bool {
-    is_refused(filter(alloc, text), KvError::BadFilter)
-}
-
-fn expect_no_filter(rt: &impl Abort, alloc: Global, text: &str) {
-    assert!(rt; is_no_filter(alloc, text), "{text}");
-}
-
-// The text is no key, no filter and no list of filters.
-fn expect_nothing(rt: &impl Abort, alloc: Global, text: &str) {
-    expect_no_key(rt, alloc, text);
-    expect_no_filter(rt, alloc, text);
-    expect_no_filters(rt, alloc, text);
-}
-
-// So many letters are a key.
-fn expect_long_key(rt: &impl Abort, alloc: Global, count: u64) -> Result<(), KvError> {
-    let text = repeated(alloc, "a", count, "")?;
-    expect_key(rt, alloc, text.as_str())
-}
-
-// So many letters are no key.
-fn expect_no_long_key(rt: &impl Abort, alloc: Global, count: u64) -> Result<(), KvError> {
-    let text = repeated(alloc, "a", count, "")?;
-    expect_no_key(rt, alloc, text.as_str());
-    Ok(())
-}
-
-// The row of the bucket under this name: its keys, and its filters.
-#[test]
-fn key_and_filter_faults(rt: HostRuntime) -> Result<(), Fail> {
-    for text in [".a", "a.", "a..b", "a*b"] {
-        expect_no_key(&rt, rt.alloc(), text);
-    }
-    for text in ["a*", ">.a", "a.>.b"] {
-        expect_no_filter(&rt, rt.alloc(), text);
-    }
-    expect_no_long_key(&rt, rt.alloc(), 256)?;
-    expect_long_key(&rt, rt.alloc(), 255)?;
-    expect_key(&rt, rt.alloc(), "_kv.x")?;
-    Ok(())
-}
-
-#[test]
-fn empty_text(rt: HostRuntime) {
-    expect_nothing(&rt, rt.alloc(), "");
-}
-
-#[test]
-fn empty_tokens(rt: HostRuntime) {
-    for text in [
-        ".", "..", ".a", "a.", "a..b", "a...b", ".a.b", "a.b.", ".>", "*.", ".*",
-    ] {
-        expect_nothing(&rt, rt.alloc(), text);
+fn filters_as<T: Parsed>(rt: &impl Abort, alloc: Global, text: &str, refusal: KvError) -> u64 {
+    match made::<T>(alloc, text) {
+        Ok(parsed) => {
+            equal(rt, parsed.text(), text);
+            parsed.filters()
+        }
+        Err(error) => {
+            equal(rt, error, refusal);
+            0
+        }
     }
 }
 
-#[test]
-fn wildcards_beside_other_characters(rt: HostRuntime) {
-    for text in [
-        "a*", "*a", "a*b", "**", "a>", ">a", ">>", "*>", ">*", "a.b*", "a.*b.c", "a.>b",
-    ] {
-        expect_nothing(&rt, rt.alloc(), text);
-    }
+fn is_of_kind(rt: &impl Abort, alloc: Global, text: &str, kind: Kind) {
+    let found = [
+        filters_as::<Key>(rt, alloc, text, KvError::BadKey),
+        filters_as::<Filter>(rt, alloc, text, KvError::BadFilter),
+        filters_as::<Filters>(rt, alloc, text, KvError::BadFilter),
+    ];
+    assert_eq!(rt; found, kind, "{text}");
 }
 
-#[test]
-fn rest_before_the_end(rt: HostRuntime) {
-    for text in [">.a", "a.>.b", ">.>", ">.*"] {
-        expect_nothing(&rt, rt.alloc(), text);
-    }
-}
-
-#[test]
-fn characters_outside_keys(rt: HostRuntime) {
-    for text in [
-        "\u{e9}",
-        "a\u{e9}",
-        "a.\u{e9}",
-        "\u{3b1}",
-        "\u{1f511}",
-        "a\0",
-        "a\n",
-        "a\t",
-        " ",
-        " a",
-        "a ",
-        "a b",
-        "a\"",
-        "a\\b",
-        "a:",
-        "a;b",
-        "a<",
-        "a@",
-        "a[",
-        "a`",
-        "a{",
-        "a~",
-        "a+",
-        "a,",
-        ",a",
-    ] {
-        expect_nothing(&rt, rt.alloc(), text);
-    }
-}
-
-// The text is a key, a filter and a list of one filter.
-fn expect_all(rt: &impl Abort, alloc: Global, text: &str) -> Result<(), KvError> {
-    expect_key(rt, alloc, text)?;
-    expect_filter(rt, alloc, text)?;
-    expect_filters(rt, alloc, text, 1)
-}
-
-#[test]
-fn characters_of_keys(rt: HostRuntime) -> Result<(), Fail> {
-    for text in [
+const KINDS: &[(&str, Kind)] = &[
+    // Characters of keys.
+    (
         "ABCDEFGHIJKLMNOPQRSTUVWXYZ.abcdefghijklmnopqrstuvwxyz.0123456789",
-        "-/_=",
-        "_kv.x",
-        "/",
-        "=",
-        "-.-",
-    ] {
-        expect_all(&rt, rt.alloc(), text)?;
-    }
-    Ok(())
-}
-
-// The text is a filter and a list of one filter, and no key.
-fn expect_wildcards(rt: &impl Abort, alloc: Global, text: &str) -> Result<(), KvError> {
-    expect_no_key(rt, alloc, text);
-    expect_filter(rt, alloc, text)?;
-    expect_filters(rt, alloc, text, 1)
-}
+        KEY,
+    ),
+    ("-/_=", KEY),
+    ("_kv.x", KEY),
+    ("/", KEY),
+    ("=", KEY),
+    ("-.-", KEY),
+    ("a", KEY),
+    // Wildcards are no keys.
+    ("*", PATTERN),
+    (">", PATTERN),
+    ("*.*", PATTERN),
+    ("a.*", PATTERN),
+    ("a.>", PATTERN),
+    ("*.>", PATTERN),
+    ("*.b.*", PATTERN),
+    // Lists.
+    ("a.*,*.b", [0, 0, 2]),
+    ("a,a,>", [0, 0, 3]),
+    ("a,,b", NOTHING),
+    ("a,", NOTHING),
+    (",", NOTHING),
+    (",,", NOTHING),
+    (",a", NOTHING),
+    ("a.,b", NOTHING),
+    ("a,.b", NOTHING),
+    ("a, b", NOTHING),
+    ("a*,b", NOTHING),
+    ("a,>.b", NOTHING),
+    // Empty texts and tokens.
+    ("", NOTHING),
+    (".", NOTHING),
+    ("..", NOTHING),
+    (".a", NOTHING),
+    ("a.", NOTHING),
+    ("a..b", NOTHING),
+    ("a...b", NOTHING),
+    (".a.b", NOTHING),
+    ("a.b.", NOTHING),
+    (".>", NOTHING),
+    ("*.", NOTHING),
+    (".*", NOTHING),
+    // Wildcards beside other characters.
+    ("a*", NOTHING),
+    ("*a", NOTHING),
+    ("a*b", NOTHING),
+    ("**", NOTHING),
+    ("a>", NOTHING),
+    (">a", NOTHING),
+    (">>", NOTHING),
+    ("*>", NOTHING),
+    (">*", NOTHING),
+    ("a.b*", NOTHING),
+    ("a.*b.c", NOTHING),
+    ("a.>b", NOTHING),
+    // `>` before the end.
+    (">.a", NOTHING),
+    ("a.>.b", NOTHING),
+    (">.>", NOTHING),
+    (">.*", NOTHING),
+    // Characters outside keys.
+    ("\u{e9}", NOTHING),
+    ("a\u{e9}", NOTHING),
+    ("a.\u{e9}", NOTHING),
+    ("\u{3b1}", NOTHING),
+    ("\u{1f511}", NOTHING),
+    ("a\0", NOTHING),
+    ("a\n", NOTHING),
+    ("a\t", NOTHING),
+    (" ", NOTHING),
+    (" a", NOTHING),
+    ("a ", NOTHING),
+    ("a b", NOTHING),
+    ("a\"", NOTHING),
+    ("a\\b", NOTHING),
+    ("a:", NOTHING),
+    ("a;b", NOTHING),
+    ("a<", NOTHING),
+    ("a@", NOTHING),
+    ("a[", NOTHING),
+    ("a`", NOTHING),
+    ("a{", NOTHING),
+    ("a~", NOTHING),
+    ("a+", NOTHING),
+    ("a?", NOTHING),
+];
 
 #[test]
-fn wildcards_are_no_keys(rt: HostRuntime) -> Result<(), Fail> {
-    for text in ["*", ">", "*.*", "a.*", "a.>", "*.>", "*.b.*"] {
-        expect_wildcards(&rt, rt.alloc(), text)?;
+fn kinds_of_texts(rt: HostRuntime) {
+    for (text, kind) in KINDS {
+        is_of_kind(&rt, rt.alloc(), text, *kind);
     }
-    Ok(())
 }
+
+// A text by its start, a part, how often that comes, and its end. 255 bytes bound each filter of a list, and not the
+// text of the list; it has 16 filters at most.
+const LENGTHS: &[(&str, &str, u64, &str, Kind)] = &[
+    ("", "a", 255, "", KEY),
+    ("", "a", 256, "", NOTHING),
+    ("", "a.", 127, ">", PATTERN),
+    ("", "aa", 127, ".>", NOTHING),
+    ("", "a", 255, ",b", [0, 0, 2]),
+    ("", "a", 256, ",b", NOTHING),
+    ("b,", "a", 256, "", NOTHING),
+    ("", "a,", 15, ">", [0, 0, 16]),
+    ("", "a,", 16, ">", NOTHING),
+];
 
 #[test]
 fn lengths(rt: HostRuntime) -> Result<(), Fail> {
-    let longest = repeated(rt.alloc(), "a", 255, "")?;
-    expect_all(&rt, rt.alloc(), longest.as_str())?;
-    let longer = repeated(rt.alloc(), "a", 255, "a")?;
-    expect_nothing(&rt, rt.alloc(), longer.as_str());
-    Ok(())
-}
-
-#[test]
-fn lengths_before_the_rest(rt: HostRuntime) -> Result<(), Fail> {
-    let longest = repeated(rt.alloc(), "a.", 127, ">")?;
-    expect_filter(&rt, rt.alloc(), longest.as_str())?;
-    let longer = repeated(rt.alloc(), "aa", 127, ".>")?;
-    expect_nothing(&rt, rt.alloc(), longer.as_str());
-    Ok(())
-}
-
-// The two texts, one behind the other, are a list of so many filters.
-fn expect_joined(
-    rt: &impl Abort,
-    alloc: Global,
-    first: &str,
-    last: &str,
-    count: u64,
-) -> Result<(), KvError> {
-    let text = repeated(alloc, first, 1, last)?;
-    expect_filters(rt, alloc, text.as_str(), count)
-}
-
-// The two texts, one behind the other, are no list.
-fn expect_not_joined(
-    rt: &impl Abort,
-    alloc: Global,
-    first: &str,
-    last: &str,
-) -> Result<(), KvError> {
-    let text = repeated(alloc, first, 1, last)?;
-    expect_no_filters(rt, alloc, text.as_str());
-    Ok(())
-}
-
-// 255 bytes bound each filter of a list, and not its text.
-#[test]
-fn lengths_in_lists(rt: HostRuntime) -> Result<(), Fail> {
-    let longest = repeated(rt.alloc(), "a", 255, "")?;
-    expect_joined(&rt, rt.alloc(), longest.as_str(), ",b", 2)?;
-    expect_not_joined(&rt, rt.alloc(), longest.as_str(), "a,b")?;
-    expect_not_joined(&rt, rt.alloc(), "b,a", longest.as_str())?;
-    Ok(())
-}
-
-// The row of the bucket under this name, and more.
-#[test]
-fn list_faults(rt: HostRuntime) {
-    for text in [
-        "a,,b", "a,", ",", ",,", ",a", "a.,b", "a,.b", "a, b", "a*,b", "a,>.b",
-    ] {
-        expect_no_filters(&rt, rt.alloc(), text);
-    }
-}
-
-#[test]
-fn numbers_of_filters(rt: HostRuntime) -> Result<(), Fail> {
-    for (text, count) in [("a", 1), ("a.*,*.b", 2), ("a,a,>", 3)] {
-        expect_filters(&rt, rt.alloc(), text, count)?;
+    for (start, part, count, end, kind) in LENGTHS {
+        let text = repeated(rt.alloc(), start, part, *count, end)?;
+        is_of_kind(&rt, rt.alloc(), text.as_str(), *kind);
     }
     Ok(())
 }
 
-#[test]
-fn sixteen_filters_and_no_more(rt: HostRuntime) -> Result<(), Fail> {
-    let sixteen = repeated(rt.alloc(), "a,", 15, ">")?;
-    expect_filters(&rt, rt.alloc(), sixteen.as_str(), 16)?;
-    let more = repeated(rt.alloc(), "a,", 16, ">")?;
-    expect_no_filters(&rt, rt.alloc(), more.as_str());
-    Ok(())
-}
-
-fn expect_name(rt: &impl Abort, text: &str) {
-    assert!(rt; is_name(text), "{text}");
-}
-
-fn expect_no_name(rt: &impl Abort, text: &str) {
-    assert!(rt; !is_name(text), "{text}");
-}
+const NAMES: &[(&str, bool)] = &[
+    ("a", true),
+    ("Z", true),
+    ("0", true),
+    ("_", true),
+    ("-", true),
+    ("kv_Bucket-7", true),
+    // 64 letters, and 65.
+    (
+        "nnnnnnnnnnnnnnnnnnnnnnnnnnnnnnnnnnnnnnnnnnnnnnnnnnnnnnnnnnnnnnnn",
+        true,
+    ),
+    (
+        "nnnnnnnnnnnnnnnnnnnnnnnnnnnnnnnnnnnnnnnnnnnnnnnnnnnnnnnnnnnnnnnnn",
+        false,
+    ),
+    ("", false),
+    ("a.b", false),
+    ("a b", false),
+    ("a/b", false),
+    ("a=b", false),
+    ("a*", false),
+    (">", false),
+    ("\u{e9}", false),
+    ("a\n", false),
+];
 
 #[test]
 fn names_of_buckets(rt: HostRuntime) {
-    for text in ["a", "Z", "0", "_", "-", "kv_Bucket-7"] {
-        expect_name(&rt, text);
+    for (text, answer) in NAMES {
+        assert!(rt; is_name(text) == *answer, "{text}");
     }
-    for text in ["", "a.b", "a b", "a/b", "a=b", "a*", ">", "\u{e9}", "a\n"] {
-        expect_no_name(&rt, text);
-    }
-}
-
-#[test]
-fn lengths_of_names(rt: HostRuntime) -> Result<(), Fail> {
-    let longest = repeated(rt.alloc(), "n", 64, "")?;
-    expect_name(&rt, longest.as_str());
-    let longer = repeated(rt.alloc(), "n", 64, "n")?;
-    expect_no_name(&rt, longer.as_str());
-    Ok(())
 }

@@ -2,97 +2,102 @@
 
 use super::*;
 
-fn matches(alloc: Global, pattern: &str, text: &str) -> Result<bool, KvError> {
-    let pattern = filter(alloc, pattern)?;
-    let text = key(alloc, text)?;
-    Ok(pattern.matches(&text))
+fn filter_matches(alloc: Global, pattern: &str, key: &Key) -> Result<bool, KvError> {
+    let filter: Filter = made(alloc, pattern)?;
+    Ok(filter.matches(key))
 }
 
-fn expect_match(
+fn list_matches(alloc: Global, list: &str, key: &Key) -> Result<bool, KvError> {
+    let list: Filters = made(alloc, list)?;
+    Ok(list.matches(key))
+}
+
+// What a filter answers, alone and as a list.
+fn answers(
     rt: &impl Abort,
     alloc: Global,
     pattern: &str,
     text: &str,
     answer: bool,
 ) -> Result<(), KvError> {
-    let found = matches(alloc, pattern, text)?;
-    assert_eq!(rt; found, answer, "{pattern} at {text}");
+    let key: Key = made(alloc, text)?;
+    let found = [
+        filter_matches(alloc, pattern, &key)?,
+        list_matches(alloc, pattern, &key)?,
+    ];
+    assert_eq!(rt; found, [answer, answer], "{pattern} at {text}");
     Ok(())
 }
 
-// The row of the bucket under this name, and two filters without a wildcard.
+const MATCHES: &[(&str, &str, bool)] = &[
+    ("a.>", "a", false),
+    ("a.>", "a.b", true),
+    ("a.>", "a.b.c", true),
+    ("a.*", "a", false),
+    ("a.*", "a.b", true),
+    ("a.*", "a.b.c", false),
+    ("*", "a", true),
+    ("*", "a.b", false),
+    ("*", "a.b.c", false),
+    ("*.b.>", "a", false),
+    ("*.b.>", "a.b", false),
+    ("*.b.>", "a.b.c", true),
+    (">", "a", true),
+    (">", "a.b", true),
+    (">", "a.b.c", true),
+    // Literals are whole tokens, in their case, and no expressions.
+    ("a.b", "a", false),
+    ("a.b", "a.b", true),
+    ("a.b", "a.b.c", false),
+    ("b", "a", false),
+    ("b", "a.b", false),
+    ("b", "a.b.c", false),
+    ("a", "ab", false),
+    ("ab", "a", false),
+    ("a", "A", false),
+    ("a.b", "a-b", false),
+    ("a-b", "a.b", false),
+];
+
 #[test]
 fn wildcards(rt: HostRuntime) -> Result<(), Fail> {
-    let alloc = rt.alloc();
-    let table = [
-        ("a.>", [false, true, true]),
-        ("a.*", [false, true, false]),
-        ("*", [true, false, false]),
-        ("*.b.>", [false, false, true]),
-        (">", [true, true, true]),
-        ("a.b", [false, true, false]),
-        ("b", [false, false, false]),
-    ];
-    for (pattern, answers) in table {
-        expect_match(&rt, alloc, pattern, "a", answers[0])?;
-        expect_match(&rt, alloc, pattern, "a.b", answers[1])?;
-        expect_match(&rt, alloc, pattern, "a.b.c", answers[2])?;
+    for (pattern, text, answer) in MATCHES {
+        answers(&rt, rt.alloc(), pattern, text, *answer)?;
     }
     Ok(())
 }
 
-// Literals are whole tokens, in their case, and no expressions.
-#[test]
-fn literals(rt: HostRuntime) -> Result<(), Fail> {
-    for (pattern, text) in [
-        ("a", "ab"),
-        ("ab", "a"),
-        ("a", "A"),
-        ("a.b", "a-b"),
-        ("a-b", "a.b"),
-    ] {
-        expect_match(&rt, rt.alloc(), pattern, text, false)?;
-    }
-    Ok(())
-}
+// As many tokens as 255 bytes have room for, where a search that goes back would take long: so many stars before an
+// end, and so many tokens before a last one.
+const MANY: &[(u64, &str, u64, bool)] = &[
+    (127, ">", 127, true),
+    (127, ">", 126, false),
+    (127, "b", 127, false),
+];
 
-// As many tokens as 255 bytes have room for, where a search that goes back would take long.
 #[test]
 fn many_tokens(rt: HostRuntime) -> Result<(), Fail> {
-    let alloc = rt.alloc();
-    let stars = repeated(alloc, "*.", 127, ">")?;
-    let tokens = repeated(alloc, "a.", 127, "a")?;
-    let fewer = repeated(alloc, "a.", 126, "a")?;
-    expect_match(&rt, alloc, stars.as_str(), tokens.as_str(), true)?;
-    expect_match(&rt, alloc, stars.as_str(), fewer.as_str(), false)?;
-    let other = repeated(alloc, "*.", 127, "b")?;
-    expect_match(&rt, alloc, other.as_str(), tokens.as_str(), false)?;
+    for (stars, end, tokens, answer) in MANY {
+        let pattern = repeated(rt.alloc(), "", "*.", *stars, end)?;
+        let text = repeated(rt.alloc(), "", "a.", *tokens, "a")?;
+        answers(&rt, rt.alloc(), pattern.as_str(), text.as_str(), *answer)?;
+    }
     Ok(())
 }
 
-fn expect_list_match(
-    rt: &impl Abort,
-    alloc: Global,
-    list: &Filters,
-    text: &str,
-    answer: bool,
-) -> Result<(), KvError> {
-    let key = key(alloc, text)?;
-    assert_eq!(rt; list_matches(list, &key), answer, "{text}");
-    Ok(())
-}
+const LISTED: &[(&str, bool)] = &[
+    ("a.b", true),
+    ("a.c", true),
+    ("x.b", true),
+    ("c", false),
+    ("x.c", false),
+];
 
 #[test]
 fn lists_match_by_each_filter(rt: HostRuntime) -> Result<(), Fail> {
-    let list = filters(rt.alloc(), "a.*,*.b")?;
-    for (text, answer) in [
-        ("a.b", true),
-        ("a.c", true),
-        ("x.b", true),
-        ("c", false),
-        ("x.c", false),
-    ] {
-        expect_list_match(&rt, rt.alloc(), &list, text, answer)?;
+    for (text, answer) in LISTED {
+        let key: Key = made(rt.alloc(), text)?;
+        equal(&rt, list_matches(rt.alloc(), "a.*,*.b", &key)?, *answer);
     }
     Ok(())
 }
