@@ -9,14 +9,27 @@ use std::process::Abort;
 use std::test::Fail;
 
 mod both;
-mod discarded;
+mod driving;
 mod forms;
-mod in_place;
 mod retained;
-mod versions;
+mod steps;
+mod walks;
+
+// What is done to a trie.
+#[derive(Clone, Copy)]
+enum Step {
+    Put(&'static str, u32),
+    Remove(&'static str),
+}
+
+// A step, and how many keys there are then.
+type Row = (Step, u64);
 
 // More entries than any test has.
 const MANY: u64 = 2000;
+
+// A trie whose values are numbers.
+type Numbers<K> = Trie<K, u32>;
 
 // Keys that are made from a text.
 trait Named: Place + Drop {
@@ -37,36 +50,12 @@ impl Named for Short {
     }
 }
 
-// A key for reading.
-fn key_of<K: Named>(alloc: Global, text: &str) -> Result<K, KvError> {
-    match K::named(alloc, text) {
-        Err(KvError::OutOfMemory) => K::named(alloc, text),
-        named => named,
-    }
-}
-
-fn size<K: Named>(trie: &Trie<K, u32>) -> u64 {
-    trie.len()
-}
-
-fn is_same<K: Named>(trie: &Trie<K, u32>, other: &Trie<K, u32>) -> bool {
-    trie.same_form(other)
-}
-
-// The map, held beside the trie.
-fn hold<K: Named>(trie: &Trie<K, u32>) -> Result<Trie<K, u32>, KvError> {
-    match trie.snapshot() {
-        Ok(held) => Ok(held),
-        Err(_) => trie.snapshot(),
-    }
-}
-
-fn put_once<K: Named>(
+fn inserted<K: Named>(
     alloc: Global,
-    trie: &Trie<K, u32>,
+    trie: &Numbers<K>,
     text: &str,
     value: u32,
-) -> Result<Trie<K, u32>, KvError> {
+) -> Result<Numbers<K>, KvError> {
     let key = K::named(alloc, text)?;
     if trie.len() < MANY {
         trie.insert(alloc, key, value)
@@ -75,72 +64,46 @@ fn put_once<K: Named>(
     }
 }
 
-// A trie of these keys, built apart from every other.
-fn built<K: Named>(alloc: Global, names: &[&str]) -> Result<Trie<K, u32>, KvError> {
+fn put<K: Named>(
+    alloc: Global,
+    trie: &mut Numbers<K>,
+    text: &str,
+    value: u32,
+) -> Result<(), KvError> {
+    let key = K::named(alloc, text)?;
+    if trie.len() < MANY {
+        trie.put(alloc, key, value)
+    } else {
+        Err(KvError::JournalFull)
+    }
+}
+
+fn put_again<K: Named>(
+    alloc: Global,
+    trie: &mut Numbers<K>,
+    text: &str,
+    value: u32,
+) -> Result<(), KvError> {
+    match put(alloc, trie, text, value) {
+        Err(KvError::OutOfMemory) => put(alloc, trie, text, value),
+        done => done,
+    }
+}
+
+// The trie of these names and values, built apart from every other.
+fn built<K: Named>(alloc: Global, pairs: &[(&str, u32)]) -> Result<Numbers<K>, KvError> {
     let mut trie = Trie::new();
-    for name in names {
-        trie = put_once(alloc, &trie, name, 0)?;
+    for (text, value) in pairs {
+        put_again(alloc, &mut trie, text, *value)?;
     }
     Ok(trie)
 }
 
-// After a refusal the trie has these keys still, in the form of a trie that is built apart.
-fn expect_unchanged<K: Named>(
-    rt: &impl Abort,
-    alloc: Global,
-    trie: &Trie<K, u32>,
-    names: &[&str],
-    refusal: KvError,
-) -> Result<(), KvError> {
-    equal(rt, refusal, KvError::OutOfMemory);
-    let apart = built(alloc, names)?;
-    assert!(rt; is_same(trie, &apart));
-    equal(rt, size(trie), names.len() as u64);
-    Ok(())
-}
-
-// The trie, of these keys, with one more. A refusal leaves it as it was.
-fn put<K: Named>(
-    rt: &impl Abort,
-    alloc: Global,
-    trie: &Trie<K, u32>,
-    names: &[&str],
-    text: &str,
-    value: u32,
-) -> Result<Trie<K, u32>, KvError> {
-    match put_once(alloc, trie, text, value) {
-        Ok(new) => Ok(new),
-        Err(refusal) => {
-            expect_unchanged(rt, alloc, trie, names, refusal)?;
-            put_once(alloc, trie, text, value)
-        }
-    }
-}
-
-fn take_once<K: Named>(
-    alloc: Global,
-    trie: &Trie<K, u32>,
-    text: &str,
-) -> Result<Trie<K, u32>, KvError> {
-    let key = K::named(alloc, text)?;
-    trie.remove(alloc, &key)
-}
-
-// The trie, of these keys, without one of them. A refusal leaves it as it was.
-fn take<K: Named>(
-    rt: &impl Abort,
-    alloc: Global,
-    trie: &Trie<K, u32>,
-    names: &[&str],
-    text: &str,
-) -> Result<Trie<K, u32>, KvError> {
-    match take_once(alloc, trie, text) {
-        Ok(new) => Ok(new),
-        Err(refusal) => {
-            expect_unchanged(rt, alloc, trie, names, refusal)?;
-            take_once(alloc, trie, text)
-        }
-    }
+// Both tries have the same keys in the same form, with the same values.
+fn are_same<K: Named>(rt: &impl Abort, trie: &Numbers<K>, other: &Numbers<K>) {
+    assert!(rt; trie.same_form(other));
+    equal(rt, trie.len(), other.len());
+    equal(rt, walks::sum(trie), walks::sum(other));
 }
 
 // Ends the test where what was found is not what was wanted. A call of it is proved sooner than `assert_eq!` in its place.

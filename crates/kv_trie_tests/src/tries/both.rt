@@ -1,13 +1,25 @@
 //! Puts into two tries: both change, or neither.
 
-use super::in_place::{NAMES, has_names, made_here};
 use super::*;
 use kv_trie::put_both;
 
-fn put_in_both_once(
+// The names are the keys of the one trie and of the other, in which those of one length have one place. The first and
+// the last get new values.
+const PUTS: [(&str, u32); 8] = [
+    ("k0", 0),
+    ("k1", 1),
+    ("altarage", 2),
+    ("k2", 3),
+    ("zinke", 4),
+    ("k3", 5),
+    ("k0", 80),
+    ("zinke", 81),
+];
+
+fn put_in_both(
     alloc: Global,
-    keys: &mut Trie<Key, u32>,
-    shorts: &mut Trie<Short, u32>,
+    keys: &mut Numbers<Key>,
+    shorts: &mut Numbers<Short>,
     text: &str,
     value: u32,
 ) -> Result<(), KvError> {
@@ -20,112 +32,82 @@ fn put_in_both_once(
     }
 }
 
-// Puts a value into both tries of these keys. A refusal leaves both as they were.
-fn put_in_both(
+// Both tries are those of so many of the puts, built apart.
+fn have(
     rt: &impl Abort,
     alloc: Global,
-    keys: &mut Trie<Key, u32>,
-    shorts: &mut Trie<Short, u32>,
-    names: &[&str],
-    text: &str,
-    value: u32,
+    keys: &Numbers<Key>,
+    shorts: &Numbers<Short>,
+    puts: &[(&str, u32)],
 ) -> Result<(), KvError> {
-    match put_in_both_once(alloc, keys, shorts, text, value) {
-        Ok(()) => Ok(()),
-        Err(refusal) => {
-            expect_unchanged(rt, alloc, keys, names, refusal)?;
-            expect_unchanged(rt, alloc, shorts, names, KvError::OutOfMemory)?;
-            put_in_both_once(alloc, keys, shorts, text, value)
+    are_same(rt, keys, &built(alloc, puts)?);
+    are_same(rt, shorts, &built(alloc, puts)?);
+    Ok(())
+}
+
+// The next put. A refusal leaves both tries as they were.
+fn put_next(
+    rt: &impl Abort,
+    alloc: Global,
+    keys: &mut Numbers<Key>,
+    shorts: &mut Numbers<Short>,
+    before: &[(&str, u32)],
+    next: (&str, u32),
+) -> Result<(), KvError> {
+    match put_in_both(alloc, keys, shorts, next.0, next.1) {
+        Err(KvError::OutOfMemory) => {
+            have(rt, alloc, keys, shorts, before)?;
+            put_in_both(alloc, keys, shorts, next.0, next.1)
         }
+        done => done,
     }
 }
 
-// A new key beside no leaf, one beside a leaf or in a list, and one that is there, of which snapshots keep the old
-// value.
+fn put_each(
+    rt: &impl Abort,
+    alloc: Global,
+    keys: &mut Numbers<Key>,
+    shorts: &mut Numbers<Short>,
+) -> Result<(), KvError> {
+    for at in 0..PUTS.len() {
+        put_next(rt, alloc, keys, shorts, &PUTS[..at], PUTS[at])?;
+    }
+    have(rt, alloc, keys, shorts, &PUTS)
+}
+
 #[test]
 fn both_or_neither(rt: HostRuntime) -> Result<(), Fail> {
-    let mut keys: Trie<Key, u32> = made_here(&rt, rt.alloc(), 11)?;
-    beside_keys(&rt, rt.alloc(), &mut keys)?;
+    let mut keys: Numbers<Key> = Trie::new();
+    let mut shorts: Numbers<Short> = Trie::new();
+    put_each(&rt, rt.alloc(), &mut keys, &mut shorts)?;
     Ok(())
 }
 
-fn beside_keys(rt: &impl Abort, alloc: Global, keys: &mut Trie<Key, u32>) -> Result<(), KvError> {
-    let mut shorts: Trie<Short, u32> = made_here(rt, alloc, 11)?;
-    put_twice(rt, alloc, keys, &mut shorts)
+fn snapshots(
+    keys: &Numbers<Key>,
+    shorts: &Numbers<Short>,
+) -> Result<(Numbers<Key>, Numbers<Short>), KvError> {
+    let held = keys.snapshot()?;
+    Ok((held, shorts.snapshot()?))
 }
 
-fn put_twice(
+// Snapshots of both keep what they have.
+fn put_beside(
     rt: &impl Abort,
     alloc: Global,
-    keys: &mut Trie<Key, u32>,
-    shorts: &mut Trie<Short, u32>,
+    keys: &mut Numbers<Key>,
+    shorts: &mut Numbers<Short>,
 ) -> Result<(), KvError> {
-    put_in_both(rt, alloc, keys, shorts, &NAMES[..11], "zinke", 11)?;
-    put_beside_keys_held(rt, alloc, keys, shorts)?;
-    have_names(rt, alloc, keys, shorts, 80)
-}
-
-fn put_beside_keys_held(
-    rt: &impl Abort,
-    alloc: Global,
-    keys: &mut Trie<Key, u32>,
-    shorts: &mut Trie<Short, u32>,
-) -> Result<(), KvError> {
-    let held = hold(keys)?;
-    put_beside_shorts_held(rt, alloc, keys, shorts, &held)
-}
-
-fn put_beside_shorts_held(
-    rt: &impl Abort,
-    alloc: Global,
-    keys: &mut Trie<Key, u32>,
-    shorts: &mut Trie<Short, u32>,
-    held_keys: &Trie<Key, u32>,
-) -> Result<(), KvError> {
-    let held = hold(shorts)?;
-    put_beside_both(rt, alloc, keys, shorts, held_keys, &held)
-}
-
-fn put_beside_both(
-    rt: &impl Abort,
-    alloc: Global,
-    keys: &mut Trie<Key, u32>,
-    shorts: &mut Trie<Short, u32>,
-    held_keys: &Trie<Key, u32>,
-    held_shorts: &Trie<Short, u32>,
-) -> Result<(), KvError> {
-    put_in_both(rt, alloc, keys, shorts, &NAMES, "k0", 80)?;
-    have_names(rt, alloc, held_keys, held_shorts, 0)
-}
-
-// Both tries have the twelve names, with this value of the first.
-fn have_names(
-    rt: &impl Abort,
-    alloc: Global,
-    keys: &Trie<Key, u32>,
-    shorts: &Trie<Short, u32>,
-    first: u32,
-) -> Result<(), KvError> {
-    has_names(rt, alloc, keys, first, 11)?;
-    has_names(rt, alloc, shorts, first, 11)
+    let (held_keys, held_shorts) = snapshots(keys, shorts)?;
+    put_next(rt, alloc, keys, shorts, &PUTS[..6], PUTS[6])?;
+    have(rt, alloc, &held_keys, &held_shorts, &PUTS[..6])
 }
 
 #[test]
-fn both_from_the_start(rt: HostRuntime) -> Result<(), Fail> {
-    let mut keys: Trie<Key, u32> = Trie::new();
-    let mut shorts: Trie<Short, u32> = Trie::new();
-    put_each_in_both(&rt, rt.alloc(), &mut keys, &mut shorts)?;
+fn both_beside_snapshots(rt: HostRuntime) -> Result<(), Fail> {
+    let mut keys = built(rt.alloc(), &PUTS[..6])?;
+    let mut shorts = built(rt.alloc(), &PUTS[..6])?;
+    put_beside(&rt, rt.alloc(), &mut keys, &mut shorts)?;
+    have(&rt, rt.alloc(), &keys, &shorts, &PUTS[..7])?;
     Ok(())
-}
-
-fn put_each_in_both(
-    rt: &impl Abort,
-    alloc: Global,
-    keys: &mut Trie<Key, u32>,
-    shorts: &mut Trie<Short, u32>,
-) -> Result<(), KvError> {
-    for at in 0..NAMES.len() {
-        put_in_both(rt, alloc, keys, shorts, &NAMES[..at], NAMES[at], at as u32)?;
-    }
-    have_names(rt, alloc, keys, shorts, 0)
 }

@@ -62,56 +62,47 @@ fn has_form(trie: &Trie<Key, u32>, parts: &[Part]) -> bool {
     }
 }
 
-// The trie has these nodes and so many keys.
-fn is_of(rt: &impl Abort, trie: &Trie<Key, u32>, parts: &[Part], count: u64) {
-    assert!(rt; has_form(trie, parts));
-    equal(rt, size(trie), count);
-}
-
-// The trie of the key `a`.
-fn trie_of_a(rt: &impl Abort, alloc: Global) -> Result<Trie<Key, u32>, KvError> {
-    let none = Trie::new();
-    is_of(rt, &none, &[], 0);
-    put(rt, alloc, &none, &[], "a", 1)
-}
-
-#[test]
-fn three_places(rt: HostRuntime) -> Result<(), Fail> {
-    let one = trie_of_a(&rt, rt.alloc())?;
-    is_of(&rt, &one, &[Part::Leaf("a")], 1);
-    let two = put(&rt, rt.alloc(), &one, &["a"], "foobar", 2)?;
-    let three = put(&rt, rt.alloc(), &two, &["a", "foobar"], "altarage", 3)?;
-    let form = [
-        Part::Branch(0x0040_1100),
-        Part::Leaf("foobar"),
-        Part::Leaf("a"),
-        Part::Leaf("altarage"),
-    ];
-    is_of(&rt, &three, &form, 3);
+// The trie of these keys has these nodes, and no other.
+fn is_of(
+    rt: &impl Abort,
+    alloc: Global,
+    pairs: &[(&str, u32)],
+    parts: &[Part],
+) -> Result<(), KvError> {
+    let trie = built(alloc, pairs)?;
+    assert!(rt; has_form(&trie, parts));
     Ok(())
 }
 
-// The trie of two keys of one place.
-fn zinke_and_altarage(rt: &impl Abort, alloc: Global) -> Result<Trie<Key, u32>, KvError> {
-    let one = put(rt, alloc, &Trie::new(), &[], "zinke", 1)?;
-    put(rt, alloc, &one, &["zinke"], "altarage", 2)
-}
+const THREE_PLACES: &[Part] = &[
+    Part::Branch(0x0040_1100),
+    Part::Leaf("foobar"),
+    Part::Leaf("a"),
+    Part::Leaf("altarage"),
+];
+
+const ONE_PLACE: &[Part] = &[
+    Part::Branch(1 << 22),
+    Part::Branch(1 << 5),
+    Part::Branch(1 << 22),
+    Part::Branch(1 << 1),
+    Part::Branch(1 << 6),
+    Part::Branch(1 << 18),
+    Part::Branch(1 << 3),
+    Part::Pairs("altarage", "zinke"),
+];
 
 #[test]
-fn one_place(rt: HostRuntime) -> Result<(), Fail> {
-    let both = zinke_and_altarage(&rt, rt.alloc())?;
-    let form = [
-        Part::Branch(1 << 22),
-        Part::Branch(1 << 5),
-        Part::Branch(1 << 22),
-        Part::Branch(1 << 1),
-        Part::Branch(1 << 6),
-        Part::Branch(1 << 18),
-        Part::Branch(1 << 3),
-        Part::Pairs("altarage", "zinke"),
-    ];
-    is_of(&rt, &both, &form, 2);
-    let other = take(&rt, rt.alloc(), &both, &["altarage", "zinke"], "zinke")?;
-    is_of(&rt, &other, &[Part::Leaf("altarage")], 1);
+fn forms_by_places(rt: HostRuntime) -> Result<(), Fail> {
+    let alloc = rt.alloc();
+    is_of(&rt, alloc, &[], &[])?;
+    is_of(&rt, alloc, &[("a", 1)], &[Part::Leaf("a")])?;
+    is_of(
+        &rt,
+        alloc,
+        &[("a", 1), ("foobar", 2), ("altarage", 3)],
+        THREE_PLACES,
+    )?;
+    is_of(&rt, alloc, &[("zinke", 1), ("altarage", 2)], ONE_PLACE)?;
     Ok(())
 }

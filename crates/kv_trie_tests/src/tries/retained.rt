@@ -2,8 +2,8 @@
 
 ghost use Rattle.std.specs.Prelude.{nat_lt};
 
+use super::steps::HUNDRED;
 use super::*;
-use std::alloc::AllocError;
 use std::sync::Arc;
 
 // Wants the values below a limit.
@@ -22,113 +22,127 @@ impl<K: Named> Wants<K, u32> for Below {
 
 fn kept_once<K: Named>(
     alloc: Global,
-    trie: &Trie<K, u32>,
+    trie: &Numbers<K>,
     limit: u32,
-) -> Result<Trie<K, u32>, KvError> {
+) -> Result<Numbers<K>, KvError> {
     trie.retain(alloc, &Below { limit })
 }
 
-// The trie, of these keys, with the values below the limit. A refusal leaves it as it was.
+// The trie with the values below the limit. A refusal leaves the trie as its twin is.
 fn kept<K: Named>(
     rt: &impl Abort,
     alloc: Global,
-    trie: &Trie<K, u32>,
-    names: &[&str],
+    trie: &Numbers<K>,
+    twin: &Numbers<K>,
     limit: u32,
-) -> Result<Trie<K, u32>, KvError> {
+) -> Result<Numbers<K>, KvError> {
     match kept_once(alloc, trie, limit) {
-        Ok(new) => Ok(new),
-        Err(refusal) => {
-            expect_unchanged(rt, alloc, trie, names, refusal)?;
+        Err(KvError::OutOfMemory) => {
+            are_same(rt, trie, twin);
             kept_once(alloc, trie, limit)
         }
+        kept => kept,
     }
 }
 
-fn with_value<K: Named>(
-    alloc: Global,
-    trie: &Trie<K, u32>,
-    name: &str,
-    value: u32,
-) -> Result<Trie<K, u32>, KvError> {
-    match put_once(alloc, trie, name, value) {
-        Err(KvError::OutOfMemory) => put_once(alloc, trie, name, value),
-        put => put,
-    }
-}
-
-// The trie of the names whose value is below the limit.
+// The names with the values below the limit. A name's value is at its place, or 0 where there are fewer values.
 fn made<K: Named>(
     alloc: Global,
     names: &[&str],
     values: &[u32],
     limit: u32,
-) -> Result<Trie<K, u32>, KvError> {
+) -> Result<Numbers<K>, KvError> {
     let mut trie = Trie::new();
     for at in 0..names.len() {
-        match values.get(at) {
-            Some(value) => {
-                if *value < limit {
-                    trie = with_value(alloc, &trie, names[at], *value)?;
-                }
-            }
-            None => {}
+        let value = values.get(at).copied().unwrap_or(0);
+        if value < limit {
+            put_again(alloc, &mut trie, names[at], value)?;
         }
     }
     Ok(trie)
 }
 
-// What stays below the limit is what a trie built apart has.
+// What stays below the limit is what a trie that is built apart has.
 fn stays<K: Named>(
     rt: &impl Abort,
     alloc: Global,
-    all: &Trie<K, u32>,
-    names: &[&str],
-    values: &[u32],
+    all: &Numbers<K>,
+    twin: &Numbers<K>,
+    apart: &Numbers<K>,
     limit: u32,
-) -> Result<Trie<K, u32>, KvError> {
-    let rest = kept(rt, alloc, all, names, limit)?;
-    let apart = made(alloc, names, values, limit)?;
-    assert!(rt; is_same(&rest, &apart), "{limit}");
-    equal(rt, size(&rest), size(&apart));
-    equal(rt, size(all), names.len() as u64);
-    Ok(rest)
+) -> Result<(), KvError> {
+    let rest = kept(rt, alloc, all, twin, limit)?;
+    are_same(rt, &rest, apart);
+    are_same(rt, all, twin);
+    Ok(())
 }
 
 fn each_limit<K: Named>(
+    rt: &impl Abort,
+    alloc: Global,
+    all: &Numbers<K>,
+    twin: &Numbers<K>,
+    names: &[&str],
+    values: &[u32],
+    limits: &[u32],
+) -> Result<(), KvError> {
+    for limit in limits {
+        let apart = made(alloc, names, values, *limit)?;
+        stays(rt, alloc, all, twin, &apart, *limit)?;
+    }
+    Ok(())
+}
+
+fn all_limits<K: Named>(
     rt: &impl Abort,
     alloc: Global,
     names: &[&str],
     values: &[u32],
     limits: &[u32],
 ) -> Result<(), KvError> {
-    let all: Trie<K, u32> = made(alloc, names, values, 1000000)?;
-    for limit in limits {
-        stays(rt, alloc, &all, names, values, *limit)?;
+    let all: Numbers<K> = made(alloc, names, values, 1_000_000)?;
+    let twin = made(alloc, names, values, 1_000_000)?;
+    each_limit(rt, alloc, &all, &twin, names, values, limits)
+}
+
+const WORKED: &[&str] = &["a", "foobar", "altarage", "zinke"];
+
+// The values of the worked keys, and the limits.
+const WORKED_VALUES: &[([u32; 4], &[u32])] = &[
+    ([0, 1, 2, 3], &[0, 1, 2, 3, 4]),
+    ([3, 2, 1, 0], &[0, 1, 2, 3, 4]),
+    ([0, 5, 5, 0], &[5]),
+    ([5, 0, 5, 0], &[5]),
+];
+
+#[test]
+fn worked_keys(rt: HostRuntime) -> Result<(), Fail> {
+    for (values, limits) in WORKED_VALUES {
+        all_limits::<Key>(&rt, rt.alloc(), WORKED, values, limits)?;
     }
     Ok(())
 }
 
-const WORKED: [&str; 4] = ["a", "foobar", "altarage", "zinke"];
+// The numbers below 100, each once, in no order.
+const NUMBERS: &[u32] = &[
+    91, 2, 30, 33, 58, 68, 85, 7, 74, 29, 50, 53, 87, 39, 98, 92, 84, 61, 78, 8, 81, 25, 75, 46,
+    28, 5, 41, 77, 15, 51, 42, 22, 36, 38, 37, 63, 96, 21, 4, 65, 80, 57, 26, 72, 76, 19, 24, 54,
+    44, 11, 95, 40, 43, 34, 12, 70, 18, 90, 55, 10, 62, 71, 99, 64, 0, 66, 16, 56, 17, 9, 86, 49,
+    23, 35, 52, 27, 1, 82, 73, 13, 69, 48, 89, 60, 47, 14, 20, 6, 93, 31, 59, 3, 67, 83, 97, 88,
+    45, 94, 32, 79,
+];
+
+const LIMITS: &[u32] = &[0, 1, 2, 3, 10, 50, 90, 99, 100];
 
 #[test]
-fn worked_keys(rt: HostRuntime) -> Result<(), Fail> {
-    each_limit::<Key>(&rt, rt.alloc(), &WORKED, &[0, 1, 2, 3], &[0, 1, 2, 3, 4])?;
-    each_limit::<Key>(&rt, rt.alloc(), &WORKED, &[3, 2, 1, 0], &[0, 1, 2, 3, 4])?;
-    each_limit::<Key>(&rt, rt.alloc(), &WORKED, &[0, 5, 5, 0], &[5])?;
-    each_limit::<Key>(&rt, rt.alloc(), &WORKED, &[5, 0, 5, 0], &[5])?;
-    each_limit::<Key>(&rt, rt.alloc(), &["zinke", "altarage"], &[0, 1], &[0, 1, 2])?;
+fn hundred_keys(rt: HostRuntime) -> Result<(), Fail> {
+    all_limits::<Key>(&rt, rt.alloc(), HUNDRED, NUMBERS, LIMITS)?;
     Ok(())
 }
 
-const TEN: [&str; 10] = ["k0", "k1", "k2", "k3", "k4", "k5", "k6", "k7", "k8", "k9"];
-
 #[test]
-fn ten_of_one_place(rt: HostRuntime) -> Result<(), Fail> {
-    let values = [4, 1, 8, 0, 9, 2, 7, 3, 6, 5];
-    let limits = [0, 1, 2, 3, 4, 5, 6, 7, 8, 9, 10];
-    each_limit::<Short>(&rt, rt.alloc(), &TEN, &values, &limits)?;
-    each_limit::<Key>(&rt, rt.alloc(), &TEN, &values, &limits)?;
+fn hundred_keys_of_one_place(rt: HostRuntime) -> Result<(), Fail> {
+    all_limits::<Short>(&rt, rt.alloc(), HUNDRED, NUMBERS, LIMITS)?;
     Ok(())
 }
 
@@ -149,72 +163,40 @@ fn shared(node: &Node<Key, u32>) -> u64 {
     }
 }
 
-fn shared_children(trie: &Trie<Key, u32>) -> u64 {
+fn shared_children(trie: &Numbers<Key>) -> u64 {
     match trie.root() {
         Some(node) => shared(node),
         None => 0,
     }
 }
 
+fn kept_again(alloc: Global, trie: &Numbers<Key>, limit: u32) -> Result<Numbers<Key>, KvError> {
+    match kept_once(alloc, trie, limit) {
+        Err(KvError::OutOfMemory) => kept_once(alloc, trie, limit),
+        kept => kept,
+    }
+}
+
+// So many children of the root are shared with what stays below the limit, and so many of its own with others.
+fn shares(
+    rt: &impl Abort,
+    alloc: Global,
+    all: &Numbers<Key>,
+    limit: u32,
+    wanted: (u64, u64),
+) -> Result<(), KvError> {
+    let rest = kept_again(alloc, all, limit)?;
+    equal(rt, (shared_children(all), shared_children(&rest)), wanted);
+    Ok(())
+}
+
 // Where only `zinke` goes the leaves of `a` and `foobar` are those of before; where nothing goes no node below the root
 // is copied.
 #[test]
 fn parts_are_shared(rt: HostRuntime) -> Result<(), Fail> {
-    let all: Trie<Key, u32> = made(rt.alloc(), &WORKED, &[0, 1, 2, 3], 4)?;
+    let all = made(rt.alloc(), WORKED, &[0, 1, 2, 3], 4)?;
     equal(&rt, shared_children(&all), 0);
-    shares_two(&rt, rt.alloc(), &all)?;
-    shares_all(&rt, rt.alloc(), &all)?;
-    Ok(())
-}
-
-fn shares_two(rt: &impl Abort, alloc: Global, all: &Trie<Key, u32>) -> Result<(), KvError> {
-    let three = stays(rt, alloc, all, &WORKED, &[0, 1, 2, 3], 3)?;
-    equal(rt, shared_children(all), 2);
-    drop(three);
-    Ok(())
-}
-
-fn shares_all(rt: &impl Abort, alloc: Global, all: &Trie<Key, u32>) -> Result<(), KvError> {
-    let four = stays(rt, alloc, all, &WORKED, &[0, 1, 2, 3], 4)?;
-    equal(rt, shared_children(&four), 0);
-    Ok(())
-}
-
-// A thousand values that look random.
-fn random_values(alloc: Global, seed: u32) -> Result<Vec<u32>, AllocError> {
-    let mut values = versions::roomy(alloc)?;
-    let mut state = seed;
-    for _ in 0..1000 {
-        state = state.wrapping_mul(1664525).wrapping_add(1013904223);
-        values.push((state >> 8) % 1000)?;
-    }
-    Ok(values)
-}
-
-fn thousand<K: Named>(
-    rt: &impl Abort,
-    alloc: Global,
-    seed: u32,
-    limits: &[u32],
-) -> Result<(), KvError> {
-    let texts = versions::thousand_texts(alloc)?;
-    let names = versions::names_of(alloc, &texts)?;
-    let values = match random_values(alloc, seed) {
-        Ok(values) => values,
-        Err(_) => random_values(alloc, seed)?,
-    };
-    each_limit::<K>(rt, alloc, &names, &values, limits)
-}
-
-#[test]
-fn thousand_keys(rt: HostRuntime) -> Result<(), Fail> {
-    thousand::<Key>(&rt, rt.alloc(), 1, &[0, 1, 3, 10, 100, 500, 900, 990, 1000])?;
-    thousand::<Key>(&rt, rt.alloc(), 7, &[2, 5, 50, 250, 750, 999])?;
-    Ok(())
-}
-
-#[test]
-fn thousand_keys_of_one_list(rt: HostRuntime) -> Result<(), Fail> {
-    thousand::<Short>(&rt, rt.alloc(), 2, &[0, 1, 2, 500, 999, 1000])?;
+    shares(&rt, rt.alloc(), &all, 3, (2, 2))?;
+    shares(&rt, rt.alloc(), &all, 4, (0, 0))?;
     Ok(())
 }

@@ -1,0 +1,128 @@
+//! What drives the rows. Each row makes a trie of its own, and is done to a second trie in place; so each of the two is
+//! an equal one, built apart, beside which the other is held.
+
+use super::*;
+
+fn made_once<K: Named>(
+    alloc: Global,
+    trie: &Numbers<K>,
+    step: Step,
+) -> Result<Numbers<K>, KvError> {
+    match step {
+        Step::Put(text, value) => inserted(alloc, trie, text, value),
+        Step::Remove(text) => trie.remove(alloc, &K::named(alloc, text)?),
+    }
+}
+
+// The trie that is made of another. A refusal leaves that one as its twin is.
+fn made<K: Named>(
+    rt: &impl Abort,
+    alloc: Global,
+    trie: &Numbers<K>,
+    twin: &Numbers<K>,
+    step: Step,
+) -> Result<Numbers<K>, KvError> {
+    match made_once(alloc, trie, step) {
+        Err(KvError::OutOfMemory) => {
+            are_same(rt, trie, twin);
+            made_once(alloc, trie, step)
+        }
+        made => made,
+    }
+}
+
+fn done_once<K: Named>(alloc: Global, here: &mut Numbers<K>, step: Step) -> Result<(), KvError> {
+    match step {
+        Step::Put(text, value) => put(alloc, here, text, value),
+        Step::Remove(text) => here.discard(alloc, &K::named(alloc, text)?),
+    }
+}
+
+// Does the step to the trie itself. A refusal leaves it as its twin is.
+fn done<K: Named>(
+    rt: &impl Abort,
+    alloc: Global,
+    here: &mut Numbers<K>,
+    twin: &Numbers<K>,
+    step: Step,
+) -> Result<(), KvError> {
+    match done_once(alloc, here, step) {
+        Err(KvError::OutOfMemory) => {
+            are_same(rt, here, twin);
+            done_once(alloc, here, step)
+        }
+        done => done,
+    }
+}
+
+fn hold<K: Named>(trie: &Numbers<K>) -> Result<Numbers<K>, KvError> {
+    match trie.snapshot() {
+        Ok(held) => Ok(held),
+        Err(_) => trie.snapshot(),
+    }
+}
+
+// Does the step beside a snapshot, which stays as the former trie is.
+fn done_beside<K: Named>(
+    rt: &impl Abort,
+    alloc: Global,
+    here: &mut Numbers<K>,
+    former: &Numbers<K>,
+    step: Step,
+) -> Result<(), KvError> {
+    let held = hold(here)?;
+    done(rt, alloc, here, former, step)?;
+    are_same(rt, &held, former);
+    Ok(())
+}
+
+fn value<K: Named>(alloc: Global, trie: &Numbers<K>, text: &str) -> Result<Option<u32>, KvError> {
+    let key = K::named(alloc, text)?;
+    Ok(trie.get(&key).copied())
+}
+
+// The value of a key, read again where its name lacked memory.
+fn value_of<K: Named>(
+    alloc: Global,
+    trie: &Numbers<K>,
+    text: &str,
+) -> Result<Option<u32>, KvError> {
+    match value(alloc, trie, text) {
+        Err(KvError::OutOfMemory) => value(alloc, trie, text),
+        value => value,
+    }
+}
+
+fn has_done<K: Named>(
+    rt: &impl Abort,
+    alloc: Global,
+    trie: &Numbers<K>,
+    row: Row,
+) -> Result<(), KvError> {
+    let (text, wanted) = match row.0 {
+        Step::Put(text, value) => (text, Some(value)),
+        Step::Remove(text) => (text, None),
+    };
+    equal(rt, value_of(alloc, trie, text)?, wanted);
+    equal(rt, trie.len(), row.1);
+    Ok(())
+}
+
+pub(super) fn step<K: Named>(
+    rt: &impl Abort,
+    alloc: Global,
+    trie: &mut Numbers<K>,
+    here: &mut Numbers<K>,
+    beside: bool,
+    row: Row,
+) -> Result<(), KvError> {
+    let next = made(rt, alloc, trie, here, row.0)?;
+    if beside {
+        done_beside(rt, alloc, here, trie, row.0)?;
+    } else {
+        done(rt, alloc, here, trie, row.0)?;
+    }
+    are_same(rt, here, &next);
+    *trie = next;
+    has_done(rt, alloc, trie, row)
+}
