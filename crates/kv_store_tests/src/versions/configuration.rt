@@ -2,99 +2,74 @@
 
 use super::*;
 
-// What both `check` and `Version::empty` answer to a configuration; another refusal where they differ.
-fn answer(alloc: Global, config: &Config) -> Result<Version, KvError> {
-    let made = empty(alloc, config);
-    match config.check() {
-        Ok(()) => made,
-        Err(refusal) if made.err() == Some(refusal) => Err(refusal),
-        Err(_) => Err(KvError::BadCommand),
+// The bucket's name, its limits, and what both `check` and `Version::empty` answer.
+type Asked = (&'static str, Limits, Result<(), KvError>);
+
+// A bucket that is made has the name.
+fn made(rt: &impl Abort, alloc: Global, config: &Config, name: &str) -> Result<(), KvError> {
+    match Version::empty(alloc, config) {
+        Ok(version) => {
+            equal(rt, version.bucket(), name);
+            Ok(())
+        }
+        Err(error) => Err(error),
     }
 }
 
-// Whether a bucket with this name is made, under this name.
-fn answer_to_name(alloc: Global, name: &str) -> Result<(), KvError> {
-    let config = named(alloc, name)?;
-    let version = answer(alloc, &config)?;
-    if version.bucket() == name {
-        Ok(())
-    } else {
-        Err(KvError::BadCommand)
+fn answer_once(rt: &impl Abort, alloc: Global, name: &str, limits: Limits) -> Result<(), KvError> {
+    let config = limited(alloc, name, limits)?;
+    let answer = made(rt, alloc, &config, name);
+    if answer != Err(KvError::OutOfMemory) {
+        equal(rt, config.check(), answer);
+    }
+    answer
+}
+
+fn answer(rt: &impl Abort, alloc: Global, name: &str, limits: Limits) -> Result<(), KvError> {
+    match answer_once(rt, alloc, name, limits) {
+        Err(KvError::OutOfMemory) => answer_once(rt, alloc, name, limits),
+        answer => answer,
     }
 }
 
-// The answer to a configuration with these numbers.
-fn answer_to_numbers(
-    alloc: Global,
-    history: u64,
-    value_limit: u64,
-    write_limit: u64,
-    revision_limit: u64,
-) -> Result<(), KvError> {
-    let mut config = named(alloc, "kv")?;
-    config.history = history;
-    config.value_limit = value_limit;
-    config.write_limit = write_limit;
-    config.revision_limit = revision_limit;
-    answer(alloc, &config)?;
-    Ok(())
+fn answers(rt: &impl Abort, alloc: Global, rows: &[Asked]) {
+    for (name, limits, wanted) in rows {
+        equal(rt, answer(rt, alloc, name, *limits), *wanted);
+    }
 }
 
-#[test]
-fn bucket_names(rt: HostRuntime) -> Result<(), Fail> {
-    let bad = Err(KvError::BadBucket);
-    let longest = "0123456789-abcdefghijklmnopqrstuvwxyz_ABCDEFGHIJKLMNOPQRSTUVWXYZ";
-    let longer = "0123456789-abcdefghijklmnopqrstuvwxyz_ABCDEFGHIJKLMNOPQRSTUVWXYZ0";
-    equal(&rt, longest.len(), 64);
-    equal(&rt, answer_to_name(rt.alloc(), longest), Ok(()));
-    equal(&rt, answer_to_name(rt.alloc(), longer), bad);
-    equal(&rt, answer_to_name(rt.alloc(), "my.bucket"), bad);
-    equal(&rt, answer_to_name(rt.alloc(), ""), bad);
-    Ok(())
-}
+const LONGEST: &str = "0123456789-abcdefghijklmnopqrstuvwxyz_ABCDEFGHIJKLMNOPQRSTUVWXYZ";
+
+const LONGER: &str = "0123456789-abcdefghijklmnopqrstuvwxyz_ABCDEFGHIJKLMNOPQRSTUVWXYZ0";
+
+const NAMES: &[Asked] = &[
+    (LONGEST, (1, 0, 1, 1), Ok(())),
+    (LONGER, (1, 0, 1, 1), Err(KvError::BadBucket)),
+    ("my.bucket", (1, 0, 1, 1), Err(KvError::BadBucket)),
+    ("", (1, 0, 1, 1), Err(KvError::BadBucket)),
+    // the name comes before the numbers
+    ("my.bucket", (0, 0, 1, 1), Err(KvError::BadBucket)),
+];
 
 #[test]
-fn smallest_and_largest_numbers(rt: HostRuntime) -> Result<(), Fail> {
-    equal(&rt, answer_to_numbers(rt.alloc(), 1, 0, 1, 1), Ok(()));
-    equal(
-        &rt,
-        answer_to_numbers(rt.alloc(), 64, 1_048_576, 1_000_000, 4_294_967_295),
-        Ok(()),
-    );
-    Ok(())
+fn bucket_names(rt: HostRuntime) {
+    equal(&rt, LONGEST.len(), 64);
+    answers(&rt, rt.alloc(), NAMES);
 }
 
-#[test]
-fn numbers_below_their_limits(rt: HostRuntime) -> Result<(), Fail> {
-    let bad = Err(KvError::BadConfig);
-    equal(&rt, answer_to_numbers(rt.alloc(), 0, 0, 1, 1), bad);
-    equal(&rt, answer_to_numbers(rt.alloc(), 1, 0, 0, 1), bad);
-    equal(&rt, answer_to_numbers(rt.alloc(), 1, 0, 1, 0), bad);
-    Ok(())
-}
+const NUMBERS: &[Asked] = &[
+    ("kv", (1, 0, 1, 1), Ok(())),
+    ("kv", (64, 1_048_576, 1_000_000, 4_294_967_295), Ok(())),
+    ("kv", (0, 0, 1, 1), Err(KvError::BadConfig)),
+    ("kv", (1, 0, 0, 1), Err(KvError::BadConfig)),
+    ("kv", (1, 0, 1, 0), Err(KvError::BadConfig)),
+    ("kv", (65, 0, 1, 1), Err(KvError::BadConfig)),
+    ("kv", (1, 1_048_577, 1, 1), Err(KvError::BadConfig)),
+    ("kv", (1, 0, 1_000_001, 1), Err(KvError::BadConfig)),
+    ("kv", (1, 0, 1, 4_294_967_296), Err(KvError::BadConfig)),
+];
 
 #[test]
-fn numbers_above_their_limits(rt: HostRuntime) -> Result<(), Fail> {
-    let bad = Err(KvError::BadConfig);
-    equal(&rt, answer_to_numbers(rt.alloc(), 65, 0, 1, 1), bad);
-    equal(&rt, answer_to_numbers(rt.alloc(), 1, 1_048_577, 1, 1), bad);
-    equal(&rt, answer_to_numbers(rt.alloc(), 1, 0, 1_000_001, 1), bad);
-    equal(
-        &rt,
-        answer_to_numbers(rt.alloc(), 1, 0, 1, 4_294_967_296),
-        bad,
-    );
-    Ok(())
-}
-
-#[test]
-fn the_name_comes_before_the_numbers(rt: HostRuntime) -> Result<(), Fail> {
-    let mut config = named(rt.alloc(), "my.bucket")?;
-    config.history = 0;
-    equal(&rt, config.check(), Err(KvError::BadBucket));
-    let refused = empty(rt.alloc(), &config);
-    equal(&rt, refused.err(), Some(KvError::BadBucket));
-    equal(&rt, config.bucket.as_str(), "my.bucket");
-    equal(&rt, config.history, 0);
-    Ok(())
+fn numbers_at_and_beyond_their_limits(rt: HostRuntime) {
+    answers(&rt, rt.alloc(), NUMBERS);
 }

@@ -2,157 +2,142 @@
 
 use super::*;
 
-// Whether the latest entry of the key has this value.
-fn has_value(version: &Version, key: &Key, value: &[u8]) -> bool {
-    match latest(version, key) {
-        Ok(write) => write.value() == value,
-        Err(_) => false,
-    }
-}
+const CREATES: &[Row] = &[
+    ("a", Ask::Put("1"), Ok(1)),
+    ("a", Ask::Create("2"), Err(KvError::KeyExists)),
+    ("a", Ask::Delete(None), Ok(2)),
+    ("a", Ask::Create("3"), Ok(3)),
+    ("a", Ask::Purge(None), Ok(4)),
+    ("a", Ask::Create("4"), Ok(5)),
+];
 
 #[test]
 fn create_after_marker(rt: HostRuntime) -> Result<(), Fail> {
-    let steps = [
-        ("a", Ask::Put("1"), Ok(1)),
-        ("a", Ask::Create("2"), Err(KvError::KeyExists)),
-        ("a", Ask::Delete(None), Ok(2)),
-        ("a", Ask::Create("3"), Ok(3)),
-        ("a", Ask::Purge(None), Ok(4)),
-        ("a", Ask::Create("4"), Ok(5)),
-    ];
-    let version = run(&rt, rt.alloc(), kv(rt.alloc())?, &steps)?;
-    has_last_create(&rt, rt.alloc(), &version)?;
+    let facts = [Fact::Value("a", None, Some(b"4"))];
+    holds(&rt, rt.alloc(), keeping(1), CREATES, &facts)?;
     Ok(())
 }
 
-fn has_last_create(rt: &impl Abort, alloc: Global, version: &Version) -> Result<(), KvError> {
-    let a = key(alloc, "a")?;
-    assert!(rt; has_value(version, &a, b"4"));
-    Ok(())
-}
+const UPDATES: &[Row] = &[
+    (
+        "k",
+        Ask::Update("", u64::MAX),
+        Err(KvError::WrongLastRevision { last: 0 }),
+    ),
+    ("k", Ask::Put("1"), Ok(1)),
+    (
+        "k",
+        Ask::Update("", u64::MAX),
+        Err(KvError::WrongLastRevision { last: 1 }),
+    ),
+    (
+        "k",
+        Ask::Purge(Some(u64::MAX)),
+        Err(KvError::WrongLastRevision { last: 1 }),
+    ),
+    ("k", Ask::Delete(None), Ok(2)),
+    (
+        "k",
+        Ask::Update("1", 0),
+        Err(KvError::WrongLastRevision { last: 2 }),
+    ),
+    ("k", Ask::Update("1", 2), Ok(3)),
+    ("n", Ask::Update("2", 0), Ok(4)),
+    (
+        "k",
+        Ask::Delete(Some(1)),
+        Err(KvError::WrongLastRevision { last: 3 }),
+    ),
+    ("k", Ask::Delete(Some(3)), Ok(5)),
+    ("n", Ask::Purge(Some(4)), Ok(6)),
+    (
+        "k",
+        Ask::Update("3", 3),
+        Err(KvError::WrongLastRevision { last: 5 }),
+    ),
+];
 
 #[test]
 fn compare_and_set(rt: HostRuntime) -> Result<(), Fail> {
-    let steps = [
-        ("k", Ask::Put("1"), Ok(1)),
-        ("k", Ask::Delete(None), Ok(2)),
-        (
-            "k",
-            Ask::Update("1", 0),
-            Err(KvError::WrongLastRevision { last: 2 }),
-        ),
-        ("k", Ask::Update("1", 2), Ok(3)),
-        ("n", Ask::Update("2", 0), Ok(4)),
-        (
-            "k",
-            Ask::Delete(Some(1)),
-            Err(KvError::WrongLastRevision { last: 3 }),
-        ),
-        ("k", Ask::Delete(Some(3)), Ok(5)),
-        ("n", Ask::Purge(Some(4)), Ok(6)),
-    ];
-    let version = run(&rt, rt.alloc(), kv(rt.alloc())?, &steps)?;
-    ends_by_a_delete(&rt, rt.alloc(), &version)?;
+    holds(&rt, rt.alloc(), keeping(1), UPDATES, &[])?;
     Ok(())
 }
 
-fn ends_by_a_delete(rt: &impl Abort, alloc: Global, version: &Version) -> Result<(), KvError> {
-    let k = key(alloc, "k")?;
-    equal(rt, last_revision(version, &k), 5);
-    Ok(())
-}
+const MARKERS: &[Row] = &[
+    ("a", Ask::Delete(None), Ok(1)),
+    ("b", Ask::Purge(None), Ok(2)),
+    ("k", Ask::Delete(Some(0)), Ok(3)),
+    ("n", Ask::Purge(Some(0)), Ok(4)),
+];
 
-#[test]
-fn largest_last_revision(rt: HostRuntime) -> Result<(), Fail> {
-    let steps = [
-        (
-            "n",
-            Ask::Update("", u64::MAX),
-            Err(KvError::WrongLastRevision { last: 0 }),
-        ),
-        ("k", Ask::Put(""), Ok(1)),
-        (
-            "k",
-            Ask::Update("", u64::MAX),
-            Err(KvError::WrongLastRevision { last: 1 }),
-        ),
-        (
-            "k",
-            Ask::Purge(Some(u64::MAX)),
-            Err(KvError::WrongLastRevision { last: 1 }),
-        ),
-    ];
-    let version = run(&rt, rt.alloc(), kv(rt.alloc())?, &steps)?;
-    equal(&rt, newest(&version), 1);
-    Ok(())
-}
-
-fn has_ops(sight: &Sight, ops: &[Op]) -> bool {
-    let ops = ops.iter().copied();
-    sight.entries.iter().map(|entry| entry.op).eq(ops)
-}
+const MARKED: &[Fact] = &[
+    Fact::Entries("a", &[(Op::Delete, 1)]),
+    Fact::Entries("b", &[(Op::Purge, 2)]),
+    Fact::Entries("k", &[(Op::Delete, 3)]),
+    Fact::Entries("n", &[(Op::Purge, 4)]),
+    Fact::Numbers(
+        Status {
+            history: 1,
+            last: 4,
+            sealed: false,
+            stored: 4,
+            values: 4,
+        },
+        0,
+    ),
+];
 
 #[test]
 fn markers_of_keys_that_never_were(rt: HostRuntime) -> Result<(), Fail> {
-    let steps = [
-        ("a", Ask::Delete(None), Ok(1)),
-        ("b", Ask::Purge(None), Ok(2)),
-        ("k", Ask::Delete(Some(0)), Ok(3)),
-        ("n", Ask::Purge(Some(0)), Ok(4)),
-    ];
-    let version = run(&rt, rt.alloc(), kv(rt.alloc())?, &steps)?;
-    has_four_markers(&rt, rt.alloc(), &version)?;
+    holds(&rt, rt.alloc(), keeping(1), MARKERS, MARKED)?;
     Ok(())
 }
 
-fn has_four_markers(rt: &impl Abort, alloc: Global, version: &Version) -> Result<(), KvError> {
-    let sight = look(alloc, version)?;
-    assert!(rt; has_ops(&sight, &[Op::Delete, Op::Purge, Op::Delete, Op::Purge]));
-    equal(rt, numbers(version).values, 4);
-    Ok(())
-}
+const PUTS: &[Row] = &[
+    ("k", Ask::Put("1"), Ok(1)),
+    ("k", Ask::Put("2"), Ok(2)),
+    ("k", Ask::Put("3"), Ok(3)),
+    ("k", Ask::Delete(None), Ok(4)),
+    ("n", Ask::Put("5"), Ok(5)),
+];
 
-// Whether the entry of the key with the revision is retained and has this value.
-fn has_value_at(version: &Version, key: &Key, revision: u64, value: &[u8]) -> bool {
-    match version.get_at(key, revision) {
-        Ok(write) => write.value() == value,
-        Err(_) => false,
-    }
-}
-
-fn has_latest(version: &Version, key: &Key) -> bool {
-    latest(version, key).is_ok()
-}
-
-fn has_at(version: &Version, key: &Key, revision: u64) -> bool {
-    version.get_at(key, revision).is_ok()
-}
-
-// Of the revisions of the key, from 2 to 5, the third alone has a value that is retained.
-fn has_third_alone(rt: &impl Abort, version: &Version, key: &Key) {
-    assert!(rt; !has_latest(version, key));
-    assert!(rt; !has_at(version, key, 2));
-    assert!(rt; has_value_at(version, key, 3, b"3"));
-    assert!(rt; !has_at(version, key, 4));
-    assert!(rt; !has_at(version, key, 5));
-}
+// Of the revisions of `k`, from 2 to 5, the third alone has a value that is retained.
+const THIRD: &[Fact] = &[
+    Fact::Value("k", None, None),
+    Fact::Value("k", Some(2), None),
+    Fact::Value("k", Some(3), Some(b"3")),
+    Fact::Value("k", Some(4), None),
+    Fact::Value("k", Some(5), None),
+];
 
 #[test]
 fn get_at_a_revision(rt: HostRuntime) -> Result<(), Fail> {
-    let steps = [
-        ("k", Ask::Put("1"), Ok(1)),
-        ("k", Ask::Put("2"), Ok(2)),
-        ("k", Ask::Put("3"), Ok(3)),
-        ("k", Ask::Delete(None), Ok(4)),
-        ("n", Ask::Put("5"), Ok(5)),
-    ];
-    let version = run(&rt, rt.alloc(), keeping(rt.alloc(), 2)?, &steps)?;
-    has_the_third(&rt, rt.alloc(), &version)?;
+    holds(&rt, rt.alloc(), keeping(2), PUTS, THIRD)?;
     Ok(())
 }
 
-fn has_the_third(rt: &impl Abort, alloc: Global, version: &Version) -> Result<(), KvError> {
-    let k = key(alloc, "k")?;
-    has_third_alone(rt, version, &k);
+// Writes of keys that share a place and of others, and requests that are refused.
+const PLACES: &[Row] = &[
+    ("altarage", Ask::Create("one"), Ok(1)),
+    ("altarage", Ask::Create("two"), Err(KvError::KeyExists)),
+    ("zinke", Ask::Put("three"), Ok(2)),
+    ("a", Ask::Put("four"), Ok(3)),
+    ("a", Ask::Update("five", 3), Ok(4)),
+    (
+        "zinke",
+        Ask::Update("six", 1),
+        Err(KvError::WrongLastRevision { last: 2 }),
+    ),
+    ("b", Ask::Delete(None), Ok(5)),
+    ("a", Ask::Put("seven"), Ok(6)),
+    ("zinke", Ask::Purge(Some(2)), Ok(7)),
+    ("zinke", Ask::Create("eight"), Ok(8)),
+    ("c", Ask::Put(""), Ok(9)),
+];
+
+#[test]
+fn keys_that_share_a_place(rt: HostRuntime) -> Result<(), Fail> {
+    let facts = [Fact::Value("altarage", None, Some(b"one"))];
+    holds(&rt, rt.alloc(), keeping(2), PLACES, &facts)?;
     Ok(())
 }

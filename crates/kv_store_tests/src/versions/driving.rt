@@ -1,0 +1,211 @@
+//! What drives the rows of a history. Each row makes a version of its own, and is done to a second version in place;
+//! so each of the two is an equal one, built apart, beside which the other is held.
+
+use super::*;
+
+fn empty_once(alloc: Global, limits: Limits) -> Result<Version, KvError> {
+    let config = limited(alloc, "kv", limits)?;
+    Version::empty(alloc, &config)
+}
+
+fn empty(alloc: Global, limits: Limits) -> Result<Version, KvError> {
+    match empty_once(alloc, limits) {
+        Err(KvError::OutOfMemory) => empty_once(alloc, limits),
+        version => version,
+    }
+}
+
+fn same_write(first: &Write, second: &Write) -> bool {
+    first.key() == second.key()
+        && first.op() == second.op()
+        && first.revision() == second.revision()
+        && first.value() == second.value()
+}
+
+// Whether both have the same write at the revision, and the same kept revisions of its key.
+fn same_at(first: &Version, second: &Version, revision: u64) -> bool {
+    match (first.write_at(revision), second.write_at(revision)) {
+        (Some(one), Some(other)) => {
+            same_write(one, other) && first.kept_at(one.key()) == second.kept_at(one.key())
+        }
+        (None, None) => true,
+        _ => false,
+    }
+}
+
+fn tell_the_same(rt: &impl Abort, first: &Version, second: &Version) {
+    equal(rt, first.status(), second.status());
+    equal(rt, first.floor(), second.floor());
+    equal(rt, first.by_key().len(), second.by_key().len());
+    for revision in 1..=first.revision() {
+        assert!(rt; same_at(first, second, revision));
+    }
+}
+
+fn made_once(alloc: Global, version: &Version, text: &str, ask: Ask) -> Result<Version, KvError> {
+    match ask {
+        Ask::Seal => version.seal(alloc),
+        Ask::Compact(floor) => version.compact(alloc, floor),
+        _ => version.apply(alloc, &request(alloc, text, ask)?),
+    }
+}
+
+// The version that is made of another. A refusal leaves that one as its twin is.
+fn made(
+    rt: &impl Abort,
+    alloc: Global,
+    version: &Version,
+    twin: &Version,
+    row: Row,
+) -> Result<Version, KvError> {
+    match made_once(alloc, version, row.0, row.1) {
+        Ok(next) => Ok(next),
+        Err(error) => {
+            tell_the_same(rt, version, twin);
+            match error {
+                KvError::OutOfMemory => made_once(alloc, version, row.0, row.1),
+                _ => Err(error),
+            }
+        }
+    }
+}
+
+// The version behind a row, which is this one where the row is refused.
+fn next(
+    rt: &impl Abort,
+    alloc: Global,
+    version: &Version,
+    twin: &Version,
+    row: Row,
+) -> Result<Version, KvError> {
+    match made(rt, alloc, version, twin, row) {
+        Ok(next) => {
+            assert!(rt; row.2 == Ok(next.revision()));
+            Ok(next)
+        }
+        Err(error) => {
+            assert!(rt; row.2 == Err(error));
+            version.snapshot()
+        }
+    }
+}
+
+fn done_once(alloc: Global, here: &mut Version, text: &str, ask: Ask) -> Result<(), KvError> {
+    match ask {
+        Ask::Seal => {
+            *here = here.seal(alloc)?;
+            Ok(())
+        }
+        Ask::Compact(floor) => here.compact_in_place(alloc, floor),
+        _ => here.write(alloc, &request(alloc, text, ask)?),
+    }
+}
+
+// Does the row to the version itself. A refusal leaves it as its twin is.
+fn done(
+    rt: &impl Abort,
+    alloc: Global,
+    here: &mut Version,
+    twin: &Version,
+    row: Row,
+) -> Result<(), KvError> {
+    match done_once(alloc, here, row.0, row.1) {
+        Ok(()) => Ok(()),
+        Err(error) => {
+            tell_the_same(rt, here, twin);
+            match error {
+                KvError::OutOfMemory => done_once(alloc, here, row.0, row.1),
+                _ => Err(error),
+            }
+        }
+    }
+}
+
+// And so it goes from the former version to the next one.
+fn goes_on(
+    rt: &impl Abort,
+    alloc: Global,
+    here: &mut Version,
+    former: &Version,
+    next: &Version,
+    row: Row,
+) {
+    match done(rt, alloc, here, former, row) {
+        Ok(()) => assert!(rt; row.2 == Ok(here.revision())),
+        Err(error) => assert!(rt; row.2 == Err(error)),
+    }
+    tell_the_same(rt, here, next);
+}
+
+// The same beside a snapshot, which stays as the former version is.
+fn goes_on_beside(
+    rt: &impl Abort,
+    alloc: Global,
+    here: &mut Version,
+    former: &Version,
+    next: &Version,
+    row: Row,
+) -> Result<(), KvError> {
+    let held = here.snapshot()?;
+    goes_on(rt, alloc, here, former, next, row);
+    tell_the_same(rt, &held, former);
+    Ok(())
+}
+
+fn step(
+    rt: &impl Abort,
+    alloc: Global,
+    version: &mut Version,
+    here: &mut Version,
+    beside: bool,
+    row: Row,
+) -> Result<(), KvError> {
+    let next = next(rt, alloc, version, here, row)?;
+    if beside {
+        goes_on_beside(rt, alloc, here, version, &next, row)?;
+    } else {
+        goes_on(rt, alloc, here, version, &next, row);
+    }
+    *version = next;
+    Ok(())
+}
+
+fn run(
+    rt: &impl Abort,
+    alloc: Global,
+    limits: Limits,
+    version: &mut Version,
+    beside: bool,
+    rows: &[Row],
+) -> Result<(), KvError> {
+    let mut here = empty(alloc, limits)?;
+    for row in rows {
+        step(rt, alloc, version, &mut here, beside, *row)?;
+    }
+    Ok(())
+}
+
+fn holds_so(
+    rt: &impl Abort,
+    alloc: Global,
+    limits: Limits,
+    beside: bool,
+    rows: &[Row],
+    facts: &[Fact],
+) -> Result<(), KvError> {
+    let mut version = empty(alloc, limits)?;
+    run(rt, alloc, limits, &mut version, beside, rows)?;
+    facts::are_told(rt, alloc, &version, facts)
+}
+
+// In a new bucket each row has its answer, with and without a snapshot beside it, and then these are the facts.
+pub(super) fn holds(
+    rt: &impl Abort,
+    alloc: Global,
+    limits: Limits,
+    rows: &[Row],
+    facts: &[Fact],
+) -> Result<(), KvError> {
+    holds_so(rt, alloc, limits, false, rows, facts)?;
+    holds_so(rt, alloc, limits, true, rows, facts)
+}
