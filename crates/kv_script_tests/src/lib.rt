@@ -4,6 +4,8 @@
 #[cfg(test)]
 mod answers;
 #[cfg(test)]
-mod in_text;
+mod entries;
 #[cfg(test)]
 mod lines;
+#[cfg(test)]
+mod refused;

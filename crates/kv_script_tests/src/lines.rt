@@ -1,35 +1,126 @@
-//! Tests of lines by texts from outside: the rules of the script's grammar, and worked rows of scripts with their
-//! answers.
+//! Lines by texts from outside: the rules of the script's grammar, and worked rows of scripts.
 //!
 //! A request for memory that is refused is made again: a second refusal in a row does not come.
 use kv_keys::KvError;
-use kv_model::{Request, Start};
+use kv_model::{Options, Request, Start};
 use kv_script::{Command, Form, is_skipped, parse};
-use std::alloc::{AllocError, Global};
-use std::fmt::Debug;
+use std::alloc::Global;
 use std::process::Abort;
 use std::test::Fail;
 
-fn bytes_command(alloc: Global, line: &[u8]) -> Result<Command, KvError> {
-    match parse(alloc, Form::Base64, line) {
-        Err(KvError::OutOfMemory) => parse(alloc, Form::Base64, line),
+// Of what a line asks for the name, the key or the filters, the value, and the first number.
+type Asked = (&'static str, &'static str, &'static [u8], Option<u64>);
+
+const COMMANDS: &[(Form, &str, Asked)] = &[
+    (Form::Base64, "put a MQ==", ("put", "a", b"1", None)),
+    (Form::Base64, "put a -", ("put", "a", b"", None)),
+    (
+        Form::Base64,
+        "create b.c TWE=",
+        ("create", "b.c", b"Ma", None),
+    ),
+    (
+        Form::Base64,
+        "update n 0 TWFu",
+        ("update", "n", b"Man", Some(0)),
+    ),
+    (
+        Form::Base64,
+        "update n 18446744073709551615 -",
+        ("update", "n", b"", Some(u64::MAX)),
+    ),
+    (Form::Base64, "delete a", ("delete", "a", b"", None)),
+    (Form::Base64, "delete a 3", ("delete", "a", b"", Some(3))),
+    (Form::Base64, "purge a", ("purge", "a", b"", None)),
+    (Form::Base64, "purge a 007", ("purge", "a", b"", Some(7))),
+    (Form::Base64, "get a", ("get", "a", b"", None)),
+    (
+        Form::Base64,
+        "get a 00000000000000000001",
+        ("get at", "a", b"", Some(1)),
+    ),
+    (
+        Form::Base64,
+        "get a 18446744073709551615",
+        ("get at", "a", b"", Some(u64::MAX)),
+    ),
+    (Form::Base64, "history a", ("history", "a", b"", None)),
+    (Form::Base64, "keys a.>", ("keys", "a.>", b"", None)),
+    (Form::Base64, "watch a.*,>", ("watch", "a.*,>", b"", None)),
+    (Form::Base64, "take 1 1", ("take", "", b"", Some(1))),
+    (Form::Base64, "take 2 1000000", ("take", "", b"", Some(2))),
+    (Form::Base64, "stop 3", ("stop", "", b"", Some(3))),
+    (Form::Base64, "status", ("status", "", b"", None)),
+    (Form::Base64, "seal", ("seal", "", b"", None)),
+    (Form::Base64, "compact 7", ("compact", "", b"", Some(7))),
+    (Form::Base64, "compact 0", ("compact", "", b"", Some(0))),
+    (
+        Form::Base64,
+        "compact 18446744073709551615",
+        ("compact", "", b"", Some(u64::MAX)),
+    ),
+    (Form::Base64, "place zinke", ("place", "zinke", b"", None)),
+    (Form::Text, "put k hello", ("put", "k", b"hello", None)),
+    (
+        Form::Text,
+        "put k hello, you",
+        ("put", "k", b"hello, you", None),
+    ),
+    (Form::Text, "put k  a  b ", ("put", "k", b" a  b ", None)),
+    (Form::Text, "put k ", ("put", "k", b"", None)),
+    (Form::Text, "put k  ", ("put", "k", b" ", None)),
+    (Form::Text, "put k -", ("put", "k", b"-", None)),
+    (Form::Text, "put k MQ==", ("put", "k", b"MQ==", None)),
+    (
+        Form::Text,
+        "put k \u{e9}\t",
+        ("put", "k", b"\xc3\xa9\t", None),
+    ),
+    (Form::Text, "put k put k v", ("put", "k", b"put k v", None)),
+    (Form::Text, "create k ", ("create", "k", b"", None)),
+    (Form::Text, "create k # x", ("create", "k", b"# x", None)),
+    (
+        Form::Text,
+        "update k 7 x y",
+        ("update", "k", b"x y", Some(7)),
+    ),
+    (Form::Text, "update k 007 ", ("update", "k", b"", Some(7))),
+    (Form::Text, "update k 7  8", ("update", "k", b" 8", Some(7))),
+    (Form::Text, "delete k 7", ("delete", "k", b"", Some(7))),
+    (Form::Text, "purge k", ("purge", "k", b"", None)),
+    (Form::Text, "get a.b", ("get", "a.b", b"", None)),
+    (Form::Text, "get a.b 3", ("get at", "a.b", b"", Some(3))),
+    (Form::Text, "keys a.>", ("keys", "a.>", b"", None)),
+    (
+        Form::Text,
+        "watch a,b.> history",
+        ("watch", "a,b.>", b"", None),
+    ),
+    (Form::Text, "take 1 9", ("take", "", b"", Some(1))),
+    (Form::Text, "status", ("status", "", b"", None)),
+    (Form::Text, "compact 4", ("compact", "", b"", Some(4))),
+];
+
+// Lines of watches, and of their options the start, whether markers are left out, and whether values are.
+const WATCHES: &[(&str, Start, bool, bool)] = &[
+    ("watch >", Start::Latest, false, false),
+    ("watch > history", Start::History, false, false),
+    ("watch > updates", Start::Updates, false, false),
+    ("watch > from=5", Start::From(5), false, false),
+    ("watch > nodeletes from=0 meta", Start::From(0), true, true),
+    ("watch > meta history", Start::History, false, true),
+    ("watch > updates nodeletes", Start::Updates, true, false),
+];
+
+pub(crate) fn parsed(alloc: Global, form: Form, line: &[u8]) -> Result<Command, KvError> {
+    match parse(alloc, form, line) {
+        Err(KvError::OutOfMemory) => parse(alloc, form, line),
         parsed => parsed,
     }
 }
 
-fn command(alloc: Global, line: &str) -> Result<Command, KvError> {
-    bytes_command(alloc, line.as_bytes())
-}
-
-fn refusal(alloc: Global, line: &str) -> Option<KvError> {
-    match command(alloc, line) {
-        Ok(_) => None,
-        Err(error) => Some(error),
-    }
-}
-
 // The name of a write, its key, its value and its revision, if it has one.
-pub(crate) fn write_parts(request: &Request) -> (&'static str, &str, &[u8], Option<u64>) {
+fn parts_of_write(request: &Request) -> (&str, &str, &[u8], Option<u64>) {
     match request {
         Request::Put { key, value } => ("put", key.as_str(), value.as_slice(), None),
         Request::Create { key, value } => ("create", key.as_str(), value.as_slice(), None),
@@ -41,238 +132,81 @@ pub(crate) fn write_parts(request: &Request) -> (&'static str, &str, &[u8], Opti
     }
 }
 
-// The name of a command, its key or filters, and its first number.
-pub(crate) fn command_parts(command: &Command) -> (&'static str, &str, Option<u64>) {
+// The name of a command, its key or filters, its value, and its first number.
+fn parts(command: &Command) -> (&str, &str, &[u8], Option<u64>) {
     match command {
-        Command::Write(_) => ("write", "", None),
-        Command::Get(key) => ("get", key.as_str(), None),
-        Command::GetAt(key, revision) => ("get at", key.as_str(), Some(*revision)),
-        Command::History(key) => ("history", key.as_str(), None),
-        Command::Keys(filter) => ("keys", filter.as_str(), None),
-        Command::Watch(filters, _) => ("watch", filters.as_str(), None),
-        Command::Take { watch, .. } => ("take", "", Some(*watch)),
-        Command::Stop(watch) => ("stop", "", Some(*watch)),
-        Command::Status => ("status", "", None),
-        Command::Seal => ("seal", "", None),
-        Command::Compact(floor) => ("compact", "", Some(*floor)),
-        Command::Place(key) => ("place", key.as_str(), None),
+        Command::Write(request) => parts_of_write(request),
+        Command::Get(key) => ("get", key.as_str(), b"", None),
+        Command::GetAt(key, revision) => ("get at", key.as_str(), b"", Some(*revision)),
+        Command::History(key) => ("history", key.as_str(), b"", None),
+        Command::Keys(filter) => ("keys", filter.as_str(), b"", None),
+        Command::Watch(filters, _) => ("watch", filters.as_str(), b"", None),
+        Command::Take { watch, .. } => ("take", "", b"", Some(*watch)),
+        Command::Stop(watch) => ("stop", "", b"", Some(*watch)),
+        Command::Status => ("status", "", b"", None),
+        Command::Seal => ("seal", "", b"", None),
+        Command::Compact(floor) => ("compact", "", b"", Some(*floor)),
+        Command::Place(key) => ("place", key.as_str(), b"", None),
     }
 }
 
-#[test]
-fn writes_are_read(rt: HostRuntime) -> Result<(), Fail> {
-    let alloc = rt.alloc();
-    let table: [(&str, (&str, &str, &[u8], Option<u64>)); 9] = [
-        ("put a MQ==", ("put", "a", b"1", None)),
-        ("put a -", ("put", "a", b"", None)),
-        ("create b.c TWE=", ("create", "b.c", b"Ma", None)),
-        ("update n 0 TWFu", ("update", "n", b"Man", Some(0))),
-        (
-            "update n 18446744073709551615 -",
-            ("update", "n", b"", Some(18446744073709551615)),
-        ),
-        ("delete a", ("delete", "a", b"", None)),
-        ("delete a 3", ("delete", "a", b"", Some(3))),
-        ("purge a", ("purge", "a", b"", None)),
-        ("purge a 007", ("purge", "a", b"", Some(7))),
-    ];
-    for (line, parts) in table {
-        match command(alloc, line)? {
-            Command::Write(request) => assert!(rt; write_parts(&request) == parts, "{line}"),
-            _ => assert!(rt; false, "{line}"),
-        }
+// Whether the line asks for a watch with these options.
+fn has_options(alloc: Global, line: &str, options: Options) -> Result<bool, KvError> {
+    match parsed(alloc, Form::Base64, line.as_bytes())? {
+        Command::Watch(_, found) => Ok(found == options),
+        _ => Ok(false),
+    }
+}
+
+fn asks<R: Abort>(
+    rt: &R,
+    alloc: Global,
+    form: Form,
+    line: &str,
+    wanted: Asked,
+) -> Result<(), KvError> {
+    let command = parsed(alloc, form, line.as_bytes())?;
+    holds(rt, line, parts(&command) == wanted);
+    Ok(())
+}
+
+fn all_ask<R: Abort>(rt: &R, alloc: Global, rows: &[(Form, &str, Asked)]) -> Result<(), KvError> {
+    for (form, line, wanted) in rows {
+        asks(rt, alloc, *form, line, *wanted)?;
     }
     Ok(())
 }
 
 #[test]
-fn other_commands_are_read(rt: HostRuntime) -> Result<(), Fail> {
-    let alloc = rt.alloc();
-    let table = [
-        ("get a", ("get", "a", None)),
-        ("get a 00000000000000000001", ("get at", "a", Some(1))),
-        (
-            "get a 18446744073709551615",
-            ("get at", "a", Some(18446744073709551615)),
-        ),
-        ("history a", ("history", "a", None)),
-        ("keys a.>", ("keys", "a.>", None)),
-        ("watch a.*,>", ("watch", "a.*,>", None)),
-        ("take 1 1", ("take", "", Some(1))),
-        ("take 2 1000000", ("take", "", Some(2))),
-        ("stop 3", ("stop", "", Some(3))),
-        ("status", ("status", "", None)),
-        ("seal", ("seal", "", None)),
-        ("compact 7", ("compact", "", Some(7))),
-        ("compact 0", ("compact", "", Some(0))),
-        (
-            "compact 18446744073709551615",
-            ("compact", "", Some(18446744073709551615)),
-        ),
-        ("place zinke", ("place", "zinke", None)),
-    ];
-    for (line, parts) in table {
-        let command = command(alloc, line)?;
-        assert!(rt; command_parts(&command) == parts, "{line}");
-    }
+fn commands(rt: HostRuntime) -> Result<(), Fail> {
+    all_ask(&rt, rt.alloc(), COMMANDS)?;
     Ok(())
 }
 
 #[test]
-fn options_are_read(rt: HostRuntime) -> Result<(), Fail> {
-    let alloc = rt.alloc();
-    let table = [
-        ("watch >", Start::Latest, false, false),
-        ("watch > history", Start::History, false, false),
-        ("watch > updates", Start::Updates, false, false),
-        ("watch > from=5", Start::From(5), false, false),
-        ("watch > nodeletes from=0 meta", Start::From(0), true, true),
-        ("watch > meta history", Start::History, false, true),
-        ("watch > updates nodeletes", Start::Updates, true, false),
-    ];
-    for (line, start, ignore_deletes, headers_only) in table {
-        match command(alloc, line)? {
-            Command::Watch(_, options) => {
-                assert!(rt; options.start == start, "{line}");
-                assert_eq!(rt; options.ignore_deletes, ignore_deletes, "{line}");
-                assert_eq!(rt; options.headers_only, headers_only, "{line}");
-            }
-            _ => assert!(rt; false, "{line}"),
-        }
+fn options(rt: HostRuntime) -> Result<(), Fail> {
+    for (line, start, ignore_deletes, headers_only) in WATCHES {
+        let options = Options {
+            start: *start,
+            ignore_deletes: *ignore_deletes,
+            headers_only: *headers_only,
+        };
+        holds(&rt, line, has_options(rt.alloc(), line, options)?);
     }
-    Ok(())
-}
-
-#[test]
-fn faults(rt: HostRuntime) -> Result<(), Fail> {
-    let alloc = rt.alloc();
-    for line in [
-        "PUT a MQ==",
-        "put a",
-        "put a MQ",
-        "put  a MQ==",
-        "take 1 0",
-        "take 1 1000001",
-        "get a 99999999999999999999",
-        "get a 18446744073709551616",
-        "get a 000000000000000000001",
-        "get a +1",
-        "get a 1 2",
-        "put .a MQ",
-        "place",
-        "place a b",
-        "seal x",
-        "compact",
-        "compact x",
-        "compact 1 2",
-        "compact -1",
-        "compact 18446744073709551616",
-        "status x",
-        "get\ta",
-        "put a M===",
-        "put a MR==",
-        "put a MQ==MQ==",
-        "put a ",
-        " put a -",
-        "get a ",
-        "get",
-        "history",
-        "keys",
-        "watch",
-        "take 1",
-        "stop",
-        "stop x",
-        "delete a x",
-        "purge a 1 2",
-        "update a -",
-        "update a x -",
-        "watch > latest",
-        "watch > meta meta",
-        "watch > from=",
-        "watch > from=x",
-        "watch > from=1 from=1",
-        "watch > from=1 from=2",
-        "watch > history history",
-        "\u{e9}",
-        " ",
-    ] {
-        assert!(rt; refusal(alloc, line) == Some(KvError::BadCommand), "{line}");
-    }
-    for line in [
-        "put .a MQ==",
-        "get a\0",
-        "get a,b",
-        "history a..b",
-        "place *",
-        "delete a* 1",
-    ] {
-        assert!(rt; refusal(alloc, line) == Some(KvError::BadKey), "{line}");
-    }
-    for line in [
-        "keys a..b",
-        "keys a,b",
-        "watch a,,b",
-        "watch a,",
-        "watch a> history updates",
-    ] {
-        assert!(rt; refusal(alloc, line) == Some(KvError::BadFilter), "{line}");
-    }
-    for line in [
-        "watch > history updates",
-        "watch > from=1 history",
-        "watch > updates from=1",
-        "watch > history from=2 updates",
-    ] {
-        assert!(rt;
-            refusal(alloc, line) == Some(KvError::OptionsClash),
-            "{line}"
-        );
-    }
-    assert!(rt; parse(alloc, Form::Base64, b"get \xff").is_err());
     Ok(())
 }
 
 #[test]
 fn skipped_lines(rt: HostRuntime) {
     for line in ["", "#", "# put a -"] {
-        assert!(rt; is_skipped(line.as_bytes()), "{line}");
+        holds(&rt, line, is_skipped(line.as_bytes()));
     }
     for line in [" ", "get a", " #", "\r"] {
-        assert!(rt; !is_skipped(line.as_bytes()), "{line}");
+        holds(&rt, line, !is_skipped(line.as_bytes()));
     }
 }
 
-// A line that begins with this text, and then has characters of base64.
-fn long_line(alloc: Global, begin: &[u8]) -> Result<Vec<u8>, AllocError> {
-    let mut line = Vec::new(alloc);
-    if line.extend_from_slice(begin).is_err() {
-        line.extend_from_slice(begin)?;
-    }
-    for _ in 0..1_399_992 {
-        if line.push(b'A').is_err() {
-            line.push(b'A')?;
-        }
-    }
-    Ok(line)
-}
-
-#[test]
-fn lengths_of_lines(rt: HostRuntime) -> Result<(), Fail> {
-    let alloc = rt.alloc();
-    let longest = long_line(alloc, b"put abc ")?;
-    match bytes_command(alloc, &longest)? {
-        Command::Write(request) => equal(&rt, write_parts(&request).2.len(), 1_049_994),
-        _ => assert!(rt; false),
-    }
-    let longer = long_line(alloc, b"put abcd ")?;
-    match bytes_command(alloc, &longer) {
-        Ok(_) => assert!(rt; false),
-        Err(error) => equal(&rt, error, KvError::BadCommand),
-    }
-    Ok(())
-}
-
-// Ends the test where what was found is not what was wanted. A call of it is proved sooner than `assert_eq!` in its place.
-fn equal<T: PartialEq + Debug + Drop, R: Abort>(rt: &R, found: T, wanted: T) {
-    assert_eq!(rt; found, wanted);
+// Ends the test where something does not hold of a line, and tells the line.
+pub(crate) fn holds<R: Abort>(rt: &R, line: &str, is_so: bool) {
+    assert!(rt; is_so, "{line}");
 }
