@@ -4,22 +4,24 @@
 
 ghost use Rattle.std.specs.Prelude.{◌≡◌};
 
+use calls::{Call, Step, calls, look, put_request, steps};
 use kv_live::{
-    Config, Feed, Filters, Key, KvError, Live, LiveName, Opened, Options, Reader, Request, Start,
-    Status, Taken, Version,
+    Config, Feed, Filters, KvError, Live, LiveName, Opened, Options, Reader, Start, Taken, Version,
 };
+use moves::{Move, feed_of, feed_of_last, moves, stopped_at};
 use std::alloc::Global;
 use std::fmt::Debug;
 use std::marker::Brand;
 use std::process::Abort;
-use std::rt::Clock;
 use std::sync::Wait;
 use std::test::Fail;
 use std::thread::{Threads, join};
 
+mod calls;
 mod compacting;
 mod feeds;
 mod lock;
+mod moves;
 mod opening;
 mod places;
 mod told;
@@ -30,14 +32,41 @@ const LATEST: Options = Options {
     headers_only: false,
 };
 
-// What a watch was answered, by its numbers.
+// What a call answered, by its numbers.
 #[derive(Clone, Copy, Debug, PartialEq, Eq)]
 enum Answer {
+    Done,
+    // The revision of a write, or the number of a watch.
+    Number(u64),
     Entry(u64),
     Marker,
     Empty,
+    // So many items were handed out.
     Stopped(u64),
+    // The last revision of a version, and its floor.
+    On(u64, u64),
     Refused(KvError),
+}
+
+fn number(answered: Result<u64, KvError>) -> Answer {
+    match answered {
+        Ok(number) => Answer::Number(number),
+        Err(error) => Answer::Refused(error),
+    }
+}
+
+fn done(answered: Result<(), KvError>) -> Answer {
+    match answered {
+        Ok(()) => Answer::Done,
+        Err(error) => Answer::Refused(error),
+    }
+}
+
+fn on(version: Result<Version, KvError>) -> Answer {
+    match version {
+        Ok(version) => Answer::On(version.revision(), version.floor()),
+        Err(error) => Answer::Refused(error),
+    }
 }
 
 fn brief_taken(taken: Result<Taken<'_>, KvError>) -> Answer {
@@ -46,19 +75,6 @@ fn brief_taken(taken: Result<Taken<'_>, KvError>) -> Answer {
         Ok(Taken::Marker) => Answer::Marker,
         Ok(Taken::Empty) => Answer::Empty,
         Err(error) => Answer::Refused(error),
-    }
-}
-
-fn put_once(alloc: Global, key: &str, value: &str) -> Result<Request, KvError> {
-    let key = Key::parse(alloc, key)?;
-    let value = Vec::from_slice(alloc, value.as_bytes())?;
-    Ok(Request::Put { key, value })
-}
-
-fn put(alloc: Global, key: &str, value: &str) -> Result<Request, KvError> {
-    match put_once(alloc, key, value) {
-        Err(KvError::OutOfMemory) => put_once(alloc, key, value),
-        request => request,
     }
 }
 
@@ -75,11 +91,15 @@ enum Row {
     Beginning,
     ManyReaders,
     Closed,
-    Lock(lock::Row),
-    Feeds(feeds::Row),
-    Told(told::Row),
-    Compacting(compacting::Row),
-    Places(places::Row),
+    Calls(lock::Row),
+    BesideAGuard,
+    EachPhase,
+    ToldWrite,
+    LooksInTurn,
+    FreedPlace,
+    LeftBehind,
+    TwoFeeds,
+    HeldWatch,
 }
 
 impl Row {
@@ -89,28 +109,17 @@ impl Row {
             _ => 2,
         }
     }
-
-    fn write_limit(self) -> u64 {
-        match self {
-            Row::Lock(lock::Row::WriteLimitAndSeal) => 2,
-            _ => 1_000_000,
-        }
-    }
 }
 
 // Runs a row, and once more where a request for memory ended it.
-fn run<R: Threads + Wait + Abort + Sync + Clock>(
-    rt: &R,
-    alloc: Global,
-    row: Row,
-) -> Result<(), KvError> {
+fn run<R: Threads + Wait + Abort + Sync>(rt: &R, alloc: Global, row: Row) -> Result<(), KvError> {
     match run_once(rt, alloc, row) {
         Err(KvError::OutOfMemory) => run_once(rt, alloc, row),
         done => done,
     }
 }
 
-fn run_once<R: Threads + Wait + Abort + Sync + Clock>(
+fn run_once<R: Threads + Wait + Abort + Sync>(
     rt: &R,
     alloc: Global,
     row: Row,
@@ -119,13 +128,14 @@ fn run_once<R: Threads + Wait + Abort + Sync + Clock>(
     run_on::<Brand, R>(rt, alloc, opened, row)
 }
 
+// No row writes more than six times.
 fn opened_for(alloc: Global, row: Row) -> Result<Opened, KvError> {
     let mut config = Config::named(alloc, "kv")?;
-    config.write_limit = row.write_limit();
+    config.write_limit = 6;
     Live::open(alloc, &config, row.readers())
 }
 
-fn run_on<N: LiveName + Send + Sync, R: Threads + Wait + Abort + Sync + Clock>(
+fn run_on<N: LiveName + Send + Sync, R: Threads + Wait + Abort + Sync>(
     rt: &R,
     alloc: Global,
     opened: Opened,
@@ -133,31 +143,18 @@ fn run_on<N: LiveName + Send + Sync, R: Threads + Wait + Abort + Sync + Clock>(
 ) -> Result<(), KvError>
     requires { opened.opening ≡ N.opening }
 {
-    let (live, readers) = opened.live::<N, R>(rt)?;
+    let (live, mut readers) = opened.live::<N, R>(rt)?;
     match row {
-        Row::Closed => closed_first(rt, alloc, live, readers),
-        _ => closed_last(rt, alloc, live, readers, row),
+        Row::Closed => opening::closed_first(rt, alloc, live, &mut readers),
+        _ => closed_last(rt, alloc, live, &mut readers, row),
     }
 }
 
-// The bucket is written to, and closed before its readers look.
-fn closed_first<N: LiveName, R: Wait + Abort>(
+fn closed_last<N: LiveName + Send + Sync, R: Threads + Wait + Abort + Sync>(
     rt: &R,
     alloc: Global,
     live: Live<N>,
-    readers: Vec<Reader<N>>,
-) -> Result<(), KvError> {
-    let written = puts_at(rt, alloc, &live, "app.port", 1);
-    live.close(rt);
-    written?;
-    opening::after_close(rt, readers)
-}
-
-fn closed_last<N: LiveName + Send + Sync, R: Threads + Wait + Abort + Sync + Clock>(
-    rt: &R,
-    alloc: Global,
-    live: Live<N>,
-    readers: Vec<Reader<N>>,
+    readers: &mut Vec<Reader<N>>,
     row: Row,
 ) -> Result<(), KvError> {
     let done = run_over(rt, alloc, &live, readers, row);
@@ -165,46 +162,49 @@ fn closed_last<N: LiveName + Send + Sync, R: Threads + Wait + Abort + Sync + Clo
     done
 }
 
-fn run_over<N: LiveName + Send + Sync, R: Threads + Wait + Abort + Sync + Clock>(
+fn run_over<N: LiveName + Send + Sync, R: Threads + Wait + Abort + Sync>(
     rt: &R,
     alloc: Global,
     live: &Live<N>,
-    readers: Vec<Reader<N>>,
+    readers: &mut Vec<Reader<N>>,
+    row: Row,
+) -> Result<(), KvError> {
+    match row {
+        Row::BesideAGuard => feeds::beside_a_guard(rt, alloc, live, readers),
+        Row::EachPhase => feeds::in_each_phase(rt, alloc, live, readers),
+        Row::ToldWrite => told::handed_out(rt, alloc, live, readers),
+        Row::LooksInTurn => told::looks_in_turn(rt, alloc, live, readers),
+        _ => run_alone(rt, alloc, live, readers, row),
+    }
+}
+
+// Rows without another thread.
+fn run_alone<N: LiveName, R: Wait + Abort>(
+    rt: &R,
+    alloc: Global,
+    live: &Live<N>,
+    readers: &mut Vec<Reader<N>>,
     row: Row,
 ) -> Result<(), KvError> {
     match row {
         Row::ManyReaders => opening::all_read(rt, readers, 32),
-        Row::Feeds(row) => feeds::run_row(rt, alloc, live, readers, row),
-        Row::Told(row) => told::run_row(rt, alloc, live, readers, row),
-        Row::Compacting(row) => compacting::run_row(rt, alloc, live, readers, row),
-        Row::Places(row) => places::run_row(rt, alloc, live, readers, row),
-        _ => run_beside(rt, alloc, live, row),
+        Row::FreedPlace => places::freed(rt, alloc, live, readers),
+        Row::LeftBehind => places::left_behind(rt, alloc, live, readers),
+        Row::TwoFeeds => compacting::two_feeds(rt, alloc, live, readers),
+        Row::HeldWatch => compacting::held_watch(rt, alloc, live, readers),
+        _ => {
+            run_unread(rt, alloc, live, row);
+            Ok(())
+        }
     }
 }
 
 // Rows that use no reader. The readers are there all the same.
-fn run_beside<N: LiveName, R: Wait + Abort>(
-    rt: &R,
-    alloc: Global,
-    live: &Live<N>,
-    row: Row,
-) -> Result<(), KvError> {
+fn run_unread<N: LiveName, R: Wait + Abort>(rt: &R, alloc: Global, live: &Live<N>, row: Row) {
     match row {
-        Row::Beginning => opening::beginning(rt, live),
-        Row::Lock(row) => lock::run_row(rt, alloc, live, row),
-        _ => Ok(()),
+        Row::Calls(row) => calls(rt, alloc, live, row.lines()),
+        _ => opening::beginning(rt, live),
     }
-}
-
-fn two<N: LiveName>(readers: Vec<Reader<N>>) -> Result<(Reader<N>, Reader<N>), KvError> {
-    let mut readers = readers;
-    last_two(&mut readers)
-}
-
-fn last_two<N: LiveName>(readers: &mut Vec<Reader<N>>) -> Result<(Reader<N>, Reader<N>), KvError> {
-    let second = last(readers)?;
-    let first = last(readers)?;
-    Ok((first, second))
 }
 
 fn last<N: LiveName>(readers: &mut Vec<Reader<N>>) -> Result<Reader<N>, KvError> {
@@ -214,173 +214,27 @@ fn last<N: LiveName>(readers: &mut Vec<Reader<N>>) -> Result<Reader<N>, KvError>
     }
 }
 
-// The first of two; the second is dropped.
-fn first_alone<N: LiveName>(readers: Vec<Reader<N>>) -> Result<Reader<N>, KvError> {
-    let (first, second) = two(readers)?;
-    drop(second);
-    Ok(first)
-}
-
-fn feed_of_all<N: LiveName>(alloc: Global, reader: Reader<N>) -> Result<Feed<N>, KvError> {
-    let filters = all_keys(alloc)?;
-    open_feed(reader, &filters)
-}
-
-// What the lock has: its numbers, and its open watches.
-fn look<N: LiveName, R: Wait>(rt: &R, live: &Live<N>) -> (Status, u64) {
-    let keeper = live.lock(rt);
-    let bucket = keeper.bucket();
-    (bucket.version().status(), bucket.watches())
-}
-
-fn is_as_before<N: LiveName, R: Wait + Abort>(rt: &R, live: &Live<N>, before: (Status, u64)) {
-    equal(rt, look(rt, live), before);
-}
-
-fn write_live_once<N: LiveName, R: Wait>(
-    rt: &R,
-    live: &Live<N>,
-    request: &Request,
-) -> Result<u64, KvError> {
-    live.write(rt, request)
-}
-
-fn write_live<N: LiveName, R: Wait + Abort>(
-    rt: &R,
-    live: &Live<N>,
-    request: &Request,
-) -> Result<u64, KvError> {
-    let before = look(rt, live);
-    match write_live_once(rt, live, request) {
-        Err(KvError::OutOfMemory) => {
-            is_as_before(rt, live, before);
-            write_live_once(rt, live, request)
-        }
-        revision => revision,
-    }
-}
-
-fn put_live<N: LiveName, R: Wait + Abort>(
-    rt: &R,
-    alloc: Global,
-    live: &Live<N>,
-    key: &str,
-    value: &str,
-) -> Result<u64, KvError> {
-    let request = put(alloc, key, value)?;
-    write_live(rt, live, &request)
-}
-
-// A put that is answered with this revision.
-fn puts_at<N: LiveName, R: Wait + Abort>(
-    rt: &R,
-    alloc: Global,
-    live: &Live<N>,
-    key: &str,
-    revision: u64,
-) -> Result<(), KvError> {
-    equal(rt, put_live(rt, alloc, live, key, "")?, revision);
-    Ok(())
-}
-
-// A put that is refused so.
-fn puts_in_vain<N: LiveName, R: Wait + Abort>(
-    rt: &R,
-    alloc: Global,
-    live: &Live<N>,
-    key: &str,
-    refusal: KvError,
-) {
-    equal(rt, put_live(rt, alloc, live, key, ""), Err(refusal));
-}
-
-fn version_once<N: LiveName>(reader: &mut Reader<N>) -> Result<Version, KvError> {
-    reader.version()
-}
-
-fn read<N: LiveName>(reader: &mut Reader<N>) -> Result<Version, KvError> {
-    match version_once(reader) {
-        Err(KvError::OutOfMemory) => version_once(reader),
+fn version<N: LiveName>(reader: &mut Reader<N>) -> Result<Version, KvError> {
+    match reader.version() {
+        Err(KvError::OutOfMemory) => reader.version(),
         version => version,
     }
 }
 
-fn reads_up_to<N: LiveName, R: Abort>(
+// What a reader sees.
+fn reads<N: LiveName, R: Abort>(rt: &R, reader: &mut Reader<N>, answer: Answer) {
+    equal(rt, on(version(reader)), answer);
+}
+
+// What the last of the readers sees, which is dropped then.
+fn last_reads<N: LiveName, R: Abort>(
     rt: &R,
-    reader: &mut Reader<N>,
-    revision: u64,
+    readers: &mut Vec<Reader<N>>,
+    answer: Answer,
 ) -> Result<(), KvError> {
-    equal(rt, read(reader)?.revision(), revision);
+    let mut reader = last(readers)?;
+    reads(rt, &mut reader, answer);
     Ok(())
-}
-
-fn open_feed_once<N: LiveName>(
-    reader: Reader<N>,
-    filters: &Filters,
-) -> Result<Feed<N>, (Reader<N>, KvError)> {
-    reader.watch(filters, LATEST)
-}
-
-fn open_feed<N: LiveName>(reader: Reader<N>, filters: &Filters) -> Result<Feed<N>, KvError> {
-    match open_feed_once(reader, filters) {
-        Ok(feed) => Ok(feed),
-        Err((reader, KvError::OutOfMemory)) => open_feed_again(reader, filters),
-        Err((_, error)) => Err(error),
-    }
-}
-
-fn open_feed_again<N: LiveName>(reader: Reader<N>, filters: &Filters) -> Result<Feed<N>, KvError> {
-    match open_feed_once(reader, filters) {
-        Ok(feed) => Ok(feed),
-        Err((_, error)) => Err(error),
-    }
-}
-
-fn next_of<N: LiveName>(feed: &Feed<N>) -> Answer {
-    brief_taken(Ok(feed.peek()))
-}
-
-fn take_of<N: LiveName>(feed: &mut Feed<N>) -> Answer {
-    brief_taken(Ok(feed.take()))
-}
-
-fn look_at<N: LiveName>(feed: &Feed<N>) -> (u64, Answer) {
-    (feed.handed(), next_of(feed))
-}
-
-fn refresh_once<N: LiveName>(feed: &mut Feed<N>) -> Result<(), KvError> {
-    feed.refresh()
-}
-
-fn refresh<N: LiveName, R: Abort>(rt: &R, feed: &mut Feed<N>) -> Result<(), KvError> {
-    let before = look_at(feed);
-    match refresh_once(feed) {
-        Err(KvError::OutOfMemory) => {
-            equal(rt, look_at(feed), before);
-            refresh_once(feed)
-        }
-        done => done,
-    }
-}
-
-// Takes an item, which is this one.
-fn takes_one<N: LiveName, R: Abort>(rt: &R, feed: &mut Feed<N>, answer: Answer) {
-    equal(rt, next_of(feed), answer);
-    equal(rt, take_of(feed), answer);
-}
-
-// Takes so many items, which are these.
-fn takes<N: LiveName, R: Abort>(rt: &R, feed: &mut Feed<N>, answers: &[Answer]) {
-    for answer in answers {
-        takes_one(rt, feed, *answer);
-    }
-}
-
-// Stops a feed that handed out so many items.
-fn stopped_at<N: LiveName, R: Abort>(rt: &R, feed: Feed<N>, handed: u64) -> Reader<N> {
-    let (reader, stopped) = feed.stop();
-    equal(rt, stopped.handed, handed);
-    reader
 }
 
 // Ends the test where what was found is not what was wanted. A call of it is proved sooner than `assert_eq!` in its place.

@@ -16,8 +16,8 @@ fn serve<N: LiveName, R: Wait>(rt: &R, alloc: Global, live: &Live<N>) -> Result<
     done
 }
 
-// Follows to the end, and sleeps where there is nothing yet.
-fn follow<N: LiveName, R: Wait>(rt: &R, mut feed: Feed<N>) -> Result<u64, KvError> {
+// Takes all, to the end, and sleeps where there is nothing yet.
+fn take_all<N: LiveName, R: Wait>(rt: &R, feed: &mut Feed<N>) -> Result<u64, KvError> {
     for _ in rt.forever() {
         match feed.next(rt)? {
             Taken::Entry(_change) => {}
@@ -26,6 +26,10 @@ fn follow<N: LiveName, R: Wait>(rt: &R, mut feed: Feed<N>) -> Result<u64, KvErro
         }
     }
     unreachable!()
+}
+
+fn follow<N: LiveName, R: Wait>(rt: &R, mut feed: Feed<N>) -> Result<u64, KvError> {
+    take_all(rt, &mut feed)
 }
 
 fn serve_one<N: LiveName + Send + Sync, R: Threads + Wait + Sync>(
@@ -57,8 +61,8 @@ fn opened_and_served<N: LiveName + Send + Sync, R: Threads + Wait + Sync>(
 ) -> Result<(u64, u64), KvError>
     requires { opened.opening ≡ N.opening }
 {
-    let (live, readers) = opened.live::<N, R>(rt)?;
-    let done = match feeds(alloc, readers) {
+    let (live, mut readers) = opened.live::<N, R>(rt)?;
+    let done = match feeds(alloc, &mut readers) {
         Ok((one, two)) => serve_both(rt, alloc, &live, one, two),
         Err(refusal) => Err(refusal),
     };

@@ -76,39 +76,64 @@ fn share<N: LiveName + Send + Sync, R: Threads + Wait + Sync>(
 }
 
 // What the writer wrote last may not have been followed.
-fn handed<N: LiveName>(mut feed: Feed<N>) -> Result<u64, KvError> {
-    follow(&mut feed)?;
+fn followed_to_the_end<N: LiveName>(feed: &mut Feed<N>) -> Result<u64, KvError> {
+    follow(feed)?;
     Ok(feed.handed())
 }
 
-fn handed_beside_a_writer<N: LiveName + Send + Sync, R: Threads + Wait + Sync>(
-    rt: &R,
-    alloc: Global,
-    live: &Live<N>,
-    mut one: Feed<N>,
-    mut two: Feed<N>,
-) -> Result<(u64, u64), KvError> {
-    share(rt, alloc, live, &mut one, &mut two)?;
-    Ok((handed(one)?, handed(two)?))
-}
-
-pub(crate) fn feeds<N: LiveName>(
-    alloc: Global,
-    readers: Vec<Reader<N>>,
-) -> Result<(Feed<N>, Feed<N>), KvError> {
-    let mut readers = readers;
+fn feed<N: LiveName>(alloc: Global, readers: &mut Vec<Reader<N>>) -> Result<Feed<N>, KvError> {
     let filters = Filters::parse(alloc, "app.>")?;
-    match (readers.pop(), readers.pop()) {
-        (Some(one), Some(two)) => Ok((feed(one, &filters)?, feed(two, &filters)?)),
-        _ => Err(KvError::NoReader),
+    match readers.pop() {
+        Some(reader) => feed_of(reader, &filters),
+        None => Err(KvError::NoReader),
     }
 }
 
-fn feed<N: LiveName>(reader: Reader<N>, filters: &Filters) -> Result<Feed<N>, KvError> {
+fn feed_of<N: LiveName>(reader: Reader<N>, filters: &Filters) -> Result<Feed<N>, KvError> {
     match reader.watch_from_empty(filters, LATEST) {
         Ok(feed) => Ok(feed),
         Err((_, refusal)) => Err(refusal),
     }
+}
+
+pub(crate) fn feeds<N: LiveName>(
+    alloc: Global,
+    readers: &mut Vec<Reader<N>>,
+) -> Result<(Feed<N>, Feed<N>), KvError> {
+    let one = feed(alloc, readers)?;
+    Ok((one, feed(alloc, readers)?))
+}
+
+fn shared_by_two<N: LiveName + Send + Sync, R: Threads + Wait + Sync>(
+    rt: &R,
+    alloc: Global,
+    live: &Live<N>,
+    readers: &mut Vec<Reader<N>>,
+) -> Result<(u64, u64), KvError> {
+    let mut one = feed(alloc, readers)?;
+    shared_with(rt, alloc, live, readers, &mut one)
+}
+
+fn shared_with<N: LiveName + Send + Sync, R: Threads + Wait + Sync>(
+    rt: &R,
+    alloc: Global,
+    live: &Live<N>,
+    readers: &mut Vec<Reader<N>>,
+    one: &mut Feed<N>,
+) -> Result<(u64, u64), KvError> {
+    let mut two = feed(alloc, readers)?;
+    shared_by_both(rt, alloc, live, one, &mut two)
+}
+
+fn shared_by_both<N: LiveName + Send + Sync, R: Threads + Wait + Sync>(
+    rt: &R,
+    alloc: Global,
+    live: &Live<N>,
+    one: &mut Feed<N>,
+    two: &mut Feed<N>,
+) -> Result<(u64, u64), KvError> {
+    share(rt, alloc, live, one, two)?;
+    Ok((followed_to_the_end(one)?, followed_to_the_end(two)?))
 }
 
 fn opened_and_shared<N: LiveName + Send + Sync, R: Threads + Wait + Sync>(
@@ -118,11 +143,8 @@ fn opened_and_shared<N: LiveName + Send + Sync, R: Threads + Wait + Sync>(
 ) -> Result<(u64, u64), KvError>
     requires { opened.opening ≡ N.opening }
 {
-    let (live, readers) = opened.live::<N, R>(rt)?;
-    let done = match feeds(alloc, readers) {
-        Ok((one, two)) => handed_beside_a_writer(rt, alloc, &live, one, two),
-        Err(refusal) => Err(refusal),
-    };
+    let (live, mut readers) = opened.live::<N, R>(rt)?;
+    let done = shared_by_two(rt, alloc, &live, &mut readers);
     live.close(rt);
     done
 }

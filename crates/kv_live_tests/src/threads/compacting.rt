@@ -1,137 +1,50 @@
-//! Rows of compactions of a live bucket: what they leave to feeds and to watches under the lock, and whom they wake.
+//! Rows of compactions of a live bucket: what they leave to feeds, to a watch under the lock, and to readers.
 
 use super::*;
-use kv_live::{Keeper, Woken};
-use std::thread;
-use std::time::Duration;
+use kv_live::Keeper;
 
-// What is compacted, and who follows.
-#[derive(Clone, Copy)]
-pub(super) enum Row {
-    TwoFeeds,
-    HeldWatch,
-    Sleeper,
-}
-
-pub(super) fn run_row<N: LiveName + Send + Sync, R: Threads + Wait + Abort + Sync + Clock>(
-    rt: &R,
-    alloc: Global,
-    live: &Live<N>,
-    readers: Vec<Reader<N>>,
-    row: Row,
-) -> Result<(), KvError> {
-    match row {
-        Row::TwoFeeds => two_feeds(rt, alloc, live, readers),
-        Row::HeldWatch => held_watch(rt, alloc, live, readers),
-        Row::Sleeper => sleeper(rt, alloc, live, readers),
-    }
-}
-
-fn lock_compacts_once<N: LiveName, R: Wait>(
-    rt: &R,
-    keeper: &mut Keeper<N>,
-    floor: u64,
-) -> Result<(), KvError> {
-    keeper.compact(rt, floor)
-}
-
-fn compact_through<N: LiveName, R: Wait>(
-    rt: &R,
-    keeper: &mut Keeper<N>,
-    floor: u64,
-) -> Result<(), KvError> {
-    match lock_compacts_once(rt, keeper, floor) {
-        Err(KvError::OutOfMemory) => lock_compacts_once(rt, keeper, floor),
-        done => done,
-    }
-}
-
-fn compact_once<N: LiveName, R: Wait>(rt: &R, live: &Live<N>, floor: u64) -> Result<(), KvError> {
-    live.compact(rt, floor)
-}
-
-fn compact<N: LiveName, R: Wait + Abort>(
-    rt: &R,
-    live: &Live<N>,
-    floor: u64,
-) -> Result<(), KvError> {
-    let before = look(rt, live);
-    match compact_once(rt, live, floor) {
-        Err(KvError::OutOfMemory) => {
-            is_as_before(rt, live, before);
-            compact_once(rt, live, floor)
-        }
-        done => done,
-    }
-}
-
-// What a feed is on: the last revision and the floor of its version.
-fn is_on<N: LiveName, R: Abort>(
-    rt: &R,
-    feed: &Feed<N>,
-    expected: (u64, u64),
-) -> Result<(), KvError> {
-    let version = feed.version()?;
-    equal(rt, (version.revision(), version.floor()), expected);
-    Ok(())
-}
-
-// A refresh is refused for the floor, and the feed stays with its count and its next item.
-fn lags<N: LiveName, R: Abort>(rt: &R, feed: &mut Feed<N>, floor: u64) {
-    let before = look_at(feed);
-    equal(rt, refresh(rt, feed), Err(KvError::Lagged { floor }));
-    equal(rt, look_at(feed), before);
-}
+const LAGGED: Answer = Answer::Refused(KvError::Lagged { floor: 2 });
 
 #[test]
 fn two_feeds_across_a_compaction(rt: HostRuntime) -> Result<(), Fail> {
-    run(&rt, rt.alloc(), super::Row::Compacting(Row::TwoFeeds))?;
+    run(&rt, rt.alloc(), Row::TwoFeeds)?;
     Ok(())
 }
 
-fn two_feeds<N: LiveName, R: Wait + Abort>(
+pub(super) fn two_feeds<N: LiveName, R: Wait + Abort>(
     rt: &R,
     alloc: Global,
     live: &Live<N>,
-    readers: Vec<Reader<N>>,
+    readers: &mut Vec<Reader<N>>,
 ) -> Result<(), KvError> {
-    puts_at(rt, alloc, live, "k", 1)?;
-    let (first, second) = two(readers)?;
-    one_opened(rt, alloc, live, first, second)
+    calls(rt, alloc, live, &[(Call::Put("k"), Answer::Number(1))]);
+    let mut other = feed_of_last(alloc, readers)?;
+    beside_another(rt, alloc, live, readers, &mut other)
 }
 
-fn one_opened<N: LiveName, R: Wait + Abort>(
+fn beside_another<N: LiveName, R: Wait + Abort>(
     rt: &R,
     alloc: Global,
     live: &Live<N>,
-    first: Reader<N>,
-    second: Reader<N>,
-) -> Result<(), KvError> {
-    let one = feed_of_all(alloc, first)?;
-    both_opened(rt, alloc, live, one, second)
-}
-
-fn both_opened<N: LiveName, R: Wait + Abort>(
-    rt: &R,
-    alloc: Global,
-    live: &Live<N>,
-    one: Feed<N>,
-    second: Reader<N>,
-) -> Result<(), KvError> {
-    let mut other = feed_of_all(alloc, second)?;
-    followed(rt, alloc, live, one, &mut other)
-}
-
-fn followed<N: LiveName, R: Wait + Abort>(
-    rt: &R,
-    alloc: Global,
-    live: &Live<N>,
-    one: Feed<N>,
+    readers: &mut Vec<Reader<N>>,
     other: &mut Feed<N>,
 ) -> Result<(), KvError> {
-    compacted_behind(rt, alloc, live, other)?;
-    begins_anew(rt, alloc, one)?;
-    goes_on(rt, other)
+    left_behind_another(rt, alloc, live, readers, other)?;
+    moves(rt, other, GOES_ON);
+    Ok(())
+}
+
+// The one feed stays where it is while the other goes on to two more puts, and is opened anew after the compaction.
+fn left_behind_another<N: LiveName, R: Wait + Abort>(
+    rt: &R,
+    alloc: Global,
+    live: &Live<N>,
+    readers: &mut Vec<Reader<N>>,
+    other: &mut Feed<N>,
+) -> Result<(), KvError> {
+    let one = feed_of_last(alloc, readers)?;
+    compacted_behind(rt, alloc, live, other);
+    begins_anew(rt, alloc, stays_behind(rt, one))
 }
 
 fn compacted_behind<N: LiveName, R: Wait + Abort>(
@@ -139,9 +52,9 @@ fn compacted_behind<N: LiveName, R: Wait + Abort>(
     alloc: Global,
     live: &Live<N>,
     feed: &mut Feed<N>,
-) -> Result<(), KvError> {
+) {
     let mut keeper = live.lock(rt);
-    compacts_behind(rt, alloc, &mut keeper, feed)
+    compacts_behind(rt, alloc, &mut *keeper, feed);
 }
 
 // Two more puts and a compaction through one guard. Before the compaction the feed goes on to the puts.
@@ -150,133 +63,95 @@ fn compacts_behind<N: LiveName, R: Wait + Abort>(
     alloc: Global,
     keeper: &mut Keeper<N>,
     feed: &mut Feed<N>,
-) -> Result<(), KvError> {
-    two_more(rt, alloc, keeper)?;
-    refresh(rt, feed)?;
-    compact_through(rt, keeper, 2)
+) {
+    steps(rt, alloc, keeper, TWO_PUTS);
+    moves(rt, feed, &[(Move::Refresh, Answer::Done)]);
+    steps(rt, alloc, keeper, &[(Step::Compact(2), Answer::Done)]);
 }
 
-fn two_more<N: LiveName, R: Wait + Abort>(
-    rt: &R,
-    alloc: Global,
-    keeper: &mut Keeper<N>,
-) -> Result<(), KvError> {
-    let request = put(alloc, "k", "")?;
-    keeps_twice(rt, keeper, &request)
-}
+const TWO_PUTS: &[(Step, Answer)] = &[
+    (Step::Put("k"), Answer::Number(2)),
+    (Step::Put("k"), Answer::Number(3)),
+];
 
-fn keeps_twice<N: LiveName, R: Wait + Abort>(
-    rt: &R,
-    keeper: &mut Keeper<N>,
-    request: &Request,
-) -> Result<(), KvError> {
-    feeds::keeps_at(rt, keeper, request, 2)?;
-    feeds::keeps_at(rt, keeper, request, 3)
-}
+// The floor is above the last revision of this feed. It hands out what it owes by its own version, and stays behind.
+const STAYS_BEHIND: &[(Move, Answer)] = &[
+    (Move::Refresh, LAGGED),
+    (Move::Take, Answer::Entry(1)),
+    (Move::Take, Answer::Marker),
+    (Move::Take, Answer::Empty),
+    (Move::Refresh, LAGGED),
+    (Move::Version, Answer::On(1, 0)),
+];
 
-// The floor is above the last revision of this feed. It hands out what it owes by its own version, stays behind, and is
-// opened anew.
-fn begins_anew<N: LiveName, R: Abort>(rt: &R, alloc: Global, feed: Feed<N>) -> Result<(), KvError> {
-    let reader = stopped_behind(rt, feed)?;
-    let mut feed = feed_of_all(alloc, reader)?;
-    begins_at_the_third(rt, &mut feed)
-}
-
-fn begins_at_the_third<N: LiveName, R: Abort>(rt: &R, feed: &mut Feed<N>) -> Result<(), KvError> {
-    takes(rt, feed, &[Answer::Entry(3), Answer::Marker, Answer::Empty]);
-    is_on(rt, feed, (3, 2))
-}
-
-fn stopped_behind<N: LiveName, R: Abort>(rt: &R, feed: Feed<N>) -> Result<Reader<N>, KvError> {
-    let mut feed = feed;
-    stays_behind(rt, &mut feed)?;
-    Ok(stopped_at(rt, feed, 2))
-}
-
-fn stays_behind<N: LiveName, R: Abort>(rt: &R, feed: &mut Feed<N>) -> Result<(), KvError> {
-    lags(rt, feed, 2);
-    takes(rt, feed, &[Answer::Entry(1), Answer::Marker, Answer::Empty]);
-    lags(rt, feed, 2);
-    is_on(rt, feed, (1, 0))
-}
+const BEGINS_ANEW: &[(Move, Answer)] = &[
+    (Move::Take, Answer::Entry(3)),
+    (Move::Take, Answer::Marker),
+    (Move::Take, Answer::Empty),
+    (Move::Version, Answer::On(3, 2)),
+];
 
 // This feed owes an entry at the floor, and goes on once that is handed out.
-fn goes_on<N: LiveName, R: Abort>(rt: &R, feed: &mut Feed<N>) -> Result<(), KvError> {
-    lags(rt, feed, 2);
-    is_on(rt, feed, (3, 0))?;
-    takes(
-        rt,
-        feed,
-        &[Answer::Entry(1), Answer::Marker, Answer::Entry(2)],
-    );
-    refresh(rt, feed)?;
-    takes(rt, feed, &[Answer::Entry(3), Answer::Empty]);
-    is_on(rt, feed, (3, 2))
+const GOES_ON: &[(Move, Answer)] = &[
+    (Move::Refresh, LAGGED),
+    (Move::Version, Answer::On(3, 0)),
+    (Move::Take, Answer::Entry(1)),
+    (Move::Take, Answer::Marker),
+    (Move::Take, Answer::Entry(2)),
+    (Move::Refresh, Answer::Done),
+    (Move::Take, Answer::Entry(3)),
+    (Move::Take, Answer::Empty),
+    (Move::Version, Answer::On(3, 2)),
+];
+
+fn stays_behind<N: LiveName, R: Abort>(rt: &R, feed: Feed<N>) -> Reader<N> {
+    let mut feed = feed;
+    moves(rt, &mut feed, STAYS_BEHIND);
+    stopped_at(rt, feed, 2)
+}
+
+fn begins_anew<N: LiveName, R: Abort>(
+    rt: &R,
+    alloc: Global,
+    reader: Reader<N>,
+) -> Result<(), KvError> {
+    let mut feed = feed_of(alloc, reader)?;
+    moves(rt, &mut feed, BEGINS_ANEW);
+    Ok(())
 }
 
 #[test]
 fn compactions_and_a_watch_under_the_lock(rt: HostRuntime) -> Result<(), Fail> {
-    run(&rt, rt.alloc(), super::Row::Compacting(Row::HeldWatch))?;
+    run(&rt, rt.alloc(), Row::HeldWatch)?;
     Ok(())
 }
 
-fn compacts_as<N: LiveName, R: Wait + Abort>(
-    rt: &R,
-    live: &Live<N>,
-    floor: u64,
-    answer: Result<(), KvError>,
-) {
-    equal(rt, compact(rt, live, floor), answer);
-}
+const AROUND_A_WATCH: &[(Call, Answer)] = &[
+    (Call::Put("k"), Answer::Number(1)),
+    (Call::Guarded(Step::Watch), Answer::Number(1)),
+    (Call::Put("k"), Answer::Number(2)),
+    (Call::Compact(0), Answer::Refused(KvError::BadFloor)),
+    (Call::Compact(3), Answer::Refused(KvError::BadFloor)),
+    (
+        Call::Compact(2),
+        Answer::Refused(KvError::WatchBehind { watch: 1 }),
+    ),
+    (Call::Compact(1), Answer::Done),
+    (Call::Guarded(Step::Take(1)), Answer::Entry(1)),
+    (Call::Guarded(Step::Take(1)), Answer::Marker),
+    (Call::Guarded(Step::Take(1)), Answer::Entry(2)),
+    (Call::Compact(2), Answer::Done),
+    (Call::Compact(1), Answer::Refused(KvError::BadFloor)),
+];
 
-fn held_watch<N: LiveName, R: Wait + Abort>(
-    rt: &R,
-    alloc: Global,
-    live: &Live<N>,
-    readers: Vec<Reader<N>>,
-) -> Result<(), KvError> {
-    watched_between_puts(rt, alloc, live)?;
-    compacted_around_a_watch(rt, live);
-    reads_what_is_left(rt, readers)
-}
-
-fn watched_between_puts<N: LiveName, R: Wait + Abort>(
+pub(super) fn held_watch<N: LiveName, R: Wait + Abort>(
     rt: &R,
     alloc: Global,
     live: &Live<N>,
+    readers: &mut Vec<Reader<N>>,
 ) -> Result<(), KvError> {
-    let filters = all_keys(alloc)?;
-    puts_around_a_watch(rt, alloc, live, &filters)
-}
-
-fn puts_around_a_watch<N: LiveName, R: Wait + Abort>(
-    rt: &R,
-    alloc: Global,
-    live: &Live<N>,
-    filters: &Filters,
-) -> Result<(), KvError> {
-    puts_at(rt, alloc, live, "k", 1)?;
-    lock::watches_on_guard_as(rt, live, filters, 1)?;
-    puts_at(rt, alloc, live, "k", 2)
-}
-
-fn compacted_around_a_watch<N: LiveName, R: Wait + Abort>(rt: &R, live: &Live<N>) {
-    compacts_as(rt, live, 0, Err(KvError::BadFloor));
-    compacts_as(rt, live, 3, Err(KvError::BadFloor));
-    compacts_as(rt, live, 2, Err(KvError::WatchBehind { watch: 1 }));
-    compacts_as(rt, live, 1, Ok(()));
-    for answer in [Answer::Entry(1), Answer::Marker, Answer::Entry(2)] {
-        lock::takes_on_guard(rt, live, 1, answer);
-    }
-    compacts_as(rt, live, 2, Ok(()));
-    compacts_as(rt, live, 1, Err(KvError::BadFloor));
-}
-
-fn reads_what_is_left<N: LiveName, R: Abort>(
-    rt: &R,
-    readers: Vec<Reader<N>>,
-) -> Result<(), KvError> {
-    let (mut reader, _second) = two(readers)?;
+    calls(rt, alloc, live, AROUND_A_WATCH);
+    let mut reader = last(readers)?;
     reads_from_the_floor(rt, &mut reader)
 }
 
@@ -284,89 +159,8 @@ fn reads_from_the_floor<N: LiveName, R: Abort>(
     rt: &R,
     reader: &mut Reader<N>,
 ) -> Result<(), KvError> {
-    let version = read(reader)?;
-    equal(rt, version.floor(), 2);
-    assert!(rt; version.write_at(1).is_none());
-    assert!(rt; version.write_at(2).is_some());
+    let version = version(reader)?;
+    let kept = (version.write_at(1).is_some(), version.write_at(2).is_some());
+    equal(rt, (version.floor(), kept), (2, (false, true)));
     Ok(())
-}
-
-#[test]
-fn a_compaction_wakes_a_sleeper(rt: HostRuntime) -> Result<(), Fail> {
-    run(&rt, rt.alloc(), super::Row::Compacting(Row::Sleeper))?;
-    Ok(())
-}
-
-fn sleeper<N: LiveName + Send + Sync, R: Threads + Wait + Abort + Sync + Clock>(
-    rt: &R,
-    alloc: Global,
-    live: &Live<N>,
-    readers: Vec<Reader<N>>,
-) -> Result<(), KvError> {
-    puts_at(rt, alloc, live, "k", 1)?;
-    let (first, _second) = two(readers)?;
-    followed_asleep(rt, alloc, live, first)
-}
-
-fn followed_asleep<N: LiveName + Send + Sync, R: Threads + Wait + Abort + Sync + Clock>(
-    rt: &R,
-    alloc: Global,
-    live: &Live<N>,
-    reader: Reader<N>,
-) -> Result<(), KvError> {
-    let feed = all_taken(rt, alloc, reader)?;
-    let mut feed = compacted_beside(rt, live, feed)?;
-    woken_in_vain(rt, &mut feed)
-}
-
-fn all_taken<N: LiveName, R: Abort>(
-    rt: &R,
-    alloc: Global,
-    reader: Reader<N>,
-) -> Result<Feed<N>, KvError> {
-    let mut feed = feed_of_all(alloc, reader)?;
-    takes(
-        rt,
-        &mut feed,
-        &[Answer::Entry(1), Answer::Marker, Answer::Empty],
-    );
-    Ok(feed)
-}
-
-// The feed sleeps on a thread of its own while this one compacts.
-fn compacted_beside<N: LiveName + Send + Sync, R: Threads + Wait + Abort + Sync + Clock>(
-    rt: &R,
-    live: &Live<N>,
-    feed: Feed<N>,
-) -> Result<Feed<N>, KvError> {
-    let (feed, compacted) = join(rt, || woken(rt, feed), || compacted_later(rt, live));
-    compacted?;
-    feed
-}
-
-fn woken<N: LiveName, R: Wait>(rt: &R, feed: Feed<N>) -> Result<Feed<N>, KvError> {
-    match feed.wait(rt) {
-        Woken::Changed => Ok(feed),
-        Woken::Closed => Err(KvError::NoReader),
-    }
-}
-
-// The pause is for the feed to fall asleep. Where the compaction is refused, the end of the bucket wakes it.
-fn compacted_later<N: LiveName, R: Wait + Abort + Clock>(
-    rt: &R,
-    live: &Live<N>,
-) -> Result<(), KvError> {
-    thread::sleep(rt, Duration::from_millis(50));
-    let done = compact(rt, live, 1);
-    if done.is_err() {
-        live.finish();
-    }
-    done
-}
-
-// A compaction gives a feed nothing but its floor.
-fn woken_in_vain<N: LiveName, R: Abort>(rt: &R, feed: &mut Feed<N>) -> Result<(), KvError> {
-    refresh(rt, feed)?;
-    takes_one(rt, feed, Answer::Empty);
-    is_on(rt, feed, (1, 1))
 }

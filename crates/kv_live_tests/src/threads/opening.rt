@@ -1,21 +1,15 @@
 //! What an opening refuses, and what it begins and ends with.
 
 use super::*;
+use kv_live::Status;
 
-// The refusal of an opening, if any.
-fn refused_once(
-    alloc: Global,
-    name: &str,
-    numbers: (u64, u64, u64),
-    readers: usize,
-) -> Option<KvError> {
-    opened_once(alloc, name, numbers, readers).err()
-}
+// The history, the limit of a value, and the limit of writes.
+type Numbers = (u64, u64, u64);
 
 fn opened_once(
     alloc: Global,
     name: &str,
-    numbers: (u64, u64, u64),
+    numbers: Numbers,
     readers: usize,
 ) -> Result<Opened, KvError> {
     let mut config = Config::named(alloc, name)?;
@@ -25,46 +19,53 @@ fn opened_once(
     Live::open(alloc, &config, readers)
 }
 
-fn refused(alloc: Global, name: &str, numbers: (u64, u64, u64), readers: usize) -> Option<KvError> {
-    match refused_once(alloc, name, numbers, readers) {
-        Some(KvError::OutOfMemory) => refused_once(alloc, name, numbers, readers),
+// The refusal of an opening, if any.
+fn refused(alloc: Global, name: &str, numbers: Numbers, readers: usize) -> Option<KvError> {
+    match opened_once(alloc, name, numbers, readers).err() {
+        Some(KvError::OutOfMemory) => opened_once(alloc, name, numbers, readers).err(),
         refusal => refusal,
     }
 }
 
-const LEGAL: (u64, u64, u64) = (1, 1_048_576, 1_000_000);
+const LEGAL: Numbers = (1, 1_048_576, 1_000_000);
+
+// Names are refused first, and numbers before readers.
+const OPENINGS: &[(&str, Numbers, usize, Option<KvError>)] = &[
+    ("my.bucket", LEGAL, 2, Some(KvError::BadBucket)),
+    ("", LEGAL, 2, Some(KvError::BadBucket)),
+    (
+        "01234567890123456789012345678901234567890123456789012345678901234",
+        LEGAL,
+        2,
+        Some(KvError::BadBucket),
+    ),
+    ("", (0, 0, 0), 0, Some(KvError::BadBucket)),
+    (
+        "0123456789012345678901234567890123456789012345678901234567890123",
+        LEGAL,
+        2,
+        None,
+    ),
+    ("kv", (0, 1_048_576, 1), 2, Some(KvError::BadConfig)),
+    ("kv", (65, 1_048_576, 1), 2, Some(KvError::BadConfig)),
+    ("kv", (1, 1_048_576, 0), 2, Some(KvError::BadConfig)),
+    ("kv", (1, 1_048_577, 1), 2, Some(KvError::BadConfig)),
+    ("kv", (0, 1_048_576, 1), 33, Some(KvError::BadConfig)),
+    ("kv", LEGAL, 0, Some(KvError::NoReader)),
+    ("kv", LEGAL, 33, Some(KvError::NoReader)),
+    ("kv", LEGAL, 1, None),
+];
 
 #[test]
-fn names_are_refused_first(rt: HostRuntime) -> Result<(), Fail> {
-    let bad = Some(KvError::BadBucket);
-    let longest = "0123456789012345678901234567890123456789012345678901234567890123";
-    let longer = "01234567890123456789012345678901234567890123456789012345678901234";
-    equal(&rt, refused(rt.alloc(), "my.bucket", LEGAL, 2), bad);
-    equal(&rt, refused(rt.alloc(), "", LEGAL, 2), bad);
-    equal(&rt, refused(rt.alloc(), longer, LEGAL, 2), bad);
-    equal(&rt, refused(rt.alloc(), "", (0, 0, 0), 0), bad);
-    equal(&rt, refused(rt.alloc(), longest, LEGAL, 2), None);
+fn openings_are_refused_in_order(rt: HostRuntime) -> Result<(), Fail> {
+    for (name, numbers, readers, refusal) in OPENINGS {
+        equal(&rt, refused(rt.alloc(), name, *numbers, *readers), *refusal);
+    }
     Ok(())
 }
 
 #[test]
-fn numbers_are_refused_before_readers(rt: HostRuntime) -> Result<(), Fail> {
-    let bad = Some(KvError::BadConfig);
-    let limit = LEGAL.1;
-    equal(&rt, refused(rt.alloc(), "kv", (0, limit, 1), 2), bad);
-    equal(&rt, refused(rt.alloc(), "kv", (65, limit, 1), 2), bad);
-    equal(&rt, refused(rt.alloc(), "kv", (1, limit, 0), 2), bad);
-    equal(&rt, refused(rt.alloc(), "kv", (1, limit + 1, 1), 2), bad);
-    equal(&rt, refused(rt.alloc(), "kv", (0, limit, 1), 33), bad);
-    Ok(())
-}
-
-#[test]
-fn one_to_thirty_two_readers(rt: HostRuntime) -> Result<(), Fail> {
-    let none = Some(KvError::NoReader);
-    equal(&rt, refused(rt.alloc(), "kv", LEGAL, 0), none);
-    equal(&rt, refused(rt.alloc(), "kv", LEGAL, 33), none);
-    equal(&rt, refused(rt.alloc(), "kv", LEGAL, 1), None);
+fn thirty_two_readers(rt: HostRuntime) -> Result<(), Fail> {
     run(&rt, rt.alloc(), Row::ManyReaders)?;
     Ok(())
 }
@@ -72,25 +73,13 @@ fn one_to_thirty_two_readers(rt: HostRuntime) -> Result<(), Fail> {
 // There are so many readers, and each sees the empty bucket.
 pub(super) fn all_read<N: LiveName, R: Abort>(
     rt: &R,
-    readers: Vec<Reader<N>>,
+    readers: &mut Vec<Reader<N>>,
     count: usize,
 ) -> Result<(), KvError> {
     equal(rt, readers.len(), count);
-    for reader in readers {
-        sees_nothing(rt, reader)?;
+    for _ in 0..count {
+        last_reads(rt, readers, Answer::On(0, 0))?;
     }
-    Ok(())
-}
-
-fn sees_nothing<N: LiveName, R: Abort>(rt: &R, reader: Reader<N>) -> Result<(), KvError> {
-    let mut reader = reader;
-    reads_nothing(rt, &mut reader)
-}
-
-fn reads_nothing<N: LiveName, R: Abort>(rt: &R, reader: &mut Reader<N>) -> Result<(), KvError> {
-    let version = read(reader)?;
-    equal(rt, version.revision(), 0);
-    assert!(rt; !version.sealed());
     Ok(())
 }
 
@@ -100,21 +89,18 @@ fn the_lock_begins_with_the_opening(rt: HostRuntime) -> Result<(), Fail> {
     Ok(())
 }
 
-pub(super) fn beginning<N: LiveName, R: Wait + Abort>(
-    rt: &R,
-    live: &Live<N>,
-) -> Result<(), KvError> {
-    let empty = Status {
-        history: 1,
-        last: 0,
-        sealed: false,
-        stored: 0,
-        values: 0,
-    };
-    equal(rt, look(rt, live), (empty, 0));
+const EMPTY: Status = Status {
+    history: 1,
+    last: 0,
+    sealed: false,
+    stored: 0,
+    values: 0,
+};
+
+pub(super) fn beginning<N: LiveName, R: Wait + Abort>(rt: &R, live: &Live<N>) {
+    equal(rt, look(rt, live), (EMPTY, 0));
     let keeper = live.lock(rt);
     equal(rt, keeper.bucket().version().bucket(), "kv");
-    Ok(())
 }
 
 #[test]
@@ -123,10 +109,14 @@ fn a_close_ends_no_reader(rt: HostRuntime) -> Result<(), Fail> {
     Ok(())
 }
 
-pub(super) fn after_close<N: LiveName, R: Abort>(
+// The bucket is written to, and closed before its readers look.
+pub(super) fn closed_first<N: LiveName, R: Wait + Abort>(
     rt: &R,
-    readers: Vec<Reader<N>>,
+    alloc: Global,
+    live: Live<N>,
+    readers: &mut Vec<Reader<N>>,
 ) -> Result<(), KvError> {
-    let mut first = first_alone(readers)?;
-    reads_up_to(rt, &mut first, 1)
+    calls(rt, alloc, &live, &[(Call::Put("a"), Answer::Number(1))]);
+    live.close(rt);
+    last_reads(rt, readers, Answer::On(1, 0))
 }

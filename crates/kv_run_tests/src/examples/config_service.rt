@@ -26,22 +26,26 @@ fn hands_out(bucket: &mut Bucket, watch: u64, key: &str, value: &str) -> Result<
     }
 }
 
-fn config_service(rt: &impl Abort, alloc: Global) -> Result<(), KvError> {
-    let mut bucket = Bucket::open(alloc, &Config::named(alloc, "settings")?)?;
-    assert_eq!(rt; put(alloc, &mut bucket, "app.port", "80")?, 1);
-    assert_eq!(rt; put(alloc, &mut bucket, "app.host", "kv")?, 2);
-    assert_eq!(rt; put(alloc, &mut bucket, "db.port", "5432")?, 3);
+fn put_and_watch(rt: &impl Abort, alloc: Global, bucket: &mut Bucket) -> Result<(), KvError> {
+    assert_eq!(rt; put(alloc, bucket, "app.port", "80")?, 1);
+    assert_eq!(rt; put(alloc, bucket, "app.host", "kv")?, 2);
+    assert_eq!(rt; put(alloc, bucket, "db.port", "5432")?, 3);
 
     let watch = bucket.watch(&Filters::parse(alloc, "app.>")?, LATEST)?;
-    assert!(rt; hands_out(&mut bucket, watch, "app.port", "80")?);
-    assert!(rt; hands_out(&mut bucket, watch, "app.host", "kv")?);
+    assert!(rt; hands_out(bucket, watch, "app.port", "80")?);
+    assert!(rt; hands_out(bucket, watch, "app.host", "kv")?);
     assert!(rt; matches!(bucket.take(watch)?, Taken::Marker));
 
-    put(alloc, &mut bucket, "app.port", "8080")?;
-    assert!(rt; hands_out(&mut bucket, watch, "app.port", "8080")?);
+    put(alloc, bucket, "app.port", "8080")?;
+    assert!(rt; hands_out(bucket, watch, "app.port", "8080")?);
     assert!(rt; matches!(bucket.take(watch)?, Taken::Empty));
     assert_eq!(rt; bucket.stop(watch)?.handed, 4);
     Ok(())
+}
+
+fn config_service(rt: &impl Abort, alloc: Global) -> Result<(), KvError> {
+    let mut bucket = Bucket::open(alloc, &Config::named(alloc, "settings")?)?;
+    put_and_watch(rt, alloc, &mut bucket)
 }
 
 #[test]

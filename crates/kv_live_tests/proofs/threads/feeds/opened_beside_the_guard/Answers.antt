@@ -2,7 +2,6 @@ use denote.Param.{param}
 use denote.Param.Send.{sendable}
 use Rattle.std.proofs.Crossing.{crosses}
 use Rattle.kv_keys.proofs.error.KvError.TheSendSync as error
-use Rattle.kv_keys.proofs.filters.Filters.TheSendSync as filters
 use Rattle.kv_live.proofs.Sent.{feed_send, reader_send}
 use Rattle.kv_live_tests.proofs.threads.feeds.opened_beside_the_guard.Goals as goal
 
@@ -10,7 +9,7 @@ pub join-feed-requires-send-F : goal.join-feed-requires-send-F
 join-feed-requires-send-F g c κs within =
     let reader = reader_send (param 0 g.row.N) g.N.LiveName c.type_bounds.send-N c.type_bounds.sync-N in
     let rt = c.type_bounds.sync-R in
-    search (sendable, crosses, filters.the_sync) depth 20
+    search (sendable, crosses) depth 20
 
 pub join-feed-requires-send-A : goal.join-feed-requires-send-A
 join-feed-requires-send-A g c κs within =

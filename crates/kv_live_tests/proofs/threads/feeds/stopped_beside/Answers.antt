@@ -1,7 +1,6 @@
 use denote.Param.{param}
 use denote.Param.Send.{sendable}
 use Rattle.std.proofs.Crossing.{crosses}
-use Rattle.kv_keys.proofs.error.KvError.TheSendSync as error
 use Rattle.kv_live.proofs.Sent.{feed_send, reader_send}
 use Rattle.kv_live_tests.proofs.threads.feeds.stopped_beside.Goals as goal
 
@@ -14,4 +13,4 @@ join-reader-requires-send-F g c κs within =
 pub join-reader-requires-send-A : goal.join-reader-requires-send-A
 join-reader-requires-send-A g c κs within =
     let reader = reader_send (param 0 g.row.N) g.N.LiveName c.type_bounds.send-N c.type_bounds.sync-N in
-    search (sendable, crosses, error.the_send) depth 30
+    search (sendable, crosses) depth 30

@@ -1,0 +1,88 @@
+//! What is done with a feed, line by line. A refresh that is refused leaves its count and its next item, and what is
+//! refused for memory is done once more.
+
+use super::*;
+
+#[derive(Clone, Copy)]
+pub(super) enum Move {
+    Take,
+    Refresh,
+    Version,
+}
+
+// The feed of all keys.
+pub(super) fn feed_of<N: LiveName>(alloc: Global, reader: Reader<N>) -> Result<Feed<N>, KvError> {
+    let filters = all_keys(alloc)?;
+    open_feed(reader, &filters)
+}
+
+pub(super) fn feed_of_last<N: LiveName>(
+    alloc: Global,
+    readers: &mut Vec<Reader<N>>,
+) -> Result<Feed<N>, KvError> {
+    let reader = last(readers)?;
+    feed_of(alloc, reader)
+}
+
+fn open_feed<N: LiveName>(reader: Reader<N>, filters: &Filters) -> Result<Feed<N>, KvError> {
+    match reader.watch(filters, LATEST) {
+        Ok(feed) => Ok(feed),
+        Err((reader, KvError::OutOfMemory)) => open_again(reader, filters),
+        Err((_, error)) => Err(error),
+    }
+}
+
+fn open_again<N: LiveName>(reader: Reader<N>, filters: &Filters) -> Result<Feed<N>, KvError> {
+    match reader.watch(filters, LATEST) {
+        Ok(feed) => Ok(feed),
+        Err((_, error)) => Err(error),
+    }
+}
+
+// How many items a feed handed out, and which is the next one.
+fn look_at<N: LiveName>(feed: &Feed<N>) -> (u64, Answer) {
+    (feed.handed(), brief_taken(Ok(feed.peek())))
+}
+
+// Takes the item that is next.
+fn take<N: LiveName, R: Abort>(rt: &R, feed: &mut Feed<N>) -> Answer {
+    let next = brief_taken(Ok(feed.peek()));
+    let taken = brief_taken(Ok(feed.take()));
+    equal(rt, taken, next);
+    taken
+}
+
+fn move_once<N: LiveName, R: Abort>(rt: &R, feed: &mut Feed<N>, step: Move) -> Answer {
+    match step {
+        Move::Take => take(rt, feed),
+        Move::Refresh => done(feed.refresh()),
+        Move::Version => on(feed.version()),
+    }
+}
+
+fn move_again<N: LiveName, R: Abort>(rt: &R, feed: &mut Feed<N>, step: Move) -> Answer {
+    let before = look_at(feed);
+    let answer = move_once(rt, feed, step);
+    match answer {
+        Answer::Refused(_) => equal(rt, look_at(feed), before),
+        _ => {}
+    }
+    match answer {
+        Answer::Refused(KvError::OutOfMemory) => move_once(rt, feed, step),
+        answer => answer,
+    }
+}
+
+pub(super) fn moves<N: LiveName, R: Abort>(rt: &R, feed: &mut Feed<N>, lines: &[(Move, Answer)]) {
+    for (step, answer) in lines {
+        equal(rt, move_again(rt, feed, *step), *answer);
+    }
+}
+
+// Stops a feed that handed out so many items.
+pub(super) fn stopped_at<N: LiveName, R: Abort>(rt: &R, feed: Feed<N>, handed: u64) -> Reader<N> {
+    let counted = feed.handed();
+    let (reader, stopped) = feed.stop();
+    equal(rt, (counted, stopped.handed), (handed, handed));
+    reader
+}
