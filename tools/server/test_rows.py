@@ -17,6 +17,7 @@ LEFT_OUT = {
     "hostile-place-alone": "place tells of the hash trie",
     "places-that-collide": "place tells of the hash trie",
     "race-of-one": "a race is of threads in one process",
+    "race-of-thirty-three-watches": "a race is of threads in one process",
     "revision-limit": "revisions have no limit there",
     "sixty-four-watches": "watches have no limit there",
     "write-limit-and-seal": "writes have no limit there",
