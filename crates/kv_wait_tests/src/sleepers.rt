@@ -23,7 +23,7 @@ pub fn pause<R: Clock>(rt: &R) {
     thread::sleep(rt, Duration::from_millis(20));
 }
 
-const SEEN: [Step; 2] = [Step::Do(Act::Put), Step::Look];
+const SEEN: &[Step] = &[Step::Do(Act::Put), Step::Look];
 
 // The reader has seen all that there is before it sleeps.
 pub fn woken_by<N: LiveName + Send + Sync, R: Threads + Wait + Clock + Abort + Sync>(
@@ -34,7 +34,7 @@ pub fn woken_by<N: LiveName + Send + Sync, R: Threads + Wait + Clock + Abort + S
     sleep: Step,
 ) -> Result<(), KvError> {
     let mut reader = seat(rt, live)?;
-    steps_of(rt, alloc, live, &mut reader, &SEEN)?;
+    steps_of(rt, alloc, live, &mut reader, SEEN)?;
     sleep_beside(rt, alloc, live, &mut reader, acts, sleep)
 }
 
@@ -69,7 +69,7 @@ fn disturb<N: LiveName, R: Wait + Clock>(
     Ok(())
 }
 
-const WOKEN: [(Act, Woken); 4] = [
+const WOKEN: &[(Act, Woken)] = &[
     (Act::Put, Woken::Changed),
     (Act::Seal, Woken::Changed),
     (Act::Compact, Woken::Changed),
@@ -79,7 +79,7 @@ const WOKEN: [(Act, Woken); 4] = [
 #[test]
 fn a_sleeper_is_woken_by_each_act(rt: HostRuntime) -> Result<(), Fail> {
     for (act, woken) in WOKEN {
-        run(&rt, rt.alloc(), Row::Sleeper(act, 1, Step::Wait(woken)))?;
+        run(&rt, rt.alloc(), Row::Sleeper(*act, 1, Step::Wait(*woken)))?;
     }
     Ok(())
 }

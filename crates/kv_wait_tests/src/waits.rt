@@ -127,7 +127,7 @@ pub fn steps_of<N: LiveName, R: Wait + Clock + Abort>(
 }
 
 // What is new goes before the end.
-const TIMEOUTS: [Step; 9] = [
+const TIMEOUTS: &[Step] = &[
     Step::Moment(None),
     Step::Do(Act::Put),
     Step::Moment(Some(Woken::Changed)),
@@ -141,12 +141,12 @@ const TIMEOUTS: [Step; 9] = [
 
 #[test]
 fn a_timeout_ends_a_wait(rt: HostRuntime) -> Result<(), Fail> {
-    run(&rt, rt.alloc(), Row::Reader(&TIMEOUTS))?;
+    run(&rt, rt.alloc(), Row::Reader(TIMEOUTS))?;
     Ok(())
 }
 
 // A seal is news, too.
-const ENDS: [Step; 8] = [
+const ENDS: &[Step] = &[
     Step::Do(Act::Put),
     Step::Wait(Woken::Changed),
     Step::Look,
@@ -159,11 +159,11 @@ const ENDS: [Step; 8] = [
 
 #[test]
 fn a_wait_ends_by_news_and_by_the_end(rt: HostRuntime) -> Result<(), Fail> {
-    run(&rt, rt.alloc(), Row::Reader(&ENDS))?;
+    run(&rt, rt.alloc(), Row::Reader(ENDS))?;
     Ok(())
 }
 
-const REVISIONS: [Step; 7] = [
+const REVISIONS: &[Step] = &[
     Step::For(0, Some(0)),
     Step::Do(Act::Put),
     Step::Do(Act::Put),
@@ -175,7 +175,7 @@ const REVISIONS: [Step; 7] = [
 
 #[test]
 fn a_revision_is_waited_for_to_the_end(rt: HostRuntime) -> Result<(), Fail> {
-    run(&rt, rt.alloc(), Row::Reader(&REVISIONS))?;
+    run(&rt, rt.alloc(), Row::Reader(REVISIONS))?;
     Ok(())
 }
 
@@ -207,7 +207,7 @@ fn a_feed_from_the_empty_bucket_is_behind_what_its_reader_saw(rt: HostRuntime) -
     Ok(())
 }
 
-const SEEN: [Step; 3] = [Step::Do(Act::Put), Step::Look, Step::Moment(None)];
+const SEEN: &[Step] = &[Step::Do(Act::Put), Step::Look, Step::Moment(None)];
 
 pub fn feed_waits_first<N: LiveName, R: Wait + Clock + Abort>(
     rt: &R,
@@ -236,7 +236,7 @@ fn see<N: LiveName, R: Wait + Clock + Abort>(
     live: &Live<N>,
 ) -> Result<Reader<N>, KvError> {
     let mut reader = seat(rt, live)?;
-    steps_of(rt, alloc, live, &mut reader, &SEEN)?;
+    steps_of(rt, alloc, live, &mut reader, SEEN)?;
     Ok(reader)
 }
 

@@ -2,13 +2,13 @@
 
 use super::*;
 
-const KEYS: [&str; 10] = [
+const KEYS: &[&str] = &[
     "a", "b", "a.b", "a.c", "a.b.c", "b.c", "c", "c.a", "c.b.a", "d",
 ];
 
-const FILTERS: [&str; 8] = [">", "a.>", "*", "a.*", "*.b", "b,c.>", "d", "a.b.c"];
+const FILTERS: &[&str] = &[">", "a.>", "*", "a.*", "*.b", "b,c.>", "d", "a.b.c"];
 
-const OPTIONS: [Options; 4] = [
+const OPTIONS: &[Options] = &[
     LATEST,
     Options {
         start: Start::History,
@@ -31,7 +31,7 @@ const OPTIONS: [Options; 4] = [
 fn all_watches(alloc: Global) -> Result<Vec<(Filters, Options)>, KvError> {
     let mut watches = Vec::new(alloc);
     for options in OPTIONS {
-        push_watches(alloc, &mut watches, options)?;
+        push_watches(alloc, &mut watches, *options)?;
     }
     Ok(watches)
 }
@@ -58,7 +58,7 @@ pub(super) fn audit<R: Threads + Wait + Abort + Sync>(
     rt: &R,
     alloc: Global,
 ) -> Result<(), KvError> {
-    let scripts = scripts_of(alloc, 16, &KEYS)?;
+    let scripts = scripts_of(alloc, 16, KEYS)?;
     audit_over(rt, alloc, &scripts)
 }
 

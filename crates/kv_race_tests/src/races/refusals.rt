@@ -59,7 +59,7 @@ fn refused<R: Threads + Wait + Sync>(
 }
 
 // The bucket's name, how many workers and watches, and the answer.
-const REFUSALS: [(&str, usize, usize, Result<(), KvError>); 8] = [
+const REFUSALS: &[(&str, usize, usize, Result<(), KvError>)] = &[
     ("kv", 1, 0, Ok(())),
     ("kv", 16, 1, Ok(())),
     ("kv", 0, 1, Err(KvError::BadConfig)),
@@ -74,7 +74,7 @@ const REFUSALS: [(&str, usize, usize, Result<(), KvError>); 8] = [
 fn refusals_in_their_order(rt: HostRuntime) -> Result<(), Fail> {
     let alloc = rt.alloc();
     for (name, workers, watches, answer) in REFUSALS {
-        equal(&rt, refused(&rt, alloc, name, workers, watches), answer);
+        equal(&rt, refused(&rt, alloc, name, *workers, *watches), *answer);
     }
     Ok(())
 }
