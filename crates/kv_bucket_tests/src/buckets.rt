@@ -10,10 +10,11 @@ use std::fmt::Debug;
 use std::process::Abort;
 use std::test::Fail;
 
-mod compacted;
-mod longest;
+mod asking;
+mod making;
+mod openings;
 mod rows;
-mod runs;
+mod running;
 
 const LATEST: Options = Options {
     start: Start::Latest,
@@ -21,12 +22,35 @@ const LATEST: Options = Options {
     headers_only: false,
 };
 
-// What was answered, by its numbers.
+// What is asked of a bucket.
+#[derive(Clone, Copy)]
+enum Ask {
+    Put(&'static str, &'static str),
+    // The longest key, with the largest value.
+    PutLongest,
+    Create(&'static str),
+    Delete(&'static str),
+    Purge(&'static str, u64),
+    Get(&'static str),
+    GetAt(&'static str, u64),
+    History(&'static str),
+    Keys(&'static str),
+    Watch(&'static str),
+    // By the list that is made of one filter.
+    WatchOne(&'static str),
+    Take(u64),
+    Stop(u64),
+    Status,
+    Seal,
+    Compact(u64),
+}
+
+// What was answered. An entry by its revision, and the first byte of its value, if it has one.
 #[derive(Clone, Copy, Debug, PartialEq, Eq)]
 enum Answer {
     Revision(u64),
     Sealed,
-    Entry(u64),
+    Entry(u64, u8),
     Count(usize),
     Status(Status, u64),
     Watch(u64),
@@ -37,52 +61,26 @@ enum Answer {
     Refused(KvError),
 }
 
-fn brief(reply: &Reply) -> Answer {
-    match reply {
-        Reply::Revision(revision) => Answer::Revision(*revision),
-        Reply::Sealed => Answer::Sealed,
-        Reply::Entry(seen) => Answer::Entry(seen.revision),
-        Reply::Entries(entries) => Answer::Count(entries.len()),
-        Reply::Keys(keys) => Answer::Count(keys.len()),
-        Reply::Status { status, watches } => Answer::Status(*status, *watches),
-        Reply::Watch(number) => Answer::Watch(*number),
-        Reply::Marker => Answer::Marker,
-        Reply::Empty => Answer::Empty,
-        Reply::Stopped(stopped) => Answer::Stopped(stopped.handed),
-        Reply::Compacted(floor) => Answer::Compacted(*floor),
-        Reply::Refused(error) => Answer::Refused(*error),
-    }
+type Row = (Ask, Answer);
+
+fn entry(revision: u64, value: Option<&[u8]>) -> Answer {
+    let first = match value {
+        Some(value) => value.first().copied().unwrap_or(0),
+        None => 0,
+    };
+    Answer::Entry(revision, first)
 }
 
-fn brief_taken(taken: Result<Taken<'_>, KvError>) -> Answer {
-    match taken {
-        Ok(Taken::Entry(shown)) => Answer::Entry(shown.revision()),
-        Ok(Taken::Marker) => Answer::Marker,
-        Ok(Taken::Empty) => Answer::Empty,
-        Err(error) => Answer::Refused(error),
-    }
+fn is_refused(answer: Answer) -> bool {
+    matches!(answer, Answer::Refused(_))
 }
 
-fn peek(bucket: &Bucket, number: u64) -> Answer {
-    brief_taken(bucket.peek(number))
+fn lacks_memory(answer: Answer) -> bool {
+    matches!(answer, Answer::Refused(KvError::OutOfMemory))
 }
 
-fn take(bucket: &mut Bucket, number: u64) -> Answer {
-    brief_taken(bucket.take(number))
-}
-
-fn stop(bucket: &mut Bucket, number: u64) -> Answer {
-    match bucket.stop(number) {
-        Ok(stopped) => Answer::Stopped(stopped.handed),
-        Err(error) => Answer::Refused(error),
-    }
-}
-
-fn watches(bucket: &Bucket) -> u64 {
-    bucket.watches()
-}
-
-// What can be seen of a bucket with two watches at most.
+// What can be seen of a bucket with two watches at most: its numbers, how many watches it has, and what each is given
+// next.
 #[derive(Clone, Copy, Debug, PartialEq, Eq)]
 struct Sight {
     status: Status,
@@ -94,34 +92,26 @@ struct Sight {
 fn look(bucket: &Bucket) -> Sight {
     Sight {
         status: bucket.version().status(),
-        watches: watches(bucket),
-        first: peek(bucket, 1),
-        second: peek(bucket, 2),
+        watches: bucket.watches(),
+        first: asking::taken(bucket.peek(1)),
+        second: asking::taken(bucket.peek(2)),
     }
 }
 
-// The numbers of a configuration.
-#[derive(Clone, Copy)]
-struct Limits {
-    history: u64,
-    value_limit: u64,
-    write_limit: u64,
-    revision_limit: u64,
-}
+// A bucket's history, and its limits of a value, of its writes and of its revisions.
+type Limits = (u64, u64, u64, u64);
 
-const LARGEST: Limits = Limits {
-    history: 64,
-    value_limit: 1_048_576,
-    write_limit: 1_000_000,
-    revision_limit: 4_294_967_295,
-};
+// The limits of a bucket that keeps so many entries of each key.
+fn keeping(history: u64) -> Limits {
+    (history, 1_048_576, 1_000_000, 4_294_967_295)
+}
 
 fn open_once(alloc: Global, name: &str, limits: Limits) -> Result<Bucket, KvError> {
     let mut config = Config::named(alloc, name)?;
-    config.history = limits.history;
-    config.value_limit = limits.value_limit;
-    config.write_limit = limits.write_limit;
-    config.revision_limit = limits.revision_limit;
+    config.history = limits.0;
+    config.value_limit = limits.1;
+    config.write_limit = limits.2;
+    config.revision_limit = limits.3;
     Bucket::open(alloc, &config)
 }
 
@@ -129,104 +119,6 @@ fn open(alloc: Global, name: &str, limits: Limits) -> Result<Bucket, KvError> {
     match open_once(alloc, name, limits) {
         Err(KvError::OutOfMemory) => open_once(alloc, name, limits),
         bucket => bucket,
-    }
-}
-
-fn keeping(alloc: Global, history: u64) -> Result<Bucket, KvError> {
-    let limits = Limits { history, ..LARGEST };
-    open(alloc, "kv", limits)
-}
-
-fn put_once(alloc: Global, key: &str, value: &str) -> Result<Request, KvError> {
-    let key = Key::parse(alloc, key)?;
-    let value = Vec::from_slice(alloc, value.as_bytes())?;
-    Ok(Request::Put { key, value })
-}
-
-fn put(alloc: Global, key: &str, value: &str) -> Result<Request, KvError> {
-    match put_once(alloc, key, value) {
-        Err(KvError::OutOfMemory) => put_once(alloc, key, value),
-        request => request,
-    }
-}
-
-fn all_keys(alloc: Global) -> Result<Filters, KvError> {
-    match Filters::parse(alloc, ">") {
-        Err(KvError::OutOfMemory) => Filters::parse(alloc, ">"),
-        filters => filters,
-    }
-}
-
-fn one_filter_once(alloc: Global) -> Result<Filters, KvError> {
-    let filter = Filter::parse(alloc, ">")?;
-    Filters::one(alloc, &filter)
-}
-
-// The same filters, as the list of one.
-fn one_filter(alloc: Global) -> Result<Filters, KvError> {
-    match one_filter_once(alloc) {
-        Err(KvError::OutOfMemory) => one_filter_once(alloc),
-        filters => filters,
-    }
-}
-
-fn looks(rt: &impl Abort, bucket: &Bucket, before: Sight) {
-    equal(rt, look(bucket), before);
-}
-
-fn write_once(bucket: &mut Bucket, request: &Request) -> Result<u64, KvError> {
-    bucket.write(request)
-}
-
-fn write(rt: &impl Abort, bucket: &mut Bucket, request: &Request) -> Result<u64, KvError> {
-    let before = look(bucket);
-    match write_once(bucket, request) {
-        Err(KvError::OutOfMemory) => {
-            looks(rt, bucket, before);
-            write_once(bucket, request)
-        }
-        revision => revision,
-    }
-}
-
-fn write_put(
-    rt: &impl Abort,
-    alloc: Global,
-    bucket: &mut Bucket,
-    key: &str,
-    value: &str,
-) -> Result<u64, KvError> {
-    let request = put(alloc, key, value)?;
-    write(rt, bucket, &request)
-}
-
-fn seal_once(bucket: &mut Bucket) -> Result<(), KvError> {
-    bucket.seal()
-}
-
-fn seal(rt: &impl Abort, bucket: &mut Bucket) -> Result<(), KvError> {
-    let before = look(bucket);
-    match seal_once(bucket) {
-        Err(KvError::OutOfMemory) => {
-            looks(rt, bucket, before);
-            seal_once(bucket)
-        }
-        done => done,
-    }
-}
-
-fn watch_once(bucket: &mut Bucket, filters: &Filters) -> Result<u64, KvError> {
-    bucket.watch(filters, LATEST)
-}
-
-fn watch(rt: &impl Abort, bucket: &mut Bucket, filters: &Filters) -> Result<u64, KvError> {
-    let before = look(bucket);
-    match watch_once(bucket, filters) {
-        Err(KvError::OutOfMemory) => {
-            looks(rt, bucket, before);
-            watch_once(bucket, filters)
-        }
-        number => number,
     }
 }
 

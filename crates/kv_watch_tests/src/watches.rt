@@ -22,33 +22,23 @@ const LATEST: Options = Options {
     headers_only: false,
 };
 
-fn started(start: Start) -> Options {
-    Options {
-        start,
-        ignore_deletes: false,
-        headers_only: false,
-    }
-}
-
-// A write of a row. A marker has no value.
+// A write of a row.
 #[derive(Clone, Copy)]
-struct Deed<'a> {
-    op: Op,
-    key: &'a str,
-    value: &'a str,
+enum Deed {
+    Put(&'static str, &'static str),
+    Delete(&'static str),
+    Purge(&'static str),
 }
 
-fn put<'a>(key: &'a str, value: &'a str) -> Deed<'a> {
-    Deed {
-        op: Op::Put,
-        key,
-        value,
+// An item of a watch as a number: an entry by its revision, and the marker as 0.
+fn number_of(item: Event) -> u64 {
+    match item {
+        Event::Entry { revision } => revision,
+        Event::Marker => MARKER,
     }
 }
 
-fn mark<'a>(op: Op, key: &'a str) -> Deed<'a> {
-    Deed { op, key, value: "" }
-}
+const MARKER: u64 = 0;
 
 fn keep(config: &mut Config, history: u64) {
     config.history = history;
@@ -68,25 +58,33 @@ fn empty(alloc: Global, history: u64) -> Result<Version, KvError> {
     }
 }
 
-fn request(alloc: Global, deed: Deed<'_>) -> Result<Request, KvError> {
-    let key = Key::parse(alloc, deed.key)?;
-    match deed.op {
-        Op::Put => {
-            let value = Vec::from_slice(alloc, deed.value.as_bytes())?;
-            Ok(Request::Put { key, value })
-        }
-        Op::Delete => Ok(Request::Delete { key, last: None }),
-        Op::Purge => Ok(Request::Purge { key, last: None }),
+fn put_request(alloc: Global, key: &str, value: &str) -> Result<Request, KvError> {
+    let key = Key::parse(alloc, key)?;
+    let value = Vec::from_slice(alloc, value.as_bytes())?;
+    Ok(Request::Put { key, value })
+}
+
+fn request(alloc: Global, deed: Deed) -> Result<Request, KvError> {
+    match deed {
+        Deed::Put(key, value) => put_request(alloc, key, value),
+        Deed::Delete(key) => Ok(Request::Delete {
+            key: Key::parse(alloc, key)?,
+            last: None,
+        }),
+        Deed::Purge(key) => Ok(Request::Purge {
+            key: Key::parse(alloc, key)?,
+            last: None,
+        }),
     }
 }
 
-fn write_once(alloc: Global, version: &Version, deed: Deed<'_>) -> Result<Version, KvError> {
+fn write_once(alloc: Global, version: &Version, deed: Deed) -> Result<Version, KvError> {
     let request = request(alloc, deed)?;
     version.apply(alloc, &request)
 }
 
 // The version with one more write.
-fn write(alloc: Global, version: &Version, deed: Deed<'_>) -> Result<Version, KvError> {
+fn write(alloc: Global, version: &Version, deed: Deed) -> Result<Version, KvError> {
     match write_once(alloc, version, deed) {
         Err(KvError::OutOfMemory) => write_once(alloc, version, deed),
         version => version,
@@ -94,7 +92,7 @@ fn write(alloc: Global, version: &Version, deed: Deed<'_>) -> Result<Version, Kv
 }
 
 // A version with these writes behind those of another.
-fn write_all(alloc: Global, version: Version, deeds: &[Deed<'_>]) -> Result<Version, KvError> {
+fn write_all(alloc: Global, version: Version, deeds: &[Deed]) -> Result<Version, KvError> {
     let mut version = version;
     for deed in deeds {
         version = write(alloc, &version, *deed)?;
@@ -103,13 +101,13 @@ fn write_all(alloc: Global, version: Version, deeds: &[Deed<'_>]) -> Result<Vers
 }
 
 // A bucket with these writes that keeps so many entries of each key.
-fn kept(alloc: Global, history: u64, deeds: &[Deed<'_>]) -> Result<Version, KvError> {
+fn kept(alloc: Global, history: u64, deeds: &[Deed]) -> Result<Version, KvError> {
     let version = empty(alloc, history)?;
     write_all(alloc, version, deeds)
 }
 
 // A bucket with these writes that keeps one entry of each key.
-fn written(alloc: Global, deeds: &[Deed<'_>]) -> Result<Version, KvError> {
+fn written(alloc: Global, deeds: &[Deed]) -> Result<Version, KvError> {
     kept(alloc, 1, deeds)
 }
 
@@ -163,13 +161,13 @@ fn open_on(
 }
 
 // The next item, which `peek` says before, and by which `handed` grows.
-fn step(rt: &impl Abort, cursor: &mut Cursor, base: &Version, now: &Version) -> Option<Event> {
+fn step(rt: &impl Abort, cursor: &mut Cursor, base: &Version, now: &Version) -> Option<u64> {
     let handed = cursor.handed();
     let next = cursor.peek(Some(base), now).event();
     let taken = cursor.take(Some(base), now).event();
     equal(rt, next, taken);
     equal(rt, cursor.handed() == handed, taken.is_none());
-    taken
+    taken.map(number_of)
 }
 
 // Ends the test where what was found is not what was wanted. A call of it is proved sooner than `assert_eq!` in its place.

@@ -1,282 +1,271 @@
-//! Rows of single calls.
+//! Rows of asks, by the calls themselves and in one run.
 
 use super::*;
 
-fn put_three(rt: &impl Abort, alloc: Global, bucket: &mut Bucket) -> Result<(), KvError> {
-    for (key, value) in [("b", "1"), ("a", "2"), ("b", "3")] {
-        write_put(rt, alloc, bucket, key, value)?;
-    }
+fn by_calls(rt: &impl Abort, alloc: Global, limits: Limits, rows: &[Row]) -> Result<(), KvError> {
+    let mut bucket = open(alloc, "kv", limits)?;
+    asking::ask_each(rt, alloc, &mut bucket, rows);
     Ok(())
 }
 
-fn gives_initial(
-    rt: &impl Abort,
-    alloc: Global,
-    bucket: &mut Bucket,
-    filters: &Filters,
-) -> Result<(), KvError> {
-    put_three(rt, alloc, bucket)?;
-    equal(rt, bucket.version().revision(), 3);
-    equal(rt, watch(rt, bucket, filters)?, 1);
-    for answer in [
-        Answer::Entry(2),
-        Answer::Entry(3),
-        Answer::Marker,
-        Answer::Empty,
-    ] {
-        equal(rt, peek(bucket, 1), answer);
-        equal(rt, take(bucket, 1), answer);
-    }
-    Ok(())
+fn in_a_run(rt: &impl Abort, alloc: Global, limits: Limits, rows: &[Row]) -> Result<(), KvError> {
+    let mut bucket = open(alloc, "kv", limits)?;
+    running::run_all(rt, alloc, limits, &mut bucket, rows)
 }
 
-fn initial_by(rt: &impl Abort, alloc: Global, filters: &Filters) -> Result<(), KvError> {
-    let mut bucket = keeping(alloc, 1)?;
-    gives_initial(rt, alloc, &mut bucket, filters)
+// In a new bucket each row has its answer, both ways.
+fn holds(rt: &impl Abort, alloc: Global, limits: Limits, rows: &[Row]) -> Result<(), KvError> {
+    by_calls(rt, alloc, limits, rows)?;
+    in_a_run(rt, alloc, limits, rows)
 }
 
-fn initial_by_parsed(rt: &impl Abort, alloc: Global) -> Result<(), KvError> {
-    let parsed = all_keys(alloc)?;
-    initial_by(rt, alloc, &parsed)
-}
+const NO_SUCH_WATCH: Answer = Answer::Refused(KvError::NoSuchWatch);
 
-fn initial_by_single(rt: &impl Abort, alloc: Global) -> Result<(), KvError> {
-    let single = one_filter(alloc)?;
-    initial_by(rt, alloc, &single)
-}
+const INITIAL: &[Row] = &[
+    (Ask::Put("b", "1"), Answer::Revision(1)),
+    (Ask::Put("a", "2"), Answer::Revision(2)),
+    (Ask::Put("b", "3"), Answer::Revision(3)),
+    (Ask::Watch(">"), Answer::Watch(1)),
+    (Ask::WatchOne(">"), Answer::Watch(2)),
+    (Ask::Take(1), Answer::Entry(2, b'2')),
+    (Ask::Take(2), Answer::Entry(2, b'2')),
+    (Ask::Take(1), Answer::Entry(3, b'3')),
+    (Ask::Take(1), Answer::Marker),
+    (Ask::Take(1), Answer::Empty),
+    (Ask::Take(2), Answer::Entry(3, b'3')),
+    (Ask::Take(2), Answer::Marker),
+];
 
 #[test]
 fn initial_by_revision(rt: HostRuntime) -> Result<(), Fail> {
-    initial_by_parsed(&rt, rt.alloc())?;
-    initial_by_single(&rt, rt.alloc())?;
+    holds(&rt, rt.alloc(), keeping(1), INITIAL)?;
     Ok(())
 }
 
-// Watches everything, and tells whether the watch has this number.
-fn watches_as(
-    rt: &impl Abort,
-    bucket: &mut Bucket,
-    filters: &Filters,
-    number: u64,
-) -> Result<(), KvError> {
-    equal(rt, watch(rt, bucket, filters)?, number);
-    Ok(())
-}
+const EMPTY: Status = Status {
+    history: 1,
+    last: 0,
+    sealed: false,
+    stored: 0,
+    values: 0,
+};
 
-fn stops_as(rt: &impl Abort, bucket: &mut Bucket, number: u64, handed: u64) {
-    equal(rt, stop(bucket, number), Answer::Stopped(handed));
-}
-
-fn has_watches(rt: &impl Abort, bucket: &Bucket, count: u64) {
-    equal(rt, watches(bucket), count);
-}
-
-fn takes_and_stops(rt: &impl Abort, bucket: &mut Bucket) {
-    equal(rt, take(bucket, 1), Answer::Marker);
-    stops_as(rt, bucket, 1, 1);
-}
-
-fn knows_no_watch(rt: &impl Abort, bucket: &mut Bucket, number: u64) {
-    equal(
-        rt,
-        take(bucket, number),
-        Answer::Refused(KvError::NoSuchWatch),
-    );
-    equal(
-        rt,
-        stop(bucket, number),
-        Answer::Refused(KvError::NoSuchWatch),
-    );
-}
-
-fn numbers_by(rt: &impl Abort, bucket: &mut Bucket, filters: &Filters) -> Result<(), KvError> {
-    knows_no_watch(rt, bucket, 7);
-    watches_as(rt, bucket, filters, 1)?;
-    takes_and_stops(rt, bucket);
-    knows_no_watch(rt, bucket, 1);
-    watches_as(rt, bucket, filters, 2)?;
-    has_watches(rt, bucket, 1);
-    Ok(())
-}
-
-fn numbers_on(rt: &impl Abort, alloc: Global, bucket: &mut Bucket) -> Result<(), KvError> {
-    let filters = all_keys(alloc)?;
-    numbers_by(rt, bucket, &filters)
-}
-
-fn numbers(rt: &impl Abort, alloc: Global) -> Result<(), KvError> {
-    let mut bucket = keeping(alloc, 1)?;
-    numbers_on(rt, alloc, &mut bucket)
-}
+const NUMBERS: &[Row] = &[
+    (Ask::Take(7), NO_SUCH_WATCH),
+    (Ask::Stop(7), NO_SUCH_WATCH),
+    (Ask::Watch(">"), Answer::Watch(1)),
+    (Ask::Take(1), Answer::Marker),
+    (Ask::Stop(1), Answer::Stopped(1)),
+    (Ask::Take(1), NO_SUCH_WATCH),
+    (Ask::Stop(1), NO_SUCH_WATCH),
+    (Ask::Watch(">"), Answer::Watch(2)),
+    (Ask::Status, Answer::Status(EMPTY, 1)),
+];
 
 #[test]
 fn watch_numbers(rt: HostRuntime) -> Result<(), Fail> {
-    numbers(&rt, rt.alloc())?;
+    holds(&rt, rt.alloc(), keeping(1), NUMBERS)?;
     Ok(())
 }
 
-fn opens_sixty_four(
-    rt: &impl Abort,
-    bucket: &mut Bucket,
-    filters: &Filters,
-) -> Result<(), KvError> {
+const AFTER_THE_MOST: &[Row] = &[
+    (Ask::Watch(">"), Answer::Refused(KvError::TooManyWatches)),
+    (Ask::Stop(1), Answer::Stopped(0)),
+    (Ask::Watch(">"), Answer::Watch(65)),
+    (Ask::Status, Answer::Status(EMPTY, 64)),
+];
+
+fn fill(rt: &impl Abort, alloc: Global, bucket: &mut Bucket) {
     for number in 1..65u64 {
-        watches_as(rt, bucket, filters, number)?;
+        let row = (Ask::Watch(">"), Answer::Watch(number));
+        asking::ask_each(rt, alloc, bucket, &[row]);
     }
-    Ok(())
-}
-
-fn opens_no_more(rt: &impl Abort, bucket: &mut Bucket, filters: &Filters) {
-    equal(rt, watch(rt, bucket, filters), Err(KvError::TooManyWatches));
-}
-
-fn most_by(rt: &impl Abort, bucket: &mut Bucket, filters: &Filters) -> Result<(), KvError> {
-    opens_sixty_four(rt, bucket, filters)?;
-    opens_no_more(rt, bucket, filters);
-    stops_as(rt, bucket, 1, 0);
-    watches_as(rt, bucket, filters, 65)?;
-    has_watches(rt, bucket, 64);
-    Ok(())
-}
-
-fn most_on(rt: &impl Abort, alloc: Global, bucket: &mut Bucket) -> Result<(), KvError> {
-    let filters = all_keys(alloc)?;
-    most_by(rt, bucket, &filters)
-}
-
-fn most_watches(rt: &impl Abort, alloc: Global) -> Result<(), KvError> {
-    let mut bucket = keeping(alloc, 1)?;
-    most_on(rt, alloc, &mut bucket)
+    asking::ask_each(rt, alloc, bucket, AFTER_THE_MOST);
 }
 
 #[test]
 fn sixty_four_watches(rt: HostRuntime) -> Result<(), Fail> {
-    most_watches(&rt, rt.alloc())?;
+    let mut bucket = open(rt.alloc(), "kv", keeping(1))?;
+    fill(&rt, rt.alloc(), &mut bucket);
     Ok(())
 }
 
-fn answers(
-    rt: &impl Abort,
-    bucket: &mut Bucket,
-    request: &Request,
-    expected: Result<u64, KvError>,
-) {
-    equal(rt, write(rt, bucket, request), expected);
-}
+const SEALED: Status = Status {
+    history: 1,
+    last: 2,
+    sealed: true,
+    stored: 2,
+    values: 2,
+};
 
-fn puts_as(
-    rt: &impl Abort,
-    alloc: Global,
-    bucket: &mut Bucket,
-    key: &str,
-    expected: Result<u64, KvError>,
-) -> Result<(), KvError> {
-    let request = put(alloc, key, "")?;
-    answers(rt, bucket, &request, expected);
-    Ok(())
-}
-
-fn has_status(rt: &impl Abort, bucket: &Bucket, expected: Status) {
-    equal(rt, bucket.version().status(), expected);
-}
-
-// Its two writes, and no more.
-fn fills(rt: &impl Abort, alloc: Global, bucket: &mut Bucket) -> Result<(), KvError> {
-    puts_as(rt, alloc, bucket, "a", Ok(1))?;
-    puts_as(rt, alloc, bucket, "b", Ok(2))?;
-    puts_as(rt, alloc, bucket, "c", Err(KvError::JournalFull))
-}
-
-fn fills_and_seals(rt: &impl Abort, alloc: Global, bucket: &mut Bucket) -> Result<(), KvError> {
-    fills(rt, alloc, bucket)?;
-    seal(rt, bucket)?;
-    puts_as(rt, alloc, bucket, "c", Err(KvError::Sealed))?;
-    let status = Status {
-        history: 1,
-        last: 2,
-        sealed: true,
-        stored: 2,
-        values: 2,
-    };
-    has_status(rt, bucket, status);
-    Ok(())
-}
-
-fn limit_and_seal(rt: &impl Abort, alloc: Global) -> Result<(), KvError> {
-    let limits = Limits {
-        history: 1,
-        write_limit: 2,
-        ..LARGEST
-    };
-    let mut bucket = open(alloc, "kv", limits)?;
-    fills_and_seals(rt, alloc, &mut bucket)
-}
+const LIMITED: &[Row] = &[
+    (Ask::Put("a", "1"), Answer::Revision(1)),
+    (Ask::Put("b", "2"), Answer::Revision(2)),
+    (Ask::Put("c", "3"), Answer::Refused(KvError::JournalFull)),
+    (Ask::Seal, Answer::Sealed),
+    (Ask::Put("c", "3"), Answer::Refused(KvError::Sealed)),
+    (Ask::Seal, Answer::Sealed),
+    (Ask::Status, Answer::Status(SEALED, 0)),
+];
 
 #[test]
-fn write_limit_and_seal(rt: HostRuntime) -> Result<(), Fail> {
-    limit_and_seal(&rt, rt.alloc())?;
+fn write_limit_and_seals(rt: HostRuntime) -> Result<(), Fail> {
+    holds(&rt, rt.alloc(), (1, 1, 2, 100), LIMITED)?;
     Ok(())
 }
 
-// The refusal of an opening, want of memory aside.
-fn refusal(alloc: Global, name: &str, limits: Limits) -> Option<KvError> {
-    open(alloc, name, limits).err()
-}
+const BEHIND_ONE: Answer = Answer::Refused(KvError::WatchBehind { watch: 1 });
 
-// A name of 64 letters is the longest.
-const LONGEST_NAME: &str = "abcdefghijklmnopqrstuvwxyzabcdefghijklmnopqrstuvwxyzabcdefghijkl";
+const BEHIND_TWO: Answer = Answer::Refused(KvError::WatchBehind { watch: 2 });
+
+const BAD_FLOOR: Answer = Answer::Refused(KvError::BadFloor);
+
+const COMPACTED: Status = Status {
+    history: 1,
+    last: 4,
+    sealed: false,
+    stored: 1,
+    values: 1,
+};
+
+// A watch is handed what it owes before a compaction may go on.
+const COMPACTIONS: &[Row] = &[
+    (Ask::Put("k", "1"), Answer::Revision(1)),
+    (Ask::Watch(">"), Answer::Watch(1)),
+    (Ask::Put("k", "2"), Answer::Revision(2)),
+    (Ask::Put("k", "3"), Answer::Revision(3)),
+    (Ask::Put("k", "4"), Answer::Revision(4)),
+    (Ask::Compact(5), BAD_FLOOR),
+    (Ask::Compact(2), BEHIND_ONE),
+    (Ask::Compact(1), Answer::Compacted(1)),
+    (Ask::Take(1), Answer::Entry(1, b'1')),
+    (Ask::Take(1), Answer::Marker),
+    (Ask::Take(1), Answer::Entry(2, b'2')),
+    (Ask::Compact(2), Answer::Compacted(2)),
+    (Ask::Take(1), Answer::Entry(3, b'3')),
+    (Ask::Take(1), Answer::Entry(4, b'4')),
+    (Ask::Take(1), Answer::Empty),
+    (Ask::Compact(4), Answer::Compacted(4)),
+    (Ask::Compact(3), BAD_FLOOR),
+    (Ask::Compact(0), BAD_FLOOR),
+    (Ask::Status, Answer::Status(COMPACTED, 1)),
+];
 
 #[test]
-fn refused_names(rt: HostRuntime) {
-    let too_long = "abcdefghijklmnopqrstuvwxyzabcdefghijklmnopqrstuvwxyzabcdefghijklm";
-    for name in ["my.bucket", "", too_long] {
-        equal(
-            &rt,
-            refusal(rt.alloc(), name, LARGEST),
-            Some(KvError::BadBucket),
-        );
+fn compactions_and_a_watch(rt: HostRuntime) -> Result<(), Fail> {
+    holds(&rt, rt.alloc(), keeping(1), COMPACTIONS)?;
+    Ok(())
+}
+
+// An entry of the opening that was compacted since is still handed out, as it was. Of two watches that are behind the
+// least is told.
+const LEAST: &[Row] = &[
+    (Ask::Put("k", "1"), Answer::Revision(1)),
+    (Ask::Watch(">"), Answer::Watch(1)),
+    (Ask::Watch(">"), Answer::Watch(2)),
+    (Ask::Put("k", "2"), Answer::Revision(2)),
+    (Ask::Compact(1), Answer::Compacted(1)),
+    (Ask::GetAt("k", 1), Answer::Refused(KvError::KeyNotFound)),
+    (Ask::Compact(2), BEHIND_ONE),
+    (Ask::Take(1), Answer::Entry(1, b'1')),
+    (Ask::Take(1), Answer::Marker),
+    (Ask::Take(1), Answer::Entry(2, b'2')),
+    (Ask::Compact(2), BEHIND_TWO),
+    (Ask::Stop(2), Answer::Stopped(0)),
+    (Ask::Compact(2), Answer::Compacted(2)),
+];
+
+#[test]
+fn the_least_watch_that_is_behind(rt: HostRuntime) -> Result<(), Fail> {
+    holds(&rt, rt.alloc(), keeping(1), LEAST)?;
+    Ok(())
+}
+
+const NOT_FOUND: Answer = Answer::Refused(KvError::KeyNotFound);
+
+const MARKED: Status = Status {
+    history: 2,
+    last: 4,
+    sealed: false,
+    stored: 4,
+    values: 1,
+};
+
+const OVER_MARKERS: &[Row] = &[
+    (Ask::Put("k", "1"), Answer::Revision(1)),
+    (Ask::Get("k"), Answer::Entry(1, b'1')),
+    (Ask::Delete("k"), Answer::Revision(2)),
+    (Ask::Get("k"), NOT_FOUND),
+    (Ask::GetAt("k", 1), Answer::Entry(1, b'1')),
+    (Ask::GetAt("k", 2), NOT_FOUND),
+    (Ask::History("k"), Answer::Count(2)),
+    (Ask::History("n"), NOT_FOUND),
+    (Ask::Keys("*"), Answer::Count(0)),
+    (Ask::Watch("k"), Answer::Watch(1)),
+    (Ask::Take(1), Answer::Entry(2, 0)),
+    (Ask::Take(1), Answer::Marker),
+    (Ask::Create("k"), Answer::Revision(3)),
+    (Ask::Create("k"), Answer::Refused(KvError::KeyExists)),
+    (Ask::Keys("*"), Answer::Count(1)),
+    (
+        Ask::Purge("k", 2),
+        Answer::Refused(KvError::WrongLastRevision { last: 3 }),
+    ),
+    (Ask::Purge("k", 3), Answer::Revision(4)),
+    (Ask::Take(1), Answer::Entry(3, 0)),
+    (Ask::Take(1), Answer::Entry(4, 0)),
+    (Ask::Take(1), Answer::Empty),
+    (Ask::Status, Answer::Status(MARKED, 1)),
+    (Ask::Stop(1), Answer::Stopped(4)),
+    (Ask::Seal, Answer::Sealed),
+];
+
+#[test]
+fn each_call_over_markers(rt: HostRuntime) -> Result<(), Fail> {
+    holds(&rt, rt.alloc(), keeping(2), OVER_MARKERS)?;
+    Ok(())
+}
+
+// What is as long, or as many, as it may be. Memory suffices for it, so no call may give up on it.
+const LONGEST: &[Row] = &[
+    (
+        Ask::Watch("a,b,c,d.*,e,f,g,h,*,j.>,k,l,m,n,o,p"),
+        Answer::Watch(1),
+    ),
+    (Ask::PutLongest, Answer::Revision(1)),
+    (Ask::Take(1), Answer::Marker),
+    (Ask::Take(1), Answer::Entry(1, 7)),
+    (Ask::Take(1), Answer::Empty),
+];
+
+#[test]
+fn sixteen_filters_the_longest_key_and_the_largest_value(rt: HostRuntime) -> Result<(), Fail> {
+    holds(&rt, rt.alloc(), keeping(64), LONGEST)?;
+    Ok(())
+}
+
+// A put and a take, again and again.
+fn rows_once(alloc: Global) -> Result<Vec<Row>, KvError> {
+    let mut rows = Vec::new(alloc);
+    rows.push((Ask::Watch("k"), Answer::Watch(1)))?;
+    rows.push((Ask::Take(1), Answer::Marker))?;
+    for revision in 1..1_001u64 {
+        rows.push((Ask::Put("k", "1"), Answer::Revision(revision)))?;
+        rows.push((Ask::Take(1), Answer::Entry(revision, b'1')))?;
     }
-    equal(&rt, refusal(rt.alloc(), LONGEST_NAME, LARGEST), None);
-    let limits = Limits {
-        history: 0,
-        ..LARGEST
-    };
-    equal(
-        &rt,
-        refusal(rt.alloc(), "my.bucket", limits),
-        Some(KvError::BadBucket),
-    );
+    Ok(rows)
+}
+
+fn rows(alloc: Global) -> Result<Vec<Row>, KvError> {
+    match rows_once(alloc) {
+        Err(KvError::OutOfMemory) => rows_once(alloc),
+        rows => rows,
+    }
 }
 
 #[test]
-fn refused_numbers(rt: HostRuntime) {
-    let table = [
-        (0, 1, 1, 1),
-        (65, 1, 1, 1),
-        (1, 1_048_577, 1, 1),
-        (1, 1, 0, 1),
-        (1, 1, 1_000_001, 1),
-        (1, 1, 1, 0),
-        (1, 1, 1, 4_294_967_296u64),
-    ];
-    for (history, value_limit, write_limit, revision_limit) in table {
-        let limits = Limits {
-            history,
-            value_limit,
-            write_limit,
-            revision_limit,
-        };
-        equal(
-            &rt,
-            refusal(rt.alloc(), "kv", limits),
-            Some(KvError::BadConfig),
-        );
-    }
-    let smallest = Limits {
-        history: 1,
-        value_limit: 0,
-        write_limit: 1,
-        revision_limit: 1,
-    };
-    equal(&rt, refusal(rt.alloc(), "kv", smallest), None);
+fn two_thousand_calls_in_a_run(rt: HostRuntime) -> Result<(), Fail> {
+    let rows = rows(rt.alloc())?;
+    in_a_run(&rt, rt.alloc(), keeping(1), &rows)?;
+    Ok(())
 }

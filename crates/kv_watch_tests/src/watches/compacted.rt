@@ -9,23 +9,13 @@ fn compact(alloc: Global, version: &Version, floor: u64) -> Result<Version, KvEr
     }
 }
 
-fn gives(
-    rt: &impl Abort,
-    cursor: &mut Cursor,
-    base: &Version,
-    now: &Version,
-    event: Option<Event>,
-) {
-    assert!(rt; cursor.take(Some(base), now).event() == event);
+fn gives(rt: &impl Abort, cursor: &mut Cursor, base: &Version, now: &Version, item: Option<u64>) {
+    equal(rt, step(rt, cursor, base, now), item);
 }
 
 fn reaches(rt: &impl Abort, cursor: &Cursor, now: &Version, reach: u64) {
     equal(rt, cursor.reach(now), reach);
     assert!(rt; !cursor.behind(now, reach));
-}
-
-fn entry(revision: u64) -> Option<Event> {
-    Some(Event::Entry { revision })
 }
 
 // A cursor on `k`.
@@ -35,14 +25,19 @@ fn open_on_k(rt: &impl Abort, alloc: Global, base: &Version) -> Result<Cursor, K
 }
 
 fn with_more(alloc: Global, base: &Version) -> Result<Version, KvError> {
-    let more = [put("x", "2"), put("x", "3"), put("x", "4"), put("k", "5")];
+    let more = [
+        Deed::Put("x", "2"),
+        Deed::Put("x", "3"),
+        Deed::Put("x", "4"),
+        Deed::Put("k", "5"),
+    ];
     write_all(alloc, base.snapshot()?, &more)
 }
 
 // All is handed out over the compacted version.
 fn gives_all(rt: &impl Abort, cursor: &mut Cursor, base: &Version, now: &Version) {
-    for event in [entry(1), Some(Event::Marker), entry(5), None] {
-        gives(rt, cursor, base, now, event);
+    for item in [Some(1), Some(MARKER), Some(5), None] {
+        gives(rt, cursor, base, now, item);
     }
     reaches(rt, cursor, now, 5);
 }
@@ -81,7 +76,7 @@ fn hides_nothing_behind(rt: &impl Abort, alloc: Global, base: &Version) -> Resul
 }
 
 fn hides_nothing(rt: &impl Abort, alloc: Global) -> Result<(), KvError> {
-    let base = written(alloc, &[put("k", "1")])?;
+    let base = written(alloc, &[Deed::Put("k", "1")])?;
     hides_nothing_behind(rt, alloc, &base)
 }
 

@@ -6,13 +6,22 @@ use kv_watch::given;
 
 // A row: a bucket with writes before the watch and others after it, and what the watch is given by each.
 #[derive(Clone, Copy)]
-pub(super) struct Row<'a> {
+pub(super) struct Row {
     pub(super) history: u64,
-    pub(super) before: &'a [Deed<'a>],
-    pub(super) options: Options,
-    pub(super) initial: &'a [Event],
-    pub(super) after: &'a [Deed<'a>],
-    pub(super) live: &'a [Event],
+    pub(super) before: &'static [Deed],
+    pub(super) start: Start,
+    pub(super) ignore_deletes: bool,
+    pub(super) initial: &'static [u64],
+    pub(super) after: &'static [Deed],
+    pub(super) live: &'static [u64],
+}
+
+fn options_of(row: Row) -> Options {
+    Options {
+        start: row.start,
+        ignore_deletes: row.ignore_deletes,
+        headers_only: false,
+    }
 }
 
 fn write_of(version: &Version, revision: u64) -> Result<&Write, KvError> {
@@ -36,14 +45,22 @@ fn listed_once(
     now: &Version,
     base: u64,
     filters: &Filters,
-    row: Row<'_>,
+    row: Row,
 ) -> Result<Vec<Event>, KvError> {
     let writes = stored(alloc, now)?;
     let end = writes.len() as u64;
     if base > end {
         return Err(KvError::KeyNotFound);
     }
-    given(alloc, &writes, base, end, row.history, filters, row.options)
+    given(
+        alloc,
+        &writes,
+        base,
+        end,
+        row.history,
+        filters,
+        options_of(row),
+    )
 }
 
 // The plain list of what the watch is given that began behind so many writes.
@@ -52,7 +69,7 @@ fn listed(
     now: &Version,
     base: u64,
     filters: &Filters,
-    row: Row<'_>,
+    row: Row,
 ) -> Result<Vec<Event>, KvError> {
     match listed_once(alloc, now, base, filters, row) {
         Err(KvError::OutOfMemory) => listed_once(alloc, now, base, filters, row),
@@ -66,21 +83,26 @@ fn lists(
     base: &Version,
     now: &Version,
     filters: &Filters,
-    row: Row<'_>,
+    row: Row,
 ) -> Result<(), KvError> {
     let events = listed(alloc, now, base.revision(), filters, row)?;
-    assert!(rt; events.starts_with(row.initial));
-    assert!(rt; events.ends_with(row.live));
-    equal(
-        rt,
-        events.len().saturating_sub(row.live.len()),
-        row.initial.len(),
-    );
+    are_listed(rt, &events, row);
     Ok(())
 }
 
+// The list is the initial items and then the live ones.
+fn are_listed(rt: &impl Abort, events: &[Event], row: Row) {
+    let items = row.initial.iter().chain(row.live);
+    assert!(rt;
+        events
+            .iter()
+            .map(|event| number_of(*event))
+            .eq(items.copied())
+    );
+}
+
 // The cursor hands out these items.
-fn hands_out(rt: &impl Abort, cursor: &mut Cursor, base: &Version, now: &Version, items: &[Event]) {
+fn hands_out(rt: &impl Abort, cursor: &mut Cursor, base: &Version, now: &Version, items: &[u64]) {
     for item in items {
         equal(rt, step(rt, cursor, base, now), Some(*item));
     }
@@ -92,7 +114,7 @@ fn hands_out_all(
     cursor: &mut Cursor,
     base: &Version,
     now: &Version,
-    items: &[Event],
+    items: &[u64],
 ) {
     hands_out(rt, cursor, base, now, items);
     equal(rt, step(rt, cursor, base, now), None);
@@ -112,8 +134,8 @@ fn in_parts(
     cursor: &mut Cursor,
     base: &Version,
     now: &Version,
-    initial: &[Event],
-    live: &[Event],
+    initial: &[u64],
+    live: &[u64],
 ) {
     hands_out_all(rt, cursor, base, base, initial);
     hands_out_all(rt, cursor, base, now, live);
@@ -125,8 +147,8 @@ fn at_once(
     cursor: &mut Cursor,
     base: &Version,
     now: &Version,
-    initial: &[Event],
-    live: &[Event],
+    initial: &[u64],
+    live: &[u64],
 ) {
     cursor.settle(now);
     hands_out(rt, cursor, base, now, initial);
@@ -140,10 +162,10 @@ fn hands_out_in_parts(
     base: &Version,
     now: &Version,
     filters: &Filters,
-    row: Row<'_>,
+    row: Row,
 ) -> Result<(), KvError> {
-    let mut cursor = open(rt, alloc, base, filters, row.options)?;
-    stands_at_its_beginning(rt, &cursor, row.options);
+    let mut cursor = open(rt, alloc, base, filters, options_of(row))?;
+    stands_at_its_beginning(rt, &cursor, options_of(row));
     in_parts(rt, &mut cursor, base, now, row.initial, row.live);
     Ok(())
 }
@@ -154,18 +176,18 @@ fn hands_out_later(
     base: &Version,
     now: &Version,
     filters: &Filters,
-    row: Row<'_>,
+    row: Row,
 ) -> Result<(), KvError> {
-    let mut cursor = open(rt, alloc, base, filters, row.options)?;
+    let mut cursor = open(rt, alloc, base, filters, options_of(row))?;
     at_once(rt, &mut cursor, base, now, row.initial, row.live);
     Ok(())
 }
 
-fn before(alloc: Global, row: Row<'_>) -> Result<Version, KvError> {
+fn before(alloc: Global, row: Row) -> Result<Version, KvError> {
     kept(alloc, row.history, row.before)
 }
 
-fn after(alloc: Global, base: &Version, row: Row<'_>) -> Result<Version, KvError> {
+fn after(alloc: Global, base: &Version, row: Row) -> Result<Version, KvError> {
     let version = base.snapshot()?;
     write_all(alloc, version, row.after)
 }
@@ -176,7 +198,7 @@ fn gives_between(
     base: &Version,
     now: &Version,
     filters: &Filters,
-    row: Row<'_>,
+    row: Row,
 ) -> Result<(), KvError> {
     lists(rt, alloc, base, now, filters, row)?;
     hands_out_in_parts(rt, alloc, base, now, filters, row)?;
@@ -188,41 +210,35 @@ fn gives_behind(
     alloc: Global,
     base: &Version,
     filters: &Filters,
-    row: Row<'_>,
+    row: Row,
 ) -> Result<(), KvError> {
     let now = after(alloc, base, row)?;
     gives_between(rt, alloc, base, &now, filters, row)
 }
 
 // The row holds of the plain list, and of cursors that go through it.
-fn gives(rt: &impl Abort, alloc: Global, filters: &Filters, row: Row<'_>) -> Result<(), KvError> {
+fn gives(rt: &impl Abort, alloc: Global, filters: &Filters, row: Row) -> Result<(), KvError> {
     let base = before(alloc, row)?;
     gives_behind(rt, alloc, &base, filters, row)
 }
 
 // The row holds of a watch of a list of filters.
-pub(super) fn watch_gives(
-    rt: &impl Abort,
-    alloc: Global,
-    text: &str,
-    row: Row<'_>,
-) -> Result<(), KvError> {
+fn list_gives(rt: &impl Abort, alloc: Global, text: &str, row: Row) -> Result<(), KvError> {
     let filters = filters(alloc, text)?;
     gives(rt, alloc, &filters, row)
 }
 
-fn single_gives(rt: &impl Abort, alloc: Global, text: &str, row: Row<'_>) -> Result<(), KvError> {
-    let single = one(alloc, text)?;
-    gives(rt, alloc, &single, row)
-}
-
-// The row holds of a watch of one filter, however the list of it is made.
-pub(super) fn watch_of_one_gives(
+// And of the list that is made of one filter, where the text is one.
+pub(super) fn watch_gives(
     rt: &impl Abort,
     alloc: Global,
     text: &str,
-    row: Row<'_>,
+    row: Row,
 ) -> Result<(), KvError> {
-    watch_gives(rt, alloc, text, row)?;
-    single_gives(rt, alloc, text, row)
+    list_gives(rt, alloc, text, row)?;
+    match one(alloc, text) {
+        Ok(single) => gives(rt, alloc, &single, row),
+        Err(KvError::BadFilter) => Ok(()),
+        Err(error) => Err(error),
+    }
 }

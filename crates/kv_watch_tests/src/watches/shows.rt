@@ -63,7 +63,7 @@ fn shows_put_and_delete(
     };
     shows(rt, &cursor.peek(Some(base), now), first);
     shows(rt, &cursor.take(Some(base), now), first);
-    equal(rt, step(rt, cursor, base, now), Some(Event::Marker));
+    equal(rt, step(rt, cursor, base, now), Some(MARKER));
     shows_delete(rt, &cursor.take(Some(base), now));
 }
 
@@ -98,7 +98,7 @@ fn shows_behind(
     options: Options,
     value: Option<&[u8]>,
 ) -> Result<(), KvError> {
-    let now = write(alloc, base, mark(Op::Delete, "a"))?;
+    let now = write(alloc, base, Deed::Delete("a"))?;
     shows_between(rt, alloc, base, &now, options, value)
 }
 
@@ -108,7 +108,7 @@ fn shows_each(
     options: Options,
     value: Option<&[u8]>,
 ) -> Result<(), KvError> {
-    let base = written(alloc, &[put("a", "abc")])?;
+    let base = written(alloc, &[Deed::Put("a", "abc")])?;
     shows_behind(rt, alloc, &base, options, value)
 }
 
@@ -133,7 +133,7 @@ fn first_has_parts(rt: &impl Abort, version: &Version, parts: Parts<'_>) {
 
 #[test]
 fn shown_by_itself(rt: HostRuntime) -> Result<(), Fail> {
-    let version = written(rt.alloc(), &[put("b", "")])?;
+    let version = written(rt.alloc(), &[Deed::Put("b", "")])?;
     let parts = Parts {
         key: "b",
         op: Op::Put,
@@ -152,7 +152,7 @@ fn looks_behind_its_beginning(
     base: &Version,
     passed: &Version,
 ) {
-    for item in [Event::Entry { revision: 1 }, Event::Marker] {
+    for item in [1, MARKER] {
         equal(rt, step(rt, cursor, base, passed), Some(item));
         looks_at(rt, cursor, 2);
     }
@@ -166,11 +166,7 @@ fn looks_at(rt: &impl Abort, cursor: &Cursor, revision: u64) {
 
 // And then behind each live entry.
 fn looks_behind_the_third(rt: &impl Abort, cursor: &mut Cursor, base: &Version, now: &Version) {
-    equal(
-        rt,
-        step(rt, cursor, base, now),
-        Some(Event::Entry { revision: 3 }),
-    );
+    equal(rt, step(rt, cursor, base, now), Some(3));
     looks_at(rt, cursor, 4);
     equal(rt, cursor.handed(), 3);
 }
@@ -183,7 +179,7 @@ fn looks_behind_more(
     base: &Version,
     passed: &Version,
 ) -> Result<(), KvError> {
-    let now = write(alloc, passed, put("k", "3"))?;
+    let now = write(alloc, passed, Deed::Put("k", "3"))?;
     looks_behind_the_third(rt, cursor, base, &now);
     Ok(())
 }
@@ -195,7 +191,7 @@ fn looks_behind_each(
     cursor: &mut Cursor,
     base: &Version,
 ) -> Result<(), KvError> {
-    let passed = write(alloc, base, put("x", "2"))?;
+    let passed = write(alloc, base, Deed::Put("x", "2"))?;
     looks_behind_its_beginning(rt, cursor, base, &passed);
     looks_behind_more(rt, alloc, cursor, base, &passed)
 }
@@ -206,7 +202,7 @@ fn looks_from(rt: &impl Abort, alloc: Global, base: &Version) -> Result<(), KvEr
 }
 
 fn looks(rt: &impl Abort, alloc: Global) -> Result<(), KvError> {
-    let base = written(alloc, &[put("k", "1")])?;
+    let base = written(alloc, &[Deed::Put("k", "1")])?;
     looks_from(rt, alloc, &base)
 }
 
