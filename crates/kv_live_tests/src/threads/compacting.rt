@@ -17,7 +17,7 @@ pub(super) fn two_feeds<N: LiveName, R: Wait + Abort>(
     live: &Live<N>,
     readers: &mut Vec<Reader<N>>,
 ) -> Result<(), KvError> {
-    calls(rt, alloc, live, &[(Call::Put("k"), Answer::Number(1))]);
+    calls(rt, alloc, live, ONE_PUT);
     let mut other = feed_of_last(alloc, readers)?;
     beside_another(rt, alloc, live, readers, &mut other)
 }
@@ -68,6 +68,8 @@ fn compacts_behind<N: LiveName, R: Wait + Abort>(
     moves(rt, feed, &[(Move::Refresh, Answer::Done)]);
     steps(rt, alloc, keeper, &[(Step::Compact(2), Answer::Done)]);
 }
+
+const ONE_PUT: &[(Call, Answer)] = &[(Call::Put("k"), Answer::Number(1))];
 
 const TWO_PUTS: &[(Step, Answer)] = &[
     (Step::Put("k"), Answer::Number(2)),

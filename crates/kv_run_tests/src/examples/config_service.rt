@@ -26,11 +26,14 @@ fn hands_out(bucket: &mut Bucket, watch: u64, key: &str, value: &str) -> Result<
     }
 }
 
-fn put_and_watch(rt: &impl Abort, alloc: Global, bucket: &mut Bucket) -> Result<(), KvError> {
+fn put_three(rt: &impl Abort, alloc: Global, bucket: &mut Bucket) -> Result<(), KvError> {
     assert_eq!(rt; put(alloc, bucket, "app.port", "80")?, 1);
     assert_eq!(rt; put(alloc, bucket, "app.host", "kv")?, 2);
     assert_eq!(rt; put(alloc, bucket, "db.port", "5432")?, 3);
+    Ok(())
+}
 
+fn watch_them(rt: &impl Abort, alloc: Global, bucket: &mut Bucket) -> Result<(), KvError> {
     let watch = bucket.watch(&Filters::parse(alloc, "app.>")?, LATEST)?;
     assert!(rt; hands_out(bucket, watch, "app.port", "80")?);
     assert!(rt; hands_out(bucket, watch, "app.host", "kv")?);
@@ -45,7 +48,8 @@ fn put_and_watch(rt: &impl Abort, alloc: Global, bucket: &mut Bucket) -> Result<
 
 fn config_service(rt: &impl Abort, alloc: Global) -> Result<(), KvError> {
     let mut bucket = Bucket::open(alloc, &Config::named(alloc, "settings")?)?;
-    put_and_watch(rt, alloc, &mut bucket)
+    put_three(rt, alloc, &mut bucket)?;
+    watch_them(rt, alloc, &mut bucket)
 }
 
 #[test]

@@ -56,15 +56,19 @@ fn ends_early(bucket: &Bucket, out: &[u8]) -> bool {
     is_front(out, ANSWERS.as_bytes()) && bucket.version().revision() <= answered.saturating_add(1)
 }
 
+fn are_answered_on(alloc: Global, bucket: &mut Bucket) -> Result<bool, KvError> {
+    let mut out = Vec::new(alloc);
+    match answer_all(alloc, bucket, &mut out) {
+        Ok(()) => Ok(out.as_slice() == ANSWERS.as_bytes()),
+        Err(KvError::OutOfMemory) if ends_early(bucket, &out) => Err(KvError::OutOfMemory),
+        Err(_) => Ok(false),
+    }
+}
+
 // Answers the lines on a new bucket.
 fn are_answered_once(alloc: Global) -> Result<bool, KvError> {
     let mut bucket = Bucket::open(alloc, &named(alloc)?)?;
-    let mut out = Vec::new(alloc);
-    match answer_all(alloc, &mut bucket, &mut out) {
-        Ok(()) => Ok(out.as_slice() == ANSWERS.as_bytes()),
-        Err(KvError::OutOfMemory) if ends_early(&bucket, &out) => Err(KvError::OutOfMemory),
-        Err(_) => Ok(false),
-    }
+    are_answered_on(alloc, &mut bucket)
 }
 
 #[test]
