@@ -4,7 +4,7 @@
 use kv_keys::KvError;
 use kv_model::{Options, Request, Start};
 use kv_script::{Command, Form, is_skipped, parse};
-use std::alloc::Global;
+use std::alloc::{AllocError, Global};
 use std::process::Abort;
 use std::test::Fail;
 
@@ -73,8 +73,8 @@ const COMMANDS: &[(Form, &str, Asked)] = &[
     (Form::Text, "put k MQ==", ("put", "k", b"MQ==", None)),
     (
         Form::Text,
-        "put k \u{e9}\t",
-        ("put", "k", b"\xc3\xa9\t", None),
+        "put k \u{e9}\t\u{1f600}",
+        ("put", "k", b"\xc3\xa9\t\xf0\x9f\x98\x80", None),
     ),
     (Form::Text, "put k put k v", ("put", "k", b"put k v", None)),
     (Form::Text, "create k ", ("create", "k", b"", None)),
@@ -194,6 +194,38 @@ fn options(rt: HostRuntime) -> Result<(), Fail> {
         holds(&rt, line, has_options(rt.alloc(), line, options)?);
     }
     Ok(())
+}
+
+// A line that begins with this text, and then has characters of base64.
+fn long_line_once(alloc: Global, begin: &[u8]) -> Result<Vec<u8>, AllocError> {
+    let mut line = Vec::with_capacity(alloc, 1_400_100)?;
+    line.extend_from_slice(begin)?;
+    for _ in 0..1_399_992 {
+        line.push(b'A')?;
+    }
+    Ok(line)
+}
+
+fn long_line(alloc: Global, begin: &[u8]) -> Result<Vec<u8>, AllocError> {
+    match long_line_once(alloc, begin) {
+        Err(AllocError) => long_line_once(alloc, begin),
+        line => line,
+    }
+}
+
+// How many bytes the value has that a long line puts, or why the line is refused.
+fn long_value(alloc: Global, begin: &[u8]) -> Result<usize, KvError> {
+    let line = long_line(alloc, begin)?;
+    let command = parsed(alloc, Form::Base64, &line)?;
+    Ok(parts(&command).2.len())
+}
+
+// A line has 1,400,000 bytes at most.
+#[test]
+fn lengths_of_lines(rt: HostRuntime) {
+    let alloc = rt.alloc();
+    assert!(rt; long_value(alloc, b"put abc ") == Ok(1_049_994));
+    assert!(rt; long_value(alloc, b"put abcd ") == Err(KvError::BadCommand));
 }
 
 #[test]

@@ -6,6 +6,11 @@ use std::alloc::Global;
 use std::process::Abort;
 
 const NO_COMMANDS: &[&str] = &[
+    "put a MQ=",
+    "put a =",
+    "get  a",
+    " get a",
+    "compact 1 1",
     "PUT a MQ==",
     "put a",
     "put a MQ",
