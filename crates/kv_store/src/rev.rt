@@ -7,9 +7,9 @@ use kv_keys::Place;
 use std::cmp::Ordering;
 use std::marker::Model;
 
-/// A revision as a key of a trie. Its place is its number with its digits of five bits turned, the highest first: so
-/// writes that follow one another stand side by side, and who walks the trie meets them in the order in which their
-/// memory was taken.
+/// A revision as a key of a trie. Its place is its number with the four lowest of its digits of five bits turned, the
+/// highest of them first: so writes that follow one another stand side by side, and who walks the trie meets them in the
+/// order in which their memory was taken. A bucket stores a million writes at most, so the digits above part few.
 ///
 /// Contracts see it as its number.
 #[derive(Debug, Drop)]
@@ -106,12 +106,10 @@ fn digit(number: u32, below: u32) -> u32
 fn place_of(number: u32) -> u32
     ensures { result ≡ place_of_revision number }
 {
-    digit(number, 1) * 33_554_432
-        + (digit(number, 32) * 1_048_576
-            + (digit(number, 1_024) * 32_768
-                + (digit(number, 32_768) * 1_024
-                    + (digit(number, 1_048_576) * 32
-                        + (digit(number, 33_554_432) + number / 1_073_741_824 * 1_073_741_824)))))
+    digit(number, 1) * 32_768
+        + (digit(number, 32) * 1_024
+            + (digit(number, 1_024) * 32
+                + (digit(number, 32_768) + number / 1_048_576 * 1_048_576)))
 }
 
 impl Place for Rev {
