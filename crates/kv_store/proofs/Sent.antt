@@ -25,10 +25,10 @@ module _ (K V : RattleType) (s : IsSend K) (t : IsSend V) (y : IsSync K) (z : Is
 
   module _ (a : place.Ghosts K.Denot) (b : ord.Ghosts K.Denot) (c : eq.Ghosts K.Denot) (d : partial.Ghosts K.Denot) where
     trie_send : IsSend (Trie.the_row K V a b c d)
-    trie_send = let m = node_send in let n = node_sync in search (sendable, crosses) depth 20
+    trie_send = search (sendable, crosses, knot.crosses_both) depth 20
 
     trie_sync : IsSync (Trie.the_row K V a b c d)
-    trie_sync = let m = node_send in let n = node_sync in search (sendable, crosses) depth 20
+    trie_sync = search (sendable, crosses, knot.crosses_both) depth 20
 
 pub version_send : IsSend Version.the_row
 version_send = search (sendable, crosses, trie_send, key.the_send, key.the_sync, rev.the_send, rev.the_sync, write.the_send, write.the_sync) depth 20

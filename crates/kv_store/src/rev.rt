@@ -7,7 +7,7 @@ use kv_keys::Place;
 use std::cmp::Ordering;
 use std::marker::Model;
 
-/// A revision as a key of a trie. Its place is its number with the four lowest of its digits of five bits turned, the
+/// A revision as a key of a trie. Its place is its number with the seven lowest of its digits of three bits turned, the
 /// highest of them first: so writes that follow one another stand side by side, and who walks the trie meets them in the
 /// order in which their memory was taken. A bucket stores a million writes at most, so the digits above part few.
 ///
@@ -93,23 +93,26 @@ impl Ord for Rev {
     }
 }
 
-// A digit of five bits, where the digits below it count to this number.
+// A digit of three bits, where the digits below it count to this number.
 fn digit(number: u32, below: u32) -> u32
     requires { 0 < below }
-    ensures value { result ≡ number / below % 32 }
-    ensures small { result < 32 }
+    ensures value { result ≡ number / below % 8 }
+    ensures small { result < 8 }
 {
-    number / below % 32
+    number / below % 8
 }
 
 #[tactic(auto, unfolding(crate::specs::Places::place_of_revision))]
 fn place_of(number: u32) -> u32
     ensures { result ≡ place_of_revision number }
 {
-    digit(number, 1) * 32_768
-        + (digit(number, 32) * 1_024
-            + (digit(number, 1_024) * 32
-                + (digit(number, 32_768) + number / 1_048_576 * 1_048_576)))
+    digit(number, 1) * 262_144
+        + (digit(number, 8) * 32_768
+            + (digit(number, 64) * 4_096
+                + (digit(number, 512) * 512
+                    + (digit(number, 4_096) * 64
+                        + (digit(number, 32_768) * 8
+                            + (digit(number, 262_144) + number / 2_097_152 * 2_097_152))))))
 }
 
 impl Place for Rev {

@@ -1,32 +1,32 @@
 -- What is wanted of a list, of slots and of a node.
 use Rattle.std.proofs.Common.{true, false, ◌≡◌, ℕ, zero, suc, ◌+◌, ◌-◌, ◌<◌, ◌≤◌, ◌==◌, nat_lt, Bool, cond, List, [], ◌∷◌, ◌++◌, length, get_or, take, map, ◌||◌, ◌&&◌, Option, Some, None, Ordering, append_assoc, refl, sym, ap, ◌∙◌, arith, length-append}
 use mathlib.Core.List.{append-nil}
-use borrow.Author.Tests.{eqb-true}
 use Rattle.std.specs.BTreeMap.{is_at}
 use Rattle.std.specs.Cmp.{IsTotalOrder}
 use Rattle.std.specs.Map.{lookup}
 use Rattle.std.specs.List.{filter, find}
-use Rattle.std.specs.Option.{is_some, unwrap_or, option_map}
+use Rattle.std.specs.Option.{unwrap_or}
 use Rattle.std.specs.Ordering.{nat_cmp, is_eq}
+use Rattle.std.proofs.Math.ListN.{set}
 use Rattle.std.proofs.lemmas.Bool.Decides.{nat_tests}
 use Rattle.std.proofs.lemmas.Cmp.{ranked, by_ranked}
 use Rattle.std.proofs.lemmas.List.Elements.{filter-append, filter_agree, filter_more}
-use Rattle.std.proofs.lemmas.List.{get_or-map, length-map, take_more, take_all, map-append}
+use Rattle.std.proofs.lemmas.List.{get_or-map, length-map, length-set, take_more, take_all, map-append}
 use Rattle.std.specs.Arc.{arc_value}
 use Rattle.std.specs.declared.alloc.Global.{Global}
 use Rattle.std.specs.declared.cmp.Ordering.TheVariants.{Less, Equal}
 use Rattle.std.specs.declared.sync.Arc.{Arc}
 use Rattle.kv_trie.specs.declared.node.Node.{Node}
-use Rattle.kv_trie.specs.inside.Bits.{set_bits, has}
-use Rattle.kv_trie.specs.Form.{Shape, Slots, none, more, torn, pairs_of, pairs_in, child_at, with_child, without_child, with_or_without, branch, contract, listed, order, Each, Ascends, IsForm, AreForms, IsWhole}
-use Rattle.kv_trie.specs.Retain.{pairs_left, IsFormLeft, IsRetained, IsUnwantedAt, stays_at, is_wanted, wanted_value}
-use Rattle.kv_trie.specs.Stored.{shape_of, slots_at, child_shapes}
+use Rattle.kv_trie.specs.Form.{Shape, Slots, row, none, more, pairs_of, pairs_in, node_pairs, child_at, with_child, without_child, with_or_without, whole, listed, order, Each, Ascends, IsForm, IsNode, AreForms}
+use Rattle.kv_trie.specs.Retain.{IsRetained, IsUnwantedAt, stays_at, is_wanted, wanted_value}
+use Rattle.kv_trie.specs.Stored.{shape_of, slots_from, child_slots}
+use Rattle.kv_trie.proofs.Branches.{child_form}
 use Rattle.kv_trie.proofs.Canonical.{filter_all, index_below, above_test, equal_test}
 use Rattle.kv_trie.proofs.Form.{key_index, form_at, AreForms-above, AreForms-with_child, Each-append, Each-weaker, child_at-above, child_at-same, child_at-greater, with_child-same, with_child-greater}
-use Rattle.kv_trie.proofs.Slots.{has_from_child}
 use Rattle.kv_trie.proofs.Changes.{equal_from_is_eq}
 use Rattle.kv_trie.proofs.Maps.{past_first, order_total, is_at-order, found_in_order}
-use Rattle.kv_trie.proofs.Removal.{contract_form, form_some, listed_form, AreForms-without_child, without_child-same, without_child-greater}
+use Rattle.kv_trie.proofs.Slots.{slots_from-set}
+use Rattle.kv_trie.proofs.Removal.{whole_form, form_some, listed_form, AreForms-without_child, without_child-same, without_child-greater}
 
 -- ---- filters
 
@@ -138,23 +138,26 @@ own_test n i k h = rw (equal_test n i h) refl
 module _ {P : Type 0} (i j : ℕ) (l : i < j) where
   child_at-with : (new : Shape P) (slots : Slots P) → child_at j (with_child i new slots) ≡ child_at j slots
   child_at-with new none = grind (arith, nat_tests)
-  child_at-with new torn = refl
   child_at-with new (more k c slots) = let e = child_at-with new slots in grind (arith, nat_tests)
 
   child_at-without : (slots : Slots P) → child_at j (without_child i slots) ≡ child_at j slots
   child_at-without none = refl
-  child_at-without torn = refl
   child_at-without (more k c slots) = let e = child_at-without slots in grind (arith, nat_tests)
 
   child_at-changed : (new : Option (Shape P)) (slots : Slots P) → child_at j (with_or_without i new slots) ≡ child_at j slots
   child_at-changed None slots = child_at-without slots
   child_at-changed (Some new) slots = child_at-with new slots
 
--- ---- the pairs beside those of a child
+module _ {P : Type 0} where
+  without_missing_step : (i j : ℕ) (c : Shape (P)) (slots : Slots (P)) (t : Bool) → cond t (Some c) (child_at i slots) ≡ None → (child_at i slots ≡ None → without_child i slots ≡ slots) → cond t slots (more j c (without_child i slots)) ≡ more j c slots
+  without_missing_step i j c slots true h r = cc
+  without_missing_step i j c slots false h r = ap (more j c) (r h)
 
-abbrev pairs_new : {P : Type 0} → Option (Shape P) → List P
-pairs_new None = []
-pairs_new (Some new) = pairs_of new
+  without_missing : (i : ℕ) (slots : Slots (P)) → child_at i slots ≡ None → without_child i slots ≡ slots
+  without_missing i none h = refl
+  without_missing i (more j c slots) h = without_missing_step i j c slots (i == j) h (without_missing i slots)
+
+-- ---- the pairs beside those of a child
 
 module _ {K V : Type 0} (cmp : K → K → Ordering) (place : K → ℕ) where
   abbrev IsElsewhere : (left i : ℕ) → List (K × V) → Type 0
@@ -165,13 +168,12 @@ module _ {K V : Type 0} (cmp : K → K → Ordering) (place : K → ℕ) where
     before : List (K × V)
     after : List (K × V)
     pairs : pairs_in slots ≡ before ++ (pairs_of child ++ after)
-    changed : (new : Option (Shape (K × V))) → pairs_in (with_or_without i new slots) ≡ before ++ (pairs_new new ++ after)
+    changed : (new : Option (Shape (K × V))) → pairs_in (with_or_without i new slots) ≡ before ++ (node_pairs new ++ after)
     others_before : IsElsewhere left i before
     others_after : IsElsewhere left i after
 
   parted : (left low i : ℕ) (slots : Slots (K × V)) (child : Shape (K × V)) → AreForms cmp place left low slots → child_at i slots ≡ Some child → IsParted left i slots child
   parted left low i none child f h = cc
-  parted left low i torn child f h = absurd f
   parted left low i (more j c slots) child f h =
       by_ranked (i < j) (i ≡ j) (j < i) (nat_cmp i j) (ranked i j (nat_cmp i j) refl)
       (λ _ l.
@@ -195,12 +197,12 @@ module _ {K V : Type 0} (cmp : K → K → Ordering) (place : K → ℕ) where
         before = pairs_of c ++ r.before;
         after = r.after;
         pairs = ap (λ l. pairs_of c ++ l) r.pairs ∙ sym (append_assoc (pairs_of c) r.before (pairs_of child ++ r.after));
-        changed = λ new. changed_greater i j c slots g new ∙ ap (λ l. pairs_of c ++ l) (r.changed new) ∙ sym (append_assoc (pairs_of c) r.before (pairs_new new ++ r.after));
+        changed = λ new. changed_greater i j c slots g new ∙ ap (λ l. pairs_of c ++ l) (r.changed new) ∙ sym (append_assoc (pairs_of c) r.before (node_pairs new ++ r.after));
         others_before = Each-append (λ x. (key_index place left x.0 == i) ≡ false) (pairs_of c) r.before (Each-weaker (λ x. key_index place left x.0 ≡ j) (λ x. (key_index place left x.0 == i) ≡ false) (λ x q. grind (arith, nat_tests)) (pairs_of c) f.1) r.others_before;
         others_after = r.others_after;
       })
     where
-      changed_same : (i j : ℕ) (c : Shape (K × V)) (slots : Slots (K × V)) → i ≡ j → (new : Option (Shape (K × V))) → pairs_in (with_or_without i new (more j c slots)) ≡ pairs_new new ++ pairs_in slots
+      changed_same : (i j : ℕ) (c : Shape (K × V)) (slots : Slots (K × V)) → i ≡ j → (new : Option (Shape (K × V))) → pairs_in (with_or_without i new (more j c slots)) ≡ node_pairs new ++ pairs_in slots
       changed_same i j c slots e None = ap pairs_in (without_child-same i j c slots e)
       changed_same i j c slots e (Some new) = ap pairs_in (with_child-same i j new c slots e)
 
@@ -216,7 +218,6 @@ module _ {K V : Type 0} (cmp : K → K → Ordering) (place : K → ℕ) where
   -- no pair has the index of no child
   missing : (left low i : ℕ) (slots : Slots (K × V)) → AreForms cmp place left low slots → child_at i slots ≡ None → IsElsewhere left i (pairs_in slots)
   missing left low i none f h = tt
-  missing left low i torn f h = absurd f
   missing left low i (more j c slots) f h = missing_step left i j c slots (i == j) refl f.1 h (missing left (suc j) i slots f.3)
 
 -- ---- slots in part
@@ -246,49 +247,35 @@ module _ {K V : Type 0} (cmp : K → K → Ordering) (place : K → ℕ) (keep :
         count = refl;
       }
 
-  pub partly_all : (left i before gone : ℕ) (all slots : Slots (K × V)) → 32 ≤ i → IsPartly left i before gone all slots → pairs_in slots ≡ filter keep (pairs_in all)
+  pub partly_all : (left i before gone : ℕ) (all slots : Slots (K × V)) → 8 ≤ i → IsPartly left i before gone all slots → pairs_in slots ≡ filter keep (pairs_in all)
   partly_all left i before gone all slots l p =
       p.kept ∙ filter_agree (below left i) keep (λ x. below_all (key_index place left x.0) i (keep x) (omega (arith, index_below left (place x.0)))) (pairs_in all)
 
-  pub partly_count : (left i before gone : ℕ) (all slots : Slots (K × V)) → 32 ≤ i → IsPartly left i before gone all slots → gone + length (filter keep (pairs_in all)) ≡ before + length (pairs_in all)
+  pub partly_count : (left i before gone : ℕ) (all slots : Slots (K × V)) → 8 ≤ i → IsPartly left i before gone all slots → gone + length (filter keep (pairs_in all)) ≡ before + length (pairs_in all)
   partly_count left i before gone all slots l p = omega (arith, p.count, ap length (partly_all left i before gone all slots l p))
 
-  -- the branch that is left, contracted
-  pub branch_left : (left i before gone : ℕ) (all slots : Slots (K × V)) (new : Node K V) → 0 < left → 32 ≤ i → IsPartly (left - 1) i before gone all slots → 0 < length (pairs_in slots) → shape_of new ≡ contract (branch slots) → IsRetained cmp place keep left (pairs_in all) (Some (Some new))
-  branch_left left i before gone all slots new n l p some s =
-      let f = contract_form cmp place (left - 1) slots p.forms some in
+  -- what is left of a branch
+  pub branch_left : (left i before gone : ℕ) (all slots : Slots (K × V)) (new : Node K V) → 0 < left → 8 ≤ i → IsPartly (left - 1) i before gone all slots → shape_of new ≡ whole slots → IsRetained cmp place keep left (pairs_in all) (Some new)
+  branch_left left i before gone all slots new n l p s =
+      let f = whole_form cmp place (left - 1) slots p.forms in
       let up : suc (left - 1) ≡ left = omega arith in
       record {
         form = rw s (rw up at f.0);
-        kept = ap pairs_of s ∙ f.1 ∙ partly_all (left - 1) i before gone all slots l p;
+        kept = ap node_pairs s ∙ f.1 ∙ partly_all (left - 1) i before gone all slots l p;
       }
 
-  -- the list that is left
-  pub list_left : (pairs : List (K × V)) (new : Node K V) → Ascends cmp pairs → 0 < length (filter keep pairs) → shape_of new ≡ listed (filter keep pairs) → IsRetained cmp place keep 0 pairs (Some (Some new))
-  list_left pairs new a n s =
-      let f = listed_form cmp place (filter keep pairs) n (Ascends-filter cmp keep pairs a) in
-      record { form = rw s f.0; kept = ap pairs_of s ∙ f.1 }
+  -- what is left of a list
+  pub list_left : (pairs : List (K × V)) (new : Node K V) → Ascends cmp pairs → shape_of new ≡ listed (filter keep pairs) → IsRetained cmp place keep 0 pairs (Some new)
+  list_left pairs new a s =
+      let f = listed_form cmp place (filter keep pairs) (Ascends-filter cmp keep pairs a) in
+      record { form = rw s f.0; kept = ap node_pairs s ∙ f.1 }
 
   pub all_left : (left : ℕ) (pairs : List (K × V)) → Each (λ p. keep p ≡ true) pairs → IsRetained cmp place keep left pairs None
   all_left left pairs e = record { form = tt; kept = sym (filter_all keep pairs e) }
 
   -- nothing has changed
-  pub whole_left : (left i before gone : ℕ) (all : Slots (K × V)) → 32 ≤ i → IsPartly (left - 1) i before gone all all → IsRetained cmp place keep left (pairs_in all) None
+  pub whole_left : (left i before gone : ℕ) (all : Slots (K × V)) → 8 ≤ i → IsPartly (left - 1) i before gone all all → IsRetained cmp place keep left (pairs_in all) None
   whole_left left i before gone all l p = record { form = tt; kept = partly_all (left - 1) i before gone all all l p }
-
-  -- no child is left
-  pub nothing_left : (left i before gone : ℕ) (all slots : Slots (K × V)) → 32 ≤ i → IsPartly (left - 1) i before gone all slots → pairs_in slots ≡ [] → IsRetained cmp place keep left (pairs_in all) (Some None)
-  nothing_left left i before gone all slots l p e = record { form = tt; kept = sym e ∙ partly_all (left - 1) i before gone all slots l p }
-
-  pub no_pairs : (left low : ℕ) (is : List ℕ) (cs : List (Shape (K × V))) → AreForms cmp place left low (slots_at is cs) → length cs ≡ 0 → pairs_in (slots_at is cs) ≡ []
-  no_pairs left low [] [] f n = refl
-  no_pairs left low (i ∷ is) [] f n = refl
-  no_pairs left low is (c ∷ cs) f n = absurd (omega arith)
-
-  pub some_pairs : (left low : ℕ) (is : List ℕ) (cs : List (Shape (K × V))) → AreForms cmp place left low (slots_at is cs) → 0 < length cs → 0 < length (pairs_in (slots_at is cs))
-  some_pairs left low is [] f n = absurd (omega arith)
-  some_pairs left low [] (c ∷ cs) f n = absurd f
-  some_pairs left low (i ∷ is) (c ∷ cs) f n = omega (arith, form_some cmp place left c f.2, length-append (pairs_of c) (pairs_in (slots_at is cs)))
 
   -- one index more
   further : (left i before gone : ℕ) (all slots : Slots (K × V)) → IsPartly left i before gone all slots → filter (at left i) (pairs_in slots) ≡ filter (below left (i + 1)) (pairs_in all)
@@ -298,12 +285,12 @@ module _ {K V : Type 0} (cmp : K → K → Ordering) (place : K → ℕ) (keep :
   elsewhere : (left i : ℕ) (xs : List (K × V)) → IsElsewhere cmp place left i xs → filter (at left i) xs ≡ xs
   elsewhere left i xs h = filter_all (at left i) xs (Each-weaker (λ x. (key_index place left x.0 == i) ≡ false) (λ x. at left i x ≡ true) (λ x e. other_test (key_index place left x.0) i (keep x) e) xs h)
 
-  pub partly_missing : (left i before gone : ℕ) (all slots : Slots (K × V)) → IsPartly left i before gone all slots → None ≡ child_at i all → IsPartly left (i + 1) before gone all slots
+  partly_missing : (left i before gone : ℕ) (all slots : Slots (K × V)) → IsPartly left i before gone all slots → child_at i all ≡ None → IsPartly left (i + 1) before gone all slots
   partly_missing left i before gone all slots p h =
       record {
         forms = p.forms;
         later = λ j l. p.later j (omega arith);
-        kept = sym (elsewhere left i (pairs_in slots) (missing cmp place left 0 i slots p.forms (p.later i (omega arith) ∙ sym h))) ∙ further left i before gone all slots p;
+        kept = sym (elsewhere left i (pairs_in slots) (missing cmp place left 0 i slots p.forms (p.later i (omega arith) ∙ h))) ∙ further left i before gone all slots p;
         count = p.count;
       }
 
@@ -316,86 +303,95 @@ module _ {K V : Type 0} (cmp : K → K → Ordering) (place : K → ℕ) (keep :
       ∙ ap (λ l. l ++ filter (at left i) (pairs_of child ++ r.after)) (elsewhere left i r.before r.others_before)
       ∙ ap (λ l. r.before ++ l) (filter-append (at left i) (pairs_of child) r.after ∙ ap (λ l. l ++ filter (at left i) r.after) a ∙ ap (λ l. filter keep (pairs_of child) ++ l) (elsewhere left i r.after r.others_after))
 
-  module _ (left i before gone : ℕ) (all slots : Slots (K × V)) (child : Shape (K × V)) (p : IsPartly left i before gone all slots) (there : Some child ≡ child_at i all) where
-    pub found : child_at i slots ≡ Some child
-    found = p.later i (omega arith) ∙ sym there
+  module _ (left i before gone : ℕ) (all slots : Slots (K × V)) (p : IsPartly left i before gone all slots) where
+    module _ (child : Shape (K × V)) (there : child_at i all ≡ Some child) where
+      found : child_at i slots ≡ Some child
+      found = p.later i (omega arith) ∙ there
 
-    own : IsForm cmp place left child × Each (λ e. key_index place left e.0 ≡ i) (pairs_of child)
-    own = form_at cmp place left 0 i slots child p.forms found
+      own : IsForm cmp place left child × Each (λ e. key_index place left e.0 ≡ i) (pairs_of child)
+      own = form_at cmp place left 0 i slots child p.forms found
 
-    pub child_form : IsForm cmp place left child
-    child_form = own.0
+      parts : IsParted cmp place left i slots child
+      parts = parted cmp place left 0 i slots child p.forms found
 
-    parts : IsParted cmp place left i slots child
-    parts = parted cmp place left 0 i slots child p.forms found
+      some_count : gone + length (pairs_of child) ≤ before + length (pairs_in all)
+      some_count = omega (arith, p.count, ap length parts.pairs, length-append parts.before (pairs_of child ++ parts.after), length-append (pairs_of child) parts.after)
 
-    pub child_count : gone + length (pairs_of child) ≤ before + length (pairs_in all)
-    child_count = omega (arith, p.count, ap length parts.pairs, length-append parts.before (pairs_of child ++ parts.after), length-append (pairs_of child) parts.after)
+      some_whole : (sum : ℕ) → pairs_of child ≡ filter keep (pairs_of child) → sum + length (filter keep (pairs_of child)) ≡ gone + length (pairs_of child) → IsPartly left (i + 1) before sum all slots
+      some_whole sum e n =
+          record {
+            forms = p.forms;
+            later = λ j l. p.later j (omega arith);
+            kept = parts.pairs ∙ ap (λ l. parts.before ++ (l ++ parts.after)) e ∙ sym (filter_at left i slots child own.1 parts) ∙ further left i before gone all slots p;
+            count = omega (arith, p.count, n, ap length e);
+          }
 
-    pub partly_whole : (sum : ℕ) → pairs_of child ≡ filter keep (pairs_of child) → sum + length (filter keep (pairs_of child)) ≡ gone + length (pairs_of child) → IsPartly left (i + 1) before sum all slots
-    partly_whole sum e n =
-        record {
-          forms = p.forms;
-          later = λ j l. p.later j (omega arith);
-          kept = parts.pairs ∙ ap (λ l. parts.before ++ (l ++ parts.after)) e ∙ sym (filter_at left i slots child own.1 parts) ∙ further left i before gone all slots p;
-          count = omega (arith, p.count, n, ap length e);
-        }
+      changed_forms : (new : Option (Shape (K × V))) → IsNode cmp place left new → node_pairs new ≡ filter keep (pairs_of child) → AreForms cmp place left 0 (with_or_without i new slots)
+      changed_forms None f e = AreForms-without_child cmp place left 0 i slots p.forms
+      changed_forms (Some new) f e = AreForms-with_child cmp place left 0 i slots new p.forms (omega arith) (rw e (Each-filter (λ x. key_index place left x.0 ≡ i) keep (pairs_of child) own.1)) f
 
-    changed_forms : (new : Option (Node K V)) → IsFormLeft cmp place left (Some new) → pairs_new (option_map shape_of new) ≡ filter keep (pairs_of child) → AreForms cmp place left 0 (with_or_without i (option_map shape_of new) slots)
-    changed_forms None f e = AreForms-without_child cmp place left 0 i slots p.forms
-    changed_forms (Some node) f e = AreForms-with_child cmp place left 0 i slots (shape_of node) p.forms (omega arith) (rw e (Each-filter (λ x. key_index place left x.0 ≡ i) keep (pairs_of child) own.1)) f
+      some_changed : (sum : ℕ) (new : Option (Shape (K × V))) → IsNode cmp place left new → node_pairs new ≡ filter keep (pairs_of child) → sum + length (filter keep (pairs_of child)) ≡ gone + length (pairs_of child) → IsPartly left (i + 1) before sum all (with_or_without i new slots)
+      some_changed sum new f e n =
+          let made = parts.changed new ∙ ap (λ l. parts.before ++ (l ++ parts.after)) e in
+          record {
+            forms = changed_forms new f e;
+            later = λ j l. child_at-changed i j (omega arith) new slots ∙ p.later j (omega arith);
+            kept = made ∙ sym (filter_at left i slots child own.1 parts) ∙ further left i before gone all slots p;
+            count =
+                omega (
+                  arith,
+                  p.count,
+                  n,
+                  ap length made,
+                  ap length parts.pairs,
+                  length-append parts.before (pairs_of child ++ parts.after),
+                  length-append (pairs_of child) parts.after,
+                  length-append parts.before (filter keep (pairs_of child) ++ parts.after),
+                  length-append (filter keep (pairs_of child)) parts.after,
+                );
+          }
 
-    left_new : (new : Option (Node K V)) → pairs_left (pairs_of child) (Some new) ≡ pairs_new (option_map shape_of new)
-    left_new None = refl
-    left_new (Some node) = refl
+    -- the child at the index, whether there is one or none
+    pub child_is_form : (child : Option (Shape (K × V))) → child_at i all ≡ child → IsNode cmp place left child
+    child_is_form child there = (child_form cmp place left i slots child p.forms (p.later i (omega arith) ∙ there)).0
 
-    pub partly_changed : (sum : ℕ) (new : Option (Node K V)) (slots2 : Slots (K × V)) → IsFormLeft cmp place left (Some new) → pairs_left (pairs_of child) (Some new) ≡ filter keep (pairs_of child) → sum + length (filter keep (pairs_of child)) ≡ gone + length (pairs_of child) → slots2 ≡ with_or_without i (option_map shape_of new) slots → IsPartly left (i + 1) before sum all slots2
-    partly_changed sum new slots2 f e n s =
-        let q = sym (left_new new) ∙ e in
-        let made = parts.changed (option_map shape_of new) ∙ ap (λ l. parts.before ++ (l ++ parts.after)) q in
-        rw s (record {
-          forms = changed_forms new f q;
-          later = λ j l. child_at-changed i j (omega arith) (option_map shape_of new) slots ∙ p.later j (omega arith);
-          kept = made ∙ sym (filter_at left i slots child own.1 parts) ∙ further left i before gone all slots p;
-          count =
-              omega (
-                arith,
-                p.count,
-                n,
-                ap length made,
-                ap length parts.pairs,
-                length-append parts.before (pairs_of child ++ parts.after),
-                length-append (pairs_of child) parts.after,
-                length-append parts.before (filter keep (pairs_of child) ++ parts.after),
-                length-append (filter keep (pairs_of child)) parts.after,
-              );
-        })
+    pub child_count : (child : Option (Shape (K × V))) → child_at i all ≡ child → gone + length (node_pairs child) ≤ before + length (pairs_in all)
+    child_count None there = omega (arith, p.count)
+    child_count (Some child) there = some_count child there
 
--- ---- slots that are not torn
+    -- nothing of it goes
+    pub partly_whole : (child : Option (Shape (K × V))) (sum : ℕ) → child_at i all ≡ child → node_pairs child ≡ filter keep (node_pairs child) → sum + length (filter keep (node_pairs child)) ≡ gone + length (node_pairs child) → IsPartly left (i + 1) before sum all slots
+    partly_whole None sum there e n =
+        let same : gone ≡ sum = omega (arith, n) in
+        rw (← same) (partly_missing left i before gone all slots p there)
+    partly_whole (Some child) sum there e n = some_whole child there sum e n
 
-whole_fits : {P : Type 0} (is : List ℕ) (cs : List (Shape P)) → IsWhole (slots_at is cs) → length cs ≡ length is
-whole_fits [] [] w = refl
-whole_fits [] (c ∷ cs) w = absurd w
-whole_fits (i ∷ is) [] w = absurd w
-whole_fits (i ∷ is) (c ∷ cs) w = ap suc (whole_fits is cs w)
+    -- this is left of it
+    pub partly_changed : (child new : Option (Shape (K × V))) (sum : ℕ) → child_at i all ≡ child → IsNode cmp place left new → node_pairs new ≡ filter keep (node_pairs child) → sum + length (filter keep (node_pairs child)) ≡ gone + length (node_pairs child) → IsPartly left (i + 1) before sum all (with_or_without i new slots)
+    partly_changed None None sum there f e n =
+        let same : gone ≡ sum = omega (arith, n) in
+        rw (← same, without_missing i slots (p.later i (omega arith) ∙ there)) (partly_missing left i before gone all slots p there)
+    partly_changed None (Some new) sum there f e n = absurd (let some = form_some cmp place left new f in omega (arith, some, ap length e))
+    partly_changed (Some child) new sum there f e n = some_changed child there sum new f e n
 
-pub children_whole : {K V : Type 0} (bits : ℕ) (children : List (Arc (Node K V) Global)) → IsWhole (slots_at (set_bits bits) (child_shapes children)) → length children ≡ length (set_bits bits)
-children_whole bits children w = sym (length-map children (λ c. shape_of (arc_value c))) ∙ whole_fits (set_bits bits) (child_shapes children) w
+-- the children with another node at an index
+pub slots_changed : {K V : Type 0} (i : ℕ) (old new : List (Node K V)) (node : Node K V) → i < length old → map shape_of new ≡ set (map shape_of old) i (shape_of node) → (length new ≡ length old) × (child_slots new ≡ with_or_without i (shape_of node) (child_slots old))
+slots_changed i old new node l e =
+    let mapped : i < length (map shape_of old) = rw (length-map old shape_of) l in (
+      sym (length-map new shape_of) ∙ ap length e ∙ length-set (map shape_of old) i (shape_of node) ∙ length-map old shape_of,
+      ap (slots_from 0) e ∙ slots_from-set i 0 i (map shape_of old) (shape_of node) (omega arith) mapped,
+    )
 
-has_from : {P : Type 0} (i : ℕ) (is : List ℕ) (cs : List (Shape P)) (o : Option (Shape P)) → child_at i (slots_at is cs) ≡ o → is_some o ≡ true → has i is ≡ true
-has_from i is cs None e s = cc
-has_from i is cs (Some c) e s = has_from_child i is cs c e
+-- ---- what pairs of one place make
 
-pub has_from_some : {P : Type 0} (i : ℕ) (is : List ℕ) (cs : List (Shape P)) → is_some (child_at i (slots_at is cs)) ≡ true → has i is ≡ true
-has_from_some i is cs s = has_from i is cs (child_at i (slots_at is cs)) refl s
-
--- whether a vector is empty
 pub not_empty : (m n : ℕ) → m ≡ n → false ≡ (m == 0) → 0 < n
 not_empty m zero e h = grind (arith, nat_tests)
 not_empty m (suc n) e h = omega arith
 
-pub is_empty : (m n : ℕ) → m ≡ n → (m == 0) ≡ true → n ≡ 0
-is_empty m n e h = sym e ∙ eqb-true m 0 h
+pub listed_many : {A P : Type 0} (f : A → P) (xs : List A) → 0 < length xs → ((x : A) → xs ≡ x ∷ [] → ⊥) → Some (row (map f xs)) ≡ listed (map f xs)
+listed_many f [] n h = absurd (omega arith)
+listed_many f (x ∷ []) n h = absurd (h x refl)
+listed_many f (x ∷ y ∷ xs) n h = refl
 
 -- ---- what is found of what stays
 

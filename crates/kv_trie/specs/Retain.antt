@@ -1,15 +1,11 @@
 -- What stays of a map.
-use Rattle.std.specs.Prelude.{◌≡◌, ℕ, ◌<◌, nat_lt, Bool, true, false, ◌||◌, ◌&&◌, cond, List, [], length, Option, Some, None}
+use Rattle.std.specs.Prelude.{◌≡◌, ℕ, ◌<◌, nat_lt, Bool, true, false, ◌||◌, ◌&&◌, cond, List, length, Option, Some, None}
 use Rattle.std.proofs.Common.{take, get_or}
 use Rattle.std.specs.List.{filter}
-use Rattle.std.specs.declared.alloc.Global.{Global}
 use Rattle.std.specs.declared.cmp.Ordering.{Ordering}
-use Rattle.std.specs.declared.sync.Arc.{Arc}
-use Rattle.std.specs.declared.vec.Vec.{Vec}
-use Rattle.kv_trie.specs.inside.Bits.{set_bits}
 use Rattle.kv_trie.specs.declared.node.Node.{Node}
-use Rattle.kv_trie.specs.Form.{Slots, Each, pairs_of, IsForm}
-use Rattle.kv_trie.specs.Stored.{shape_of, slots_at, child_shapes}
+use Rattle.kv_trie.specs.Form.{Each, node_pairs, IsNode}
+use Rattle.kv_trie.specs.Stored.{shape_of}
 
 -- whether a pair is wanted
 abbrev pub is_wanted : {K V : Type 0} → (K → V → Bool) → K × V → Bool
@@ -31,26 +27,23 @@ abbrev pub stays_at : {P : Type 0} → (P → Bool) → (first i : ℕ) → P �
 stays_at keep first i p = nat_lt i first || (nat_lt first i && keep p)
 
 module _ {K V : Type 0} where
-  -- the slots of a branch as far as it has changed: its own, as long as none has
-  abbrev pub slots_so_far : Option (ℕ × Vec (Arc (Node K V) Global) Global) → ℕ → List (Arc (Node K V) Global) →
-      Slots (K × V)
-  slots_so_far None bits children = slots_at (set_bits bits) (child_shapes children)
-  slots_so_far (Some rest) bits children = slots_at (set_bits rest.0) (child_shapes rest.1.items)
+  -- the children of a branch as far as they have changed: its own, as long as none has
+  abbrev pub children_so_far : Option (List (Node K V)) → List (Node K V) → List (Node K V)
+  children_so_far None children = children
+  children_so_far (Some rest) children = rest
 
   -- the pairs of what a node may have become, where it had these
-  abbrev pub pairs_left : List (K × V) → Option (Option (Node K V)) → List (K × V)
+  abbrev pub pairs_left : List (K × V) → Option (Node K V) → List (K × V)
   pairs_left pairs None = pairs
-  pairs_left pairs (Some None) = []
-  pairs_left pairs (Some (Some node)) = pairs_of (shape_of node)
+  pairs_left pairs (Some node) = node_pairs (shape_of node)
 
   -- what a node may have become is a form, where it has changed
-  abbrev pub IsFormLeft : (K → K → Ordering) → (K → ℕ) → ℕ → Option (Option (Node K V)) → Type 0
+  abbrev pub IsFormLeft : (K → K → Ordering) → (K → ℕ) → ℕ → Option (Node K V) → Type 0
   IsFormLeft cmp place left None = Unit {0}
-  IsFormLeft cmp place left (Some None) = Unit {0}
-  IsFormLeft cmp place left (Some (Some node)) = IsForm cmp place left (shape_of node)
+  IsFormLeft cmp place left (Some node) = IsNode cmp place left (shape_of node)
 
   -- what may have become of the node has the pairs that are wanted, and is their form
   pub record IsRetained (cmp : K → K → Ordering) (place : K → ℕ) (keep : K × V → Bool) (left : ℕ)
-      (pairs : List (K × V)) (new : Option (Option (Node K V))) : Type 0 where
+      (pairs : List (K × V)) (new : Option (Node K V)) : Type 0 where
     pub form : IsFormLeft cmp place left new
     pub kept : pairs_left pairs new ≡ filter keep pairs

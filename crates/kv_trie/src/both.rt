@@ -28,7 +28,7 @@ impl<K: Place + Drop, V: Drop> Companion for Waiting<K, V> {
     ghost ready = { λ waiting. IsSome waiting.pair × (length waiting.trie < 2 ^ 32 - 1) };
 
     ghost done = { λ old new. (pair : K × V) → old.pair ≡ Some pair →
-        new.trie ≡ put_pair (order K.cmp K.place_of 7) pair old.trie };
+        new.trie ≡ put_pair (order K.cmp K.place_of 11) pair old.trie };
 
     ghost kept = { λ old new. new.trie ≡ old.trie };
 
@@ -53,8 +53,8 @@ pub fn put_both<K1: Place + Drop, V1: Drop, K2: Place + Drop, V2: Drop>(
     requires first { length first.old < 2 ^ 32 - 1 }
     requires second { length second.old < 2 ^ 32 - 1 }
     ensures err { IfErr result (λ error. error ≡ OutOfMemory) }
-    ensures pairs { OnOk result ((first.new ≡ put_pair (order K1.cmp K1.place_of 7) first_pair first.old)
-        × (second.new ≡ put_pair (order K2.cmp K2.place_of 7) second_pair second.old)) }
+    ensures pairs { OnOk result ((first.new ≡ put_pair (order K1.cmp K1.place_of 11) first_pair first.old)
+        × (second.new ≡ put_pair (order K2.cmp K2.place_of 11) second_pair second.old)) }
     ensures first_map { OnOk result ((q : K1) → lookup (is_at (K1.cmp q)) first.new ≡
         (if is_at (K1.cmp first_pair.0) q then Some first_pair.1 else lookup (is_at (K1.cmp q)) first.old)) }
     ensures second_map { OnOk result ((q : K2) → lookup (is_at (K2.cmp q)) second.new ≡

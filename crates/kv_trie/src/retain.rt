@@ -1,23 +1,19 @@
 //! A node with only the pairs that are wanted.
 //!
 //! What may become of a node: `None` where nothing goes, so that the node itself can be shared; else `Some` of what is
-//! left of it, if anything is.
+//! left of it.
 
-ghost use Rattle.std.specs.Prelude.{◌≡◌, ◌+◌, ◌-◌, ◌<◌, ◌≤◌, ◌^◌, true, length, map, IfOk, OnOk, IsSome, IsTrue, MatchOption};
+ghost use Rattle.std.specs.Prelude.{◌≡◌, ◌+◌, ◌-◌, ◌<◌, ◌≤◌, ◌^◌, true, length, map, IfOk, OnOk, MatchOption, slice_set};
 ghost use Rattle.std.specs.Arc.{arc_value};
 ghost use Rattle.std.specs.List.{filter};
-ghost use Rattle.std.specs.Option.{option_map};
-ghost use Rattle.kv_trie.specs.inside.Bits.{set_bits, has};
-ghost use Rattle.kv_trie.specs.Form.{Each, IsForm, AreForms, row, pairs_of, pairs_in, with_or_without, child_at, IsWhole};
-ghost use Rattle.kv_trie.specs.Retain.{is_wanted, IsUnwantedAt, IsRetained, slots_so_far, stays_at};
-ghost use Rattle.kv_trie.specs.Stored.{shape_of, slots_at, child_shapes};
+ghost use Rattle.kv_trie.specs.Form.{Each, IsForm, IsNode, AreForms, row, listed as node_of, pairs_in, node_pairs, whole};
+ghost use Rattle.kv_trie.specs.Retain.{is_wanted, IsUnwantedAt, IsRetained, children_so_far, stays_at};
+ghost use Rattle.kv_trie.specs.Stored.{shape_of, child_slots};
 ghost use Rattle.kv_trie.specs.Trie.{IsRoot, root_pairs};
 
-use crate::bits::{position, without_bit};
-use crate::find::child;
+use crate::list::take_only;
 use crate::node::{Node, Pair};
-use crate::only::only;
-use crate::parts::contracted;
+use crate::parts::take_rest;
 use crate::wants::Wants;
 use kv_keys::Place;
 use std::alloc::{AllocError, Global};
@@ -64,13 +60,30 @@ fn wanted_pairs<K: Drop, V: Drop, W: Wants<K, V>>(
     Ok(kept)
 }
 
+// The node of pairs of one place.
+fn listed<K: Drop, V: Drop>(
+    alloc: Global,
+    pairs: Vec<Arc<Pair<K, V>>>,
+) -> Result<Node<K, V>, AllocError>
+    ensures { IfOk result (λ node. shape_of node ≡ node_of (map arc_value pairs.items)) }
+{
+    let mut pairs = pairs;
+    if pairs.is_empty() {
+        return Ok(Node::Empty);
+    }
+    match take_only(&mut pairs) {
+        Some(pair) => Ok(Node::Leaf(pair)),
+        None => Ok(Node::List(Arc::new(alloc, pairs)?)),
+    }
+}
+
 // What is left of a list.
 fn retain_listed<K: Place + Drop, V: Drop, W: Wants<K, V>>(
     alloc: Global,
     pairs: &Vec<Arc<Pair<K, V>>>,
     wants: &W,
     gone: &mut u64,
-) -> Result<Option<Option<Node<K, V>>>, AllocError>
+) -> Result<Option<Node<K, V>>, AllocError>
     requires form { IsForm K.cmp K.place_of 0 (row (map arc_value pairs.now.items)) }
     requires count { gone.old + length pairs.now.items < 2 ^ 64 }
     ensures retained { IfOk result (IsRetained K.cmp K.place_of (is_wanted (W.wanted wants.now)) 0
@@ -84,64 +97,40 @@ fn retain_listed<K: Place + Drop, V: Drop, W: Wants<K, V>>(
     };
     let kept = wanted_pairs(alloc, pairs, first, wants)?;
     *gone += (pairs.len() - kept.len()) as u64;
-    if kept.is_empty() {
-        return Ok(Some(None));
-    }
-    match only(&kept) {
-        Some(pair) => Ok(Some(Some(Node::Leaf(Arc::try_clone(pair)?)))),
-        None => Ok(Some(Some(Node::List(kept)))),
-    }
+    Ok(Some(listed(alloc, kept)?))
 }
 
-// The children with this one in the place of that at the index, or with none there, and their map.
-fn change<K: Drop, V: Drop>(
-    alloc: Global,
-    map: u32,
-    children: Vec<Arc<Node<K, V>>>,
-    index: u32,
-    child: Option<Node<K, V>>,
-) -> Result<(u32, Vec<Arc<Node<K, V>>>), AllocError>
-    requires small { index < 32 }
-    requires fits { length children.items ≡ length (set_bits map) }
-    requires there { IsTrue (has index (set_bits map)) }
-    ensures { IfOk result
-        (λ new. slots_at (set_bits new.0) (child_shapes new.1.items)
-        ≡ with_or_without index (option_map shape_of child) (slots_at (set_bits map) (child_shapes children.items))) }
-{
-    let mut rest = children;
-    let at = position(map, index);
-    match child {
-        Some(child) => {
-            rest[at] = Arc::new(alloc, child)?;
-            Ok((map, rest))
-        }
-        None => {
-            drop(rest.remove(at));
-            Ok((without_bit(map, index), rest))
-        }
-    }
-}
-
-// The children of a branch as far as they have changed, with this one in the place of that at the index, or with none
-// there. They are copied at the first change.
+// The children of a branch as far as they have changed, with this one at the index. They are copied at the first
+// change.
 fn changed<K: Drop, V: Drop>(
-    alloc: Global,
-    rest: Option<(u32, Vec<Arc<Node<K, V>>>)>,
-    map: u32,
-    children: &Vec<Arc<Node<K, V>>>,
-    index: u32,
-    child: Option<Node<K, V>>,
-) -> Result<(u32, Vec<Arc<Node<K, V>>>), AllocError>
-    requires small { index < 32 }
-    requires whole { IsWhole (slots_so_far rest map children.now.items) }
-    requires there { IsSome (child_at index (slots_so_far rest map children.now.items)) }
-    ensures { IfOk result
-        (λ new. slots_at (set_bits new.0) (child_shapes new.1.items)
-        ≡ with_or_without index (option_map shape_of child) (slots_so_far rest map children.now.items)) }
+    rest: Option<[Node<K, V>; 8]>,
+    children: &[Node<K, V>; 8],
+    index: usize,
+    child: Node<K, V>,
+) -> Result<[Node<K, V>; 8], AllocError>
+    requires { index < 8 }
+    ensures { IfOk result (λ new. map shape_of new
+        ≡ slice_set (map shape_of (children_so_far rest children.now)) index (shape_of child)) }
 {
-    match rest {
-        Some((bits, copies)) => change(alloc, bits, copies, index, child),
-        None => change(alloc, map, children.clone()?, index, child),
+    let mut new = match rest {
+        Some(new) => new,
+        None => children.clone()?,
+    };
+    new[index] = child;
+    Ok(new)
+}
+
+// The node of these children.
+fn node_of_children<K: Drop, V: Drop>(
+    alloc: Global,
+    children: [Node<K, V>; 8],
+) -> Result<Node<K, V>, AllocError>
+    ensures { IfOk result (λ node. shape_of node ≡ whole (child_slots children)) }
+{
+    let mut children = children;
+    match take_rest(&mut children) {
+        Some(node) => Ok(node),
+        None => Ok(Node::Branch(Arc::new(alloc, children)?)),
     }
 }
 
@@ -149,41 +138,30 @@ fn changed<K: Drop, V: Drop>(
 #[cycle(retain)]
 fn retain_below<K: Place + Drop, V: Drop, W: Wants<K, V>>(
     alloc: Global,
-    map: u32,
-    children: &Vec<Arc<Node<K, V>>>,
+    children: &[Node<K, V>; 8],
     left: u32,
     wants: &W,
     gone: &mut u64,
-) -> Result<Option<Option<Node<K, V>>>, AllocError>
-    requires levels { left ≤ 7 }
+) -> Result<Option<Node<K, V>>, AllocError>
+    requires levels { left ≤ 11 }
     requires some { 0 < left }
-    requires forms { AreForms K.cmp K.place_of (left - 1) 0
-        (slots_at (set_bits map) (child_shapes children.now.items)) }
-    requires count { gone.old + length (pairs_in (slots_at (set_bits map) (child_shapes children.now.items))) < 2 ^ 64 }
+    requires forms { AreForms K.cmp K.place_of (left - 1) 0 (child_slots children.now) }
+    requires count { gone.old + length (pairs_in (child_slots children.now)) < 2 ^ 64 }
     ensures retained { IfOk result (IsRetained K.cmp K.place_of (is_wanted (W.wanted wants.now)) left
-        (pairs_in (slots_at (set_bits map) (child_shapes children.now.items)))) }
+        (pairs_in (child_slots children.now))) }
     ensures count { OnOk result (gone.new + length
-        (filter (is_wanted (W.wanted wants.now)) (pairs_in
-        (slots_at (set_bits map) (child_shapes children.now.items)))) ≡ gone.old + length
-        (pairs_in (slots_at (set_bits map) (child_shapes children.now.items)))) }
+        (filter (is_wanted (W.wanted wants.now)) (pairs_in (child_slots children.now))) ≡ gone.old + length
+        (pairs_in (child_slots children.now))) }
 {
     let mut rest = None;
-    for index in 0..32 {
-        match child(map, children, index) {
-            Some(child) => match retain(alloc, child, left - 1, wants, gone)? {
-                Some(new) => rest = Some(changed(alloc, rest, map, children, index, new)?),
-                None => {}
-            },
+    for index in 0..8 {
+        match retain(alloc, &children[index], left - 1, wants, gone)? {
+            Some(new) => rest = Some(changed(rest, children, index, new)?),
             None => {}
         }
     }
     match rest {
-        Some((bits, copies)) => {
-            if copies.is_empty() {
-                return Ok(Some(None));
-            }
-            Ok(Some(Some(contracted(Node::Branch(bits, copies))?)))
-        }
+        Some(children) => Ok(Some(node_of_children(alloc, children)?)),
         None => Ok(None),
     }
 }
@@ -196,25 +174,26 @@ pub fn retain<K: Place + Drop, V: Drop, W: Wants<K, V>>(
     left: u32,
     wants: &W,
     gone: &mut u64,
-) -> Result<Option<Option<Node<K, V>>>, AllocError>
-    requires levels { left ≤ 7 }
-    requires form { IsForm K.cmp K.place_of left (shape_of node.now) }
-    requires count { gone.old + length (pairs_of (shape_of node.now)) < 2 ^ 64 }
+) -> Result<Option<Node<K, V>>, AllocError>
+    requires levels { left ≤ 11 }
+    requires form { IsNode K.cmp K.place_of left (shape_of node.now) }
+    requires count { gone.old + length (node_pairs (shape_of node.now)) < 2 ^ 64 }
     ensures retained { IfOk result (IsRetained K.cmp K.place_of (is_wanted (W.wanted wants.now)) left
-        (pairs_of (shape_of node.now))) }
+        (node_pairs (shape_of node.now))) }
     ensures count { OnOk result (gone.new + length
-        (filter (is_wanted (W.wanted wants.now)) (pairs_of (shape_of node.now))) ≡ gone.old + length
-        (pairs_of (shape_of node.now))) }
+        (filter (is_wanted (W.wanted wants.now)) (node_pairs (shape_of node.now))) ≡ gone.old + length
+        (node_pairs (shape_of node.now))) }
 {
     match node {
+        Node::Empty => Ok(None),
         Node::Leaf(pair) => {
             if wants.wants(&pair.0, &pair.1) {
                 return Ok(None);
             }
             *gone += 1;
-            Ok(Some(None))
+            Ok(Some(Node::Empty))
         }
-        Node::Branch(map, children) => retain_below(alloc, *map, children, left, wants, gone),
+        Node::Branch(children) => retain_below(alloc, children, left, wants, gone),
         Node::List(pairs) => retain_listed(alloc, pairs, wants, gone),
     }
 }
@@ -222,10 +201,10 @@ pub fn retain<K: Place + Drop, V: Drop, W: Wants<K, V>>(
 // The root of the pairs that are wanted.
 pub fn retain_at_root<K: Place + Drop, V: Drop, W: Wants<K, V>>(
     alloc: Global,
-    root: &Option<Arc<Node<K, V>>>,
+    root: &Node<K, V>,
     wants: &W,
     gone: &mut u64,
-) -> Result<Option<Arc<Node<K, V>>>, AllocError>
+) -> Result<Node<K, V>, AllocError>
     requires form { IsRoot K.cmp K.place_of root.now }
     requires count { gone.old + length (root_pairs root.now) < 2 ^ 64 }
     ensures retained { IfOk result
@@ -234,14 +213,8 @@ pub fn retain_at_root<K: Place + Drop, V: Drop, W: Wants<K, V>>(
     ensures count { OnOk result (gone.new + length (filter (is_wanted (W.wanted wants.now)) (root_pairs root.now))
         ≡ gone.old + length (root_pairs root.now)) }
 {
-    match root {
-        Some(root) => match retain(alloc, root, 7, wants, gone)? {
-            Some(new) => match new {
-                Some(node) => Ok(Some(Arc::new(alloc, node)?)),
-                None => Ok(None),
-            },
-            None => Ok(Some(Arc::try_clone(root)?)),
-        },
-        None => Ok(None),
+    match retain(alloc, root, 11, wants, gone)? {
+        Some(new) => Ok(new),
+        None => root.clone(),
     }
 }

@@ -6,25 +6,28 @@ use super::*;
 #[derive(Clone, Copy, Drop)]
 enum Part {
     Leaf(&'static str),
+    // By the bit of each index that has a child.
     Branch(u32),
     Pairs(&'static str, &'static str),
+}
+
+fn is_empty(node: &Node<Key, u32>) -> bool {
+    matches!(node, Node::Empty)
 }
 
 fn is_leaf(node: &Node<Key, u32>, text: &str) -> bool {
     match node {
         Node::Leaf(pair) => pair.0.as_str() == text,
-        Node::Branch(_, _) => false,
-        Node::List(_) => false,
+        _ => false,
     }
 }
 
 fn are_pairs(node: &Node<Key, u32>, first: &str, second: &str) -> bool {
     match node {
-        Node::Leaf(_) => false,
-        Node::Branch(_, _) => false,
         Node::List(pairs) => {
             pairs.len() == 2 && pairs[0].0.as_str() == first && pairs[1].0.as_str() == second
         }
+        _ => false,
     }
 }
 
@@ -34,21 +37,21 @@ fn end_of(node: &Node<Key, u32>, parts: &[Part], at: usize) -> Option<usize> {
         Some(Part::Leaf(text)) => is_leaf(node, text).then_some(at + 1),
         Some(Part::Pairs(first, second)) => are_pairs(node, first, second).then_some(at + 1),
         Some(Part::Branch(map)) => match node {
-            Node::Branch(bits, children) => {
-                if *bits != *map {
-                    return None;
-                }
+            Node::Branch(children) => {
                 let mut end = at + 1;
-                for child in children {
-                    match end_of(child, parts, end) {
-                        Some(after) => end = after,
-                        None => return None,
+                for (index, child) in children.iter().enumerate() {
+                    if (*map >> index) & 1 == 1 {
+                        match end_of(child, parts, end) {
+                            Some(after) => end = after,
+                            None => return None,
+                        }
+                    } else if !is_empty(child) {
+                        return None;
                     }
                 }
                 Some(end)
             }
-            Node::Leaf(_) => None,
-            Node::List(_) => None,
+            _ => None,
         },
         None => None,
     }
@@ -56,10 +59,11 @@ fn end_of(node: &Node<Key, u32>, parts: &[Part], at: usize) -> Option<usize> {
 
 // Whether a trie has these nodes and no other.
 fn has_form(trie: &Trie<Key, u32>, parts: &[Part]) -> bool {
-    match trie.root() {
-        Some(root) => end_of(root, parts, 0) == Some(parts.len()),
-        None => parts.is_empty(),
+    let root = trie.root();
+    if parts.is_empty() {
+        return is_empty(root);
     }
+    end_of(root, parts, 0) == Some(parts.len())
 }
 
 // The trie of these keys has these nodes, and no other.
@@ -75,19 +79,23 @@ fn is_of(
 }
 
 const THREE_PLACES: &[Part] = &[
-    Part::Branch(0x0040_1100),
+    Part::Branch(1 << 0 | 1 << 4 | 1 << 6),
     Part::Leaf("foobar"),
     Part::Leaf("a"),
     Part::Leaf("altarage"),
 ];
 
 const ONE_PLACE: &[Part] = &[
-    Part::Branch(1 << 22),
-    Part::Branch(1 << 5),
-    Part::Branch(1 << 22),
-    Part::Branch(1 << 1),
     Part::Branch(1 << 6),
-    Part::Branch(1 << 18),
+    Part::Branch(1 << 6),
+    Part::Branch(1 << 2),
+    Part::Branch(1 << 4),
+    Part::Branch(1 << 5),
+    Part::Branch(1 << 1),
+    Part::Branch(1 << 0),
+    Part::Branch(1 << 3),
+    Part::Branch(1 << 4),
+    Part::Branch(1 << 4),
     Part::Branch(1 << 3),
     Part::Pairs("altarage", "zinke"),
 ];

@@ -53,7 +53,7 @@ fn run<K: Named>(
 fn run_twice<K: Named>(rt: &impl Abort, alloc: Global, rows: &[Row]) -> Result<(), KvError> {
     let mut trie: Numbers<K> = Trie::new();
     run(rt, alloc, &mut trie, false, rows)?;
-    assert!(rt; trie.root().is_none());
+    assert!(rt; matches!(trie.root(), Node::Empty));
     run(rt, alloc, &mut trie, true, rows)
 }
 

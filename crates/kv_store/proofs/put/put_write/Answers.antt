@@ -20,7 +20,7 @@ returns-clause-len c =
       length-kept_entries c.put_both.new.first,
       length-kept_entries c.args.by_key.now,
       ap length c.in_ok-put_both.ensures.pairs.0,
-      length-put_pair (order (slice_cmp nat_cmp) fnv32_of 7) (c.args.key, c.args.kept) c.args.by_key.now,
+      length-put_pair (order (slice_cmp nat_cmp) fnv32_of 11) (c.args.key, c.args.kept) c.args.by_key.now,
     )
 
 pub returns-clause-put : goal.returns-clause-put
@@ -29,9 +29,9 @@ returns-clause-put c =
     let old = c.args.by_revision.now in
     record {
       found = λ r. written_more c.args.write.revision r c.args.write old c.put_both.new.second (rw number at (c.in_ok-put_both.ensures.second_map r));
-      len = omega (arith, ap length c.in_ok-put_both.ensures.pairs.1, length-put_pair (order nat_cmp place_of_revision 7) (c.new-number.result, c.args.write) old);
+      len = omega (arith, ap length c.in_ok-put_both.ensures.pairs.1, length-put_pair (order nat_cmp place_of_revision 11) (c.new-number.result, c.args.write) old);
       revisions = λ last l all.
           let small : c.new-number.result ≤ last = omega (arith, number, l) in
           let Small : ℕ × Write → Type 0 = λ e. e.0 ≤ last in
-          subst (All Small) (sym c.in_ok-put_both.ensures.pairs.1) (All-put_pair Small (order nat_cmp place_of_revision 7) (c.new-number.result, c.args.write) old small all);
+          subst (All Small) (sym c.in_ok-put_both.ensures.pairs.1) (All-put_pair Small (order nat_cmp place_of_revision 11) (c.new-number.result, c.args.write) old small all);
     }

@@ -11,6 +11,6 @@ returns-clause-second_map g c =
     let pair = c.args.second_pair in
     on_ok_weaker c.put_with-put.result
     (λ done q.
-    let made = done pair refl ∙ ap (put_pair (order g.K2.Ord.cmp place 7) pair) c.replace.ensures.value in
-    rw made (lookup-put total place g.met.K2.Place.respects_equal 7 pair c.args.second.now q))
+    let made = done pair refl ∙ ap (put_pair (order g.K2.Ord.cmp place 11) pair) c.replace.ensures.value in
+    rw made (lookup-put total place g.met.K2.Place.respects_equal 11 pair c.args.second.now q))
     c.put_with-put.ensures.done

@@ -4,11 +4,11 @@ use Rattle.kv_trie.proofs.put.+put.Given as goal
 abbrev pub decreases-put : goal.decreases-put
 decreases-put g l = 4 * l.left + 3
 
-abbrev pub decreases-put_in : goal.decreases-put_in
-decreases-put_in g l = 4 * l.left + 2
-
 abbrev pub decreases-put_beside : goal.decreases-put_beside
-decreases-put_beside g l = 4 * l.left + 1
+decreases-put_beside g l = 4 * l.left + 2
+
+abbrev pub decreases-put_in_branch : goal.decreases-put_in_branch
+decreases-put_in_branch g l = 4 * l.left + 1
 
 abbrev pub decreases-put_below : goal.decreases-put_below
 decreases-put_below g l = 4 * l.left

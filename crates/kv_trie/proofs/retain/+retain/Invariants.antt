@@ -1,7 +1,6 @@
-use Rattle.std.proofs.Common.{◌+◌, ◌-◌, ◌*◌}
-use Rattle.kv_trie.specs.inside.Bits.{set_bits}
-use Rattle.kv_trie.specs.Retain.{is_wanted, slots_so_far}
-use Rattle.kv_trie.specs.Stored.{slots_at, child_shapes}
+use Rattle.std.proofs.Common.{◌≡◌, ◌+◌, ◌-◌, ◌*◌, length}
+use Rattle.kv_trie.specs.Retain.{is_wanted, children_so_far}
+use Rattle.kv_trie.specs.Stored.{child_slots}
 use Rattle.kv_trie.proofs.Retaining.{IsPartly}
 use Rattle.kv_trie.proofs.retain.+retain.Given as goal
 
@@ -13,5 +12,6 @@ decreases-retain_below g l = 2 * l.left
 
 abbrev pub invariant-retain_below-loop-index : goal.invariant-retain_below-loop-index
 invariant-retain_below-loop-index g l =
-    IsPartly g.K.Ord.cmp g.K.Place.place_of (is_wanted (g.W.Wants.wanted l.wants)) (l.left - 1) l.index l.initial.gone l.gone
-    (slots_at (set_bits l.map) (child_shapes l.children.items)) (slots_so_far l.rest l.map l.children.items)
+    (length (children_so_far l.rest l.children) ≡ 8)
+    × IsPartly g.K.Ord.cmp g.K.Place.place_of (is_wanted (g.W.Wants.wanted l.wants)) (l.left - 1) l.index l.initial.gone l.gone
+    (child_slots l.children) (child_slots (children_so_far l.rest l.children))

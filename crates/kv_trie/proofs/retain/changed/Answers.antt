@@ -1,24 +1,17 @@
-use Rattle.kv_trie.specs.inside.Bits.{set_bits}
-use Rattle.kv_trie.specs.Stored.{shape_of, child_shapes}
-use Rattle.kv_trie.proofs.Clones.{seen_clones}
-use Rattle.kv_trie.proofs.Retaining.{children_whole, has_from_some}
+use Rattle.std.proofs.Common.{map, refl, ap, ◌∙◌}
+use Rattle.std.proofs.Math.ListN.{set}
+use Rattle.std.proofs.lemmas.List.{map-set}
+use Rattle.kv_trie.specs.Stored.{shape_of}
+use Rattle.kv_trie.proofs.Clones.{alike}
 use Rattle.kv_trie.proofs.retain.changed.Goals as goal
+use Rattle.kv_trie.proofs.retain.changed.Goals.{in-Some, in-None+in_ok-new-in-None}
 
-pub change-requires-clause-fits : goal.change-requires-clause-fits
-change-requires-clause-fits g c = children_whole c.in-Some.bits c.in-Some.copies.items (rw c.in-Some.is at c.requires.whole)
-
-pub change-requires-clause-there : goal.change-requires-clause-there
-change-requires-clause-there g c = has_from_some c.args.index (set_bits c.in-Some.bits) (child_shapes c.in-Some.copies.items) (rw c.in-Some.is at c.requires.there)
-
-pub change-requires-in-None-clause-fits : goal.change-requires-in-None-clause-fits
-change-requires-in-None-clause-fits g c =
-    let same = seen_clones shape_of c.args.children.now.items c.in_ok-clone-in-None.field-0.items c.in_ok-clone-in-None.ensures.cases.0 in
-    children_whole c.args.map c.in_ok-clone-in-None.field-0.items (rw same (rw c.in-None.is at c.requires.whole))
-
-pub change-requires-in-None-clause-there : goal.change-requires-in-None-clause-there
-change-requires-in-None-clause-there g c = has_from_some c.args.index (set_bits c.args.map) (child_shapes c.args.children.now.items) (rw c.in-None.is at c.requires.there)
-
-pub returns-in_ok-clone-in-None : goal.returns-in_ok-clone-in-None
-returns-in_ok-clone-in-None g c =
-    let same = seen_clones shape_of c.args.children.now.items c.in_ok-clone-in-None.field-0.items c.in_ok-clone-in-None.ensures.cases.0 in
-    rw c.in-None.is (rw same at c.change-in-None.ensures)
+pub returns : goal.returns
+returns g c =
+    let there = map-set shape_of c.match-rest.new c.args.index c.args.child in
+    elim c.match-rest.branch [
+      | in-Some w ↦ there ∙ rw (w.in-Some.is, w.new-is) refl
+      | in-None+in_ok-new-in-None w ↦
+          let same = alike shape_of c.args.children.now w.in_ok-new-in-None.new w.in_ok-new-in-None.ensures.cases.whole in
+          there ∙ rw w.in-None.is (ap (λ n. set (map shape_of n) c.args.index (shape_of c.args.child)) w.new-is ∙ ap (λ cs. set cs c.args.index (shape_of c.args.child)) same)
+    ]

@@ -1,10 +1,6 @@
-use Rattle.std.proofs.Common.{length, ap, arith}
 use Rattle.kv_trie.proofs.Retaining.{lookup-retain}
 use Rattle.kv_trie.proofs.trie.Trie.retain.Goals as goal
 
-pub retain_at_root-requires-clause-count : goal.retain_at_root-requires-clause-count
-retain_at_root-requires-clause-count g c = omega (arith, ap length c.self.view_is, c.len-entries.ensures.count, c.len-entries.type_inv)
-
 pub returns-clause-map : goal.returns-clause-map
 returns-clause-map g c = λ q.
-    rw (c.in_ok-root.ensures.retained.1, c.self.view_is) (lookup-retain g.met.K.Ord.total g.K.Place.place_of g.met.K.Place.respects_equal 7 q (g.W.Wants.wanted c.args.wants.now) c.args.self.now c.len-entries.ensures.ordered)
+    rw (c.in_ok-root.ensures.retained.1, c.self.view_is) (lookup-retain g.met.K.Ord.total g.K.Place.place_of g.met.K.Place.respects_equal 11 q (g.W.Wants.wanted c.args.wants.now) c.args.self.now c.len-entries.ensures.ordered)
