@@ -84,10 +84,7 @@ fn live_figures<N: LiveName, R: Wait + Clock + Print>(
 ) -> Result<(), Fault> {
     fill(rt, alloc, live, plan.keys)?;
     let load = spread_load(alloc, plan, plan.asked())?;
-    let mut reads = Reads {
-        reader,
-        keys: load.keys.as_slice(),
-    };
+    let mut reads = Reads::new(reader, load.keys.as_slice())?;
     let mut writes = Writes {
         live,
         requests: load.requests.as_slice(),

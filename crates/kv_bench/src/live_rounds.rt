@@ -58,10 +58,7 @@ fn job<'a, N: LiveName>(
     reader: Reader<N>,
 ) -> Result<LiveJob<'a, N>, Fault> {
     match task {
-        Task::Read => Ok(Job::Get(Reads {
-            reader,
-            keys: load.keys.as_slice(),
-        })),
+        Task::Read => Ok(Job::Get(Reads::new(reader, load.keys.as_slice())?)),
         Task::Follow | Task::Delay => Ok(Job::Take(feed(alloc, reader)?)),
     }
 }

@@ -4,7 +4,7 @@ use crate::sides::{Copies, Gets, Puts, Takes};
 use kv_gauge::fault::Fault;
 use kv_gauge::keys::{key, put, puts, spread};
 use kv_gauge::plan::Plan;
-use kv_live::{Feed, Key, Live, LiveName, Reader, Request, Taken};
+use kv_live::{Cached, Feed, Key, Live, LiveName, Reader, Request, Taken};
 use std::alloc::Global;
 use std::sync::Wait;
 
@@ -36,21 +36,35 @@ pub fn fill<N: LiveName, R: Wait>(
     Ok(())
 }
 
-/// A reader, with the keys that it reads.
+/// A reader, with the version that it keeps, and the keys that it reads.
 #[derive(Drop)]
 pub struct Reads<'a, N: LiveName> {
-    pub reader: Reader<N>,
-    pub keys: &'a [Key],
+    reader: Reader<N>,
+    cached: Cached<N>,
+    keys: &'a [Key],
+}
+
+impl<'a, N: LiveName> Reads<'a, N> {
+    /// Who reads these keys.
+    pub fn new(reader: Reader<N>, keys: &'a [Key]) -> Result<Reads<'a, N>, Fault> {
+        let mut reader = reader;
+        let cached = reader.cached()?;
+        Ok(Reads {
+            reader,
+            cached,
+            keys,
+        })
+    }
 }
 
 impl<'a, N: LiveName> Gets for Reads<'a, N> {
-    // Each read is of a version of its own.
+    // Each read is of the version that is published then.
     fn get<R: Wait>(&mut self, _rt: &R, place: usize) -> Result<usize, Fault> {
         let Some(key) = self.keys.get(place) else {
             return Ok(0);
         };
-        let version = self.reader.version()?;
-        let bytes = version.get(key)?.value().len();
+        self.reader.refresh(&mut self.cached)?;
+        let bytes = self.cached.version().get(key)?.value().len();
         Ok(bytes)
     }
 }

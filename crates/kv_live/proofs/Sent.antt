@@ -1,5 +1,5 @@
--- What may cross threads: a reader, a feed and a receipt may be handed to another, and a receipt and a bucket under its
--- lock shared, where the name of its opening may. Whoever starts threads over them cites
+-- What may cross threads: a reader, what it cached, a feed and a receipt may be handed to another, and what is cached, a
+-- receipt and a bucket under its lock shared, where the name of its opening may. Whoever starts threads over them cites
 -- these, and `Sent` of kv_store for versions; one `search` through the fields of them all finds no proof within its
 -- bounds.
 use denote.RattleType.{RattleType}
@@ -11,6 +11,7 @@ use Rattle.kv_watch.proofs.cursor.Cursor.TheSendSync as cursor
 use Rattle.kv_live.specs.declared.history.LiveName as live_name
 use Rattle.kv_live.specs.contracts.bell.Bell as Bell
 use Rattle.kv_live.specs.contracts.bell.Board as Board
+use Rattle.kv_live.specs.contracts.cached.Cached as Cached
 use Rattle.kv_live.specs.contracts.copies.Copies as Copies
 use Rattle.kv_live.specs.contracts.feed.Feed as Feed
 use Rattle.kv_live.specs.contracts.feed.Held as Held
@@ -69,6 +70,12 @@ module _ (N : RattleType) (g : live_name.Ghosts N.Denot) (s : IsSend N) (y : IsS
 
   pub reader_send : IsSend (Reader.the_row N g)
   reader_send = let h = shelf_send in let i = shelf_sync in let b = bell_send in let k = knowledge_send in search (sendable, crosses, seat.the_send, seat.the_field_send) depth 20
+
+  pub cached_send : IsSend (Cached.the_row N g)
+  cached_send = let h = shelf_send in search (sendable, crosses) depth 20
+
+  pub cached_sync : IsSync (Cached.the_row N g)
+  cached_sync = let h = shelf_sync in search (sendable, crosses) depth 20
 
   pub feed_send : IsSend (Feed.the_row N g)
   feed_send = let h = held_send in let r = reader_send in let c = cursor.the_send in search sendable depth 20

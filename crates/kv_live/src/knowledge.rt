@@ -1,14 +1,14 @@
 //! What a reader has seen, and what it was told.
 
-ghost use Rattle.std.specs.Prelude.{◌≡◌, ◌⊎◌, [], true, false, IfOk, IfErr, length};
+ghost use Rattle.std.specs.Prelude.{◌≡◌, ◌⊎◌, [], true, false, IfOk, IfErr, OnOk};
 ghost use Rattle.std.specs.Option.{option_map};
-ghost use Rattle.kv_keys.specs.declared.error.KvError.TheVariants.{OutOfMemory};
+ghost use Rattle.kv_keys.specs.declared.error.KvError.TheVariants.{NoReader};
 ghost use Rattle.kv_model.specs.Acts.{IsPrefix, floor_of};
 ghost use Rattle.kv_store.specs.Standing.{StandsFor};
 ghost use Rattle.kv_live.specs.inside.Fed.{TellsLag, TellsLagOf, IsNotShown};
 ghost use Rattle.kv_live.specs.inside.Shelves.{IsOf};
 
-use crate::front::Front;
+use crate::front::{Front, Glimpse};
 use crate::history::LiveName;
 use crate::receipt::Receipt;
 use crate::shelf::Shelf;
@@ -51,8 +51,7 @@ impl<N: LiveName> Knowledge<N> {
         self.taken_in
     }
 
-    /// Takes in what is published: a copy, unless the follower, if any, lags behind it. Where it is older than what was
-    /// seen or told it is `NoReader`. It never is: that was published before.
+    /// Takes in what is published: a copy, unless the follower, if any, lags behind it.
     pub fn take_in(
         &mut self,
         follower: Option<(&Shelf, &Cursor)>,
@@ -69,14 +68,44 @@ impl<N: LiveName> Knowledge<N> {
         ensures err { IfErr result
             (IsNotShown (option_map (λ f. (f.0.now, f.1.now)) follower.entry) self.new.seen) }
     {
+        self.see(shelf)?;
+        let copy = copy_for(follower, shelf)?;
+        self.rest_on(&copy);
+        Ok(copy)
+    }
+
+    /// Sees what is published. Where it is older than what was seen or told it is `NoReader`. It never is: that was
+    /// published before.
+    pub fn see(&mut self, shelf: &Shelf) -> Result<(), KvError>
+        requires { IsOf N.opening shelf.now }
+        ensures later { IsPrefix self.old.seen self.new.seen }
+        ensures told { self.new.told ≡ self.old.told }
+        ensures ok { OnOk result ((self.new.seen ≡ shelf.now.glimpse.sight.log)
+            × IsPrefix self.old.told self.new.seen) }
+        ensures err { IfErr result (λ e. e ≡ NoReader) }
+    {
         let front: Front<N> = Front::of(shelf.glimpse());
         if !front.covers(&self.seen) || !front.covers(&self.told) {
             return Err(KvError::NoReader);
         }
         self.seen = front;
-        let copy = copy_for(follower, shelf)?;
-        self.taken_in = copy.acts();
-        Ok(copy)
+        Ok(())
+    }
+
+    /// Whether it has seen all of this glimpse, and no more.
+    pub fn has_seen_just(&self, glimpse: &Glimpse) -> bool
+        requires { glimpse.now.sight.book ≡ N.opening.book }
+        ensures { result ≡ true → glimpse.now.sight.log ≡ self.now.seen }
+    {
+        let front: Front<N> = Front::of(glimpse);
+        front.covers(&self.seen) && self.seen.covers(&front)
+    }
+
+    /// The version of this shelf is the one that it took in last.
+    pub fn rest_on(&mut self, shelf: &Shelf)
+        ensures { self.new ≡ self.old }
+    {
+        self.taken_in = shelf.acts();
     }
 
     /// Takes in a receipt.

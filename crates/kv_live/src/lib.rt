@@ -3,6 +3,7 @@
 #![tactic(auto)]
 
 mod bell;
+mod cached;
 mod copies;
 mod deed;
 mod feed;
@@ -21,6 +22,7 @@ mod rule;
 mod shelf;
 
 pub use bell::Woken;
+pub use cached::Cached;
 pub use feed::Feed;
 pub use history::LiveName;
 pub use keeper::Keeper;

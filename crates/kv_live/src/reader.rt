@@ -1,6 +1,6 @@
 //! Readers, which take no lock and wait for nobody.
 
-ghost use Rattle.std.specs.Prelude.{◌≡◌, ◌⊎◌, ◌≤◌, IfOk, IfErr, IfSome, Some, MatchResult, [], true, false};
+ghost use Rattle.std.specs.Prelude.{◌≡◌, ◌⊎◌, ◌≤◌, IfOk, IfErr, IfSome, OnErr, OnOk, Some, MatchResult, [], true, false};
 ghost use Rattle.std.specs.Option.{option_map};
 ghost use Rattle.kv_keys.specs.declared.error.KvError.TheVariants.{OutOfMemory};
 ghost use Rattle.kv_model.specs.Acts.{IsPrefix, floor_of};
@@ -10,6 +10,7 @@ ghost use Rattle.kv_live.specs.inside.Fed.{TellsLag, TellsLagOf, IsNotShown};
 ghost use Rattle.kv_live.specs.inside.Shelves.{IsOf};
 
 use crate::bell::{Bell, Woken};
+use crate::cached::Cached;
 use crate::front::Front;
 use crate::history::LiveName;
 use crate::knowledge::Knowledge;
@@ -81,6 +82,48 @@ impl<N: LiveName> Reader<N> {
     {
         let shelf = self.shelf()?;
         Ok(shelf.into_version())
+    }
+
+    /// The version that is published, to be kept for many reads and refreshed between them. It costs what `version`
+    /// costs.
+    pub fn cached(&mut self) -> Result<Cached<N>, KvError>
+        ensures later { IsPrefix self.old.seen self.new.seen }
+        ensures told { self.new.told ≡ self.old.told }
+        ensures ok { IfOk result (λ c. (c ≡ self.new.seen) × IsPrefix self.old.told self.new.seen) }
+        ensures err { IfErr result IsUnread }
+    {
+        let shelf = self.shelf()?;
+        Ok(Cached::new(shelf))
+    }
+
+    /// Has what was cached go on to the version that is published; once the bucket was closed, to the last one. Where
+    /// it is that already, no snapshot is made, and nothing is written to that another thread reads; so a thread that
+    /// reads again and again without this call's snapshots leaves the others their caches. Where it is refused it stays
+    /// as it was.
+    pub fn refresh(&mut self, cached: &mut Cached<N>) -> Result<(), KvError>
+        ensures later { IsPrefix self.old.seen self.new.seen }
+        ensures told { self.new.told ≡ self.old.told }
+        ensures ok { OnOk result ((cached.new ≡ self.new.seen) × IsPrefix self.old.told self.new.seen) }
+        ensures unchanged { OnErr result (cached.new ≡ cached.old) }
+        ensures err { IfErr result IsUnread }
+    {
+        let Some(seat) = self.seat.take() else {
+            unreachable!()
+        };
+        match seat.enter_as::<Gets<N>>() {
+            Ok(reading) => {
+                let done = cached.go_on(&mut self.knowledge, reading.get());
+                self.seat = Some(reading.leave());
+                done
+            }
+            Err(seat) => {
+                self.seat = Some(seat);
+                match self.bell.last() {
+                    Some(last) => cached.go_on(&mut self.knowledge, last.shelf()),
+                    None => Err(KvError::NoReader),
+                }
+            }
+        }
     }
 
     /// Sleeps until something is published that it has not taken in, or the bucket is closed. It takes no lock.

@@ -17,6 +17,7 @@ use std::sync::Wait;
 use std::test::Fail;
 use std::thread::{Threads, join};
 
+mod cached;
 mod calls;
 mod compacting;
 mod feeds;
@@ -98,6 +99,7 @@ enum Row {
     LooksInTurn,
     FreedPlace,
     LeftBehind,
+    Cached,
     TwoFeeds,
     HeldWatch,
 }
@@ -190,6 +192,7 @@ fn run_alone<N: LiveName, R: Wait + Abort>(
         Row::ManyReaders => opening::all_read(rt, readers, 32),
         Row::FreedPlace => places::freed(rt, alloc, live, readers),
         Row::LeftBehind => places::left_behind(rt, alloc, live, readers),
+        Row::Cached => cached::refreshed(rt, alloc, live, readers),
         Row::TwoFeeds => compacting::two_feeds(rt, alloc, live, readers),
         Row::HeldWatch => compacting::held_watch(rt, alloc, live, readers),
         _ => {

@@ -1,7 +1,7 @@
 //! What an opening refuses, and what it begins and ends with.
 
 use super::*;
-use kv_live::Status;
+use kv_live::{Cached, Status};
 
 // The history, the limit of a value, and the limit of writes.
 type Numbers = (u64, u64, u64);
@@ -109,14 +109,30 @@ fn a_close_ends_no_reader(rt: HostRuntime) -> Result<(), Fail> {
     Ok(())
 }
 
-// The bucket is written to, and closed before its readers look.
+// The bucket is written to, and closed before its readers look. One of them has a cached version from before.
 pub(super) fn closed_first<N: LiveName, R: Wait + Abort>(
     rt: &R,
     alloc: Global,
     live: Live<N>,
     readers: &mut Vec<Reader<N>>,
 ) -> Result<(), KvError> {
+    let kept = cached_by_last(readers);
+    put_and_close(rt, alloc, live);
+    let (mut reader, mut cached) = kept?;
+    reader.refresh(&mut cached)?;
+    equal(rt, cached.version().revision(), 1);
+    last_reads(rt, readers, Answer::On(1, 0))
+}
+
+fn cached_by_last<N: LiveName>(
+    readers: &mut Vec<Reader<N>>,
+) -> Result<(Reader<N>, Cached<N>), KvError> {
+    let mut reader = last(readers)?;
+    let cached = reader.cached()?;
+    Ok((reader, cached))
+}
+
+fn put_and_close<N: LiveName, R: Wait + Abort>(rt: &R, alloc: Global, live: Live<N>) {
     calls(rt, alloc, &live, &[(Call::Put("a"), Answer::Number(1))]);
     live.close(rt);
-    last_reads(rt, readers, Answer::On(1, 0))
 }

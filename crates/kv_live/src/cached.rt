@@ -1,0 +1,77 @@
+//! A version that a thread keeps for many reads.
+
+ghost use Rattle.std.specs.Prelude.{◌≡◌, IfErr, OnErr, OnOk};
+ghost use Rattle.kv_model.specs.Acts.{IsPrefix};
+ghost use Rattle.kv_store.specs.Standing.{StandsFor};
+ghost use Rattle.kv_live.specs.Known.{IsUnread};
+ghost use Rattle.kv_live.specs.inside.Shelves.{IsOf};
+
+use crate::front::Front;
+use crate::history::LiveName;
+use crate::knowledge::Knowledge;
+use crate::shelf::Shelf;
+use kv_keys::KvError;
+use kv_store::Version;
+use std::marker::{Model, PhantomData};
+
+/// A version of the opening N that a thread keeps for many reads, and refreshes by its reader. Contracts see it as the
+/// acts that the version stands for.
+#[derive(Drop)]
+pub struct Cached<N: LiveName> {
+    shelf: Shelf,
+    of: PhantomData<N>,
+}
+
+impl<N: LiveName> Model for Cached<N> {
+    ghost use Rattle.std.specs.Prelude.{List};
+    ghost use Rattle.kv_model.specs.Acts.{Act};
+    ghost use Rattle.kv_live.specs.inside.Shelves.{IsOf};
+
+    ghost Value = { List Act };
+
+    ghost view = { λ c. c.shelf.glimpse.sight.log };
+
+    ghost invariant = { λ c. IsOf N.opening c.shelf };
+}
+
+impl<N: LiveName> Cached<N> {
+    pub(crate) fn new(shelf: Shelf) -> Cached<N>
+        requires { IsOf N.opening shelf }
+        ensures { result ≡ shelf.glimpse.sight.log }
+    {
+        Cached {
+            shelf,
+            of: PhantomData,
+        }
+    }
+
+    /// The version.
+    pub fn version(&self) -> &Version
+        ensures stands { StandsFor self.now result.now }
+        ensures config { result.now.config ≡ N.opening.config }
+    {
+        self.shelf.version()
+    }
+
+    // Goes on to what is published, which the reader of this knowledge takes in. Where it was there already nothing is
+    // copied.
+    pub(crate) fn go_on(
+        &mut self,
+        knowledge: &mut Knowledge<N>,
+        shelf: &Shelf,
+    ) -> Result<(), KvError>
+        requires { IsOf N.opening shelf.now }
+        ensures later { IsPrefix knowledge.old.seen knowledge.new.seen }
+        ensures told { knowledge.new.told ≡ knowledge.old.told }
+        ensures ok { OnOk result ((self.new ≡ knowledge.new.seen) × IsPrefix knowledge.old.told knowledge.new.seen) }
+        ensures unchanged { OnErr result (self.new ≡ self.old) }
+        ensures err { IfErr result IsUnread }
+    {
+        knowledge.see(shelf)?;
+        if !knowledge.has_seen_just(self.shelf.glimpse()) {
+            self.shelf = shelf.again()?;
+        }
+        knowledge.rest_on(shelf);
+        Ok(())
+    }
+}
