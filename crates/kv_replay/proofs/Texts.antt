@@ -12,7 +12,7 @@ use Rattle.kv_model.specs.Answers.{Answer, Revision, Sealed, AnsweredEntry, Entr
 use Rattle.kv_model.specs.State.{State, after, answer_to, answer_write}
 use Rattle.kv_model.specs.declared.call.Call.TheVariants as calls
 use Rattle.kv_script.specs.Answered.{answer_text, taken_text, ended_text}
-use Rattle.kv_script.specs.Commands.{Meaning, Write, Get, GetAt, History, Watch, Take, Stop, Status, Seal, Compact, Place, is_skipped, is_within_limits, line_command, present_words_command}
+use Rattle.kv_script.specs.Commands.{Meaning, Write, Get, GetAt, History, Watch, Take, Stop, Status, Seal, Compact, Place, is_skipped, is_within_limits, line_command}
 use Rattle.kv_script.specs.Commands as commands
 use Rattle.kv_script.specs.declared.form.Form.{Form}
 use Rattle.kv_script.specs.Line.{object_text, array_text}
