@@ -115,6 +115,11 @@ impl<N: LiveName> Bell<N> {
         }
     }
 
+    /// Whether more acts are published than so many. It writes nothing.
+    pub fn has_more(&self, acts: u64) -> bool {
+        said(self.board.word.load(Ordering::SeqCst)) / PUBLISHED > acts
+    }
+
     // Sleeps once, for no longer than the limit, unless there is something to wake for. It may wake for no reason.
     fn sleep<R: Wait>(&self, rt: &R, acts: u64, limit: Option<Duration>) -> Option<Woken> {
         let word = &self.board.word;

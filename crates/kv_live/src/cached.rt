@@ -1,6 +1,6 @@
 //! A version that a thread keeps for many reads.
 
-ghost use Rattle.std.specs.Prelude.{◌≡◌, IfErr, OnErr, OnOk};
+ghost use Rattle.std.specs.Prelude.{◌≡◌, true, IfErr, OnErr, OnOk};
 ghost use Rattle.kv_model.specs.Acts.{IsPrefix};
 ghost use Rattle.kv_store.specs.Standing.{StandsFor};
 ghost use Rattle.kv_live.specs.Known.{IsUnread};
@@ -51,6 +51,13 @@ impl<N: LiveName> Cached<N> {
         ensures config { result.now.config ≡ N.opening.config }
     {
         self.shelf.version()
+    }
+
+    // Whether it stands for all that the reader of this knowledge has seen, and that for all that the reader was told.
+    pub(crate) fn is_all_of(&self, knowledge: &Knowledge<N>) -> bool
+        ensures { result ≡ true → (self.now ≡ knowledge.now.seen) × IsPrefix knowledge.now.told knowledge.now.seen }
+    {
+        knowledge.has_seen_just(self.shelf.glimpse()) && knowledge.has_seen_all_told()
     }
 
     // Goes on to what is published, which the reader of this knowledge takes in. Where it was there already nothing is

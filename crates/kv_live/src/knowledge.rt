@@ -101,6 +101,13 @@ impl<N: LiveName> Knowledge<N> {
         front.covers(&self.seen) && self.seen.covers(&front)
     }
 
+    /// Whether what it has seen begins with all that it was told.
+    pub fn has_seen_all_told(&self) -> bool
+        ensures { result ≡ true → IsPrefix self.now.told self.now.seen }
+    {
+        self.seen.covers(&self.told)
+    }
+
     /// The version of this shelf is the one that it took in last.
     pub fn rest_on(&mut self, shelf: &Shelf)
         ensures { self.new ≡ self.old }

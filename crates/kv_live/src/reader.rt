@@ -97,10 +97,23 @@ impl<N: LiveName> Reader<N> {
     }
 
     /// Has what was cached go on to the version that is published; once the bucket was closed, to the last one. Where
-    /// it is that already, no snapshot is made, and nothing is written to that another thread reads; so a thread that
-    /// reads again and again without this call's snapshots leaves the others their caches. Where it is refused it stays
-    /// as it was.
+    /// it is that already it costs a look at one word, and nothing is written that another thread reads; else it costs
+    /// what `version` costs, and the version that it leaves is let go. Where it is refused it stays as it was.
     pub fn refresh(&mut self, cached: &mut Cached<N>) -> Result<(), KvError>
+        ensures later { IsPrefix self.old.seen self.new.seen }
+        ensures told { self.new.told ≡ self.old.told }
+        ensures ok { OnOk result ((cached.new ≡ self.new.seen) × IsPrefix self.old.told self.new.seen) }
+        ensures unchanged { OnErr result (cached.new ≡ cached.old) }
+        ensures err { IfErr result IsUnread }
+    {
+        if cached.is_all_of(&self.knowledge) && !self.bell.has_more(self.knowledge.taken_in()) {
+            return Ok(());
+        }
+        self.go_on(cached)
+    }
+
+    // Enters, and has what was cached go on to what is there.
+    fn go_on(&mut self, cached: &mut Cached<N>) -> Result<(), KvError>
         ensures later { IsPrefix self.old.seen self.new.seen }
         ensures told { self.new.told ≡ self.old.told }
         ensures ok { OnOk result ((cached.new ≡ self.new.seen) × IsPrefix self.old.told self.new.seen) }
