@@ -10,3 +10,4 @@ pub mod PlainBase64
 pub mod PutLines
 pub mod Spaced
 pub mod Texts
+pub mod Tokens

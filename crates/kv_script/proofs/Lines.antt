@@ -97,29 +97,6 @@ entry_compact form entry ms members h =
     compact-object (entry_fields form entry ms) (entry_members form entry members)
     (base64_are form entry.value _ _ (refl, refl, (refl, refl, (refl, refl, (refl, refl, value_are form entry.value ms members h)))))
 
-value_no_float : (form : Form) (value : Option (List ℕ)) (ms : Members) → members_have_float ms ≡ false → members_have_float (value_fields form value ms) ≡ false
-value_no_float Base64 None ms h = h
-value_no_float Text None ms h = h
-value_no_float Base64 (Some value) ms h = h
-value_no_float Text (Some value) ms h = by_utf8 (is_utf8 value)
-  where
-    by_utf8 : (text : Bool) → members_have_float (cond text (value_field value ms) ms) ≡ false
-    by_utf8 true = h
-    by_utf8 false = h
-
-base64_no_float : (form : Form) (value : Option (List ℕ)) (ms : Members) → members_have_float ms ≡ false → members_have_float (base64_fields form value ms) ≡ false
-base64_no_float Base64 None ms h = h
-base64_no_float Text None ms h = h
-base64_no_float Base64 (Some value) ms h = h
-base64_no_float Text (Some value) ms h = by_utf8 (is_utf8 value)
-  where
-    by_utf8 : (text : Bool) → members_have_float (cond text ms (base64_field value ms)) ≡ false
-    by_utf8 true = h
-    by_utf8 false = h
-
-pub entry_no_float : (form : Form) (entry : Entry) (ms : Members) → members_have_float ms ≡ false → has_float (object (entry_fields form entry ms)) ≡ false
-entry_no_float form entry ms h = base64_no_float form entry.value _ (value_no_float form entry.value ms h)
-
 pub entry_line : (form : Form) (entry : Entry) → line (compact_text (entry_object form entry)) ≡ entry_text form entry
 unfolding entry_text
 entry_line form entry = ap line (entry_compact form entry no_members [] tt)
@@ -148,23 +125,12 @@ keys_line keys =
     ap line (compact-object (list_fields (codes "keys") (key_items keys)) (one (codes "keys") (array_text (map quoted keys)))
     (refl, compact-array (key_items keys) (map quoted keys) (keys_are keys), tt))
 
-items_no_float : (form : Form) (entries : List Entry) → items_have_float (entry_items form entries) ≡ false
-items_no_float form [] = refl
-items_no_float form (entry ∷ entries) = rw (entry_no_float form entry no_members refl) (items_no_float form entries)
-
 keys_no_float : (keys : List (List ℕ)) → items_have_float (key_items keys) ≡ false
 keys_no_float [] = refl
 keys_no_float (key ∷ keys) = keys_no_float keys
 
-pub history_no_float : (form : Form) (entries : List Entry) → has_float (object (list_fields (codes "entries") (entry_items form entries))) ≡ false
-history_no_float form entries = rw (items_no_float form entries) refl
-
 pub keys_list_no_float : (keys : List (List ℕ)) → has_float (object (list_fields (codes "keys") (key_items keys))) ≡ false
 keys_list_no_float keys = rw (keys_no_float keys) refl
-
-pub entry_items-of : (form : Form) (entries : List Entry) → items_of (map (entry_object form) entries) ≡ entry_items form entries
-entry_items-of form [] = refl
-entry_items-of form (entry ∷ entries) = ap (item (entry_object form entry)) (entry_items-of form entries)
 
 pub key_items-of : (keys : List (List ℕ)) → items_of (map (λ key. string key) keys) ≡ key_items keys
 key_items-of [] = refl

@@ -5,6 +5,7 @@ mod answers;
 mod choices;
 mod command;
 mod entries;
+mod entry;
 mod form;
 mod grammar;
 mod in_text;

@@ -1,11 +1,13 @@
-use Rattle.std.proofs.Common.{refl}
-use Rattle.serde_json.specs.Data.{no_members}
+use Rattle.std.proofs.Common.{◌∙◌}
 use Rattle.kv_model.specs.State.{read_entry}
-use Rattle.kv_script.proofs.Lines.{entry_line, entry_no_float}
+use Rattle.kv_script.specs.inside.Fields.{entry_object}
+use Rattle.kv_script.proofs.Lines.{entry_line}
+use Rattle.kv_script.proofs.Tokens.{line_of}
 use Rattle.kv_script.proofs.entries.append_entry.Goals as goal
 
-pub append_line-requires : goal.append_line-requires
-append_line-requires c = rw c.in_ok-value.ensures (entry_no_float c.args.form (read_entry c.args.write.now) no_members refl)
-
 pub returns-clause-ok : goal.returns-clause-ok
-returns-clause-ok c = rw (c.in_ok-value.ensures, entry_line c.args.form (read_entry c.args.write.now)) at c.append_line.ensures.ok
+returns-clause-ok c =
+    let form = c.args.form in
+    let entry = read_entry c.args.write.now in
+    let told = rw (c.in_ok-write_found.was, c.in_ok-json.ensures.1) at c.write_found.ensures.1 in
+    rw (line_of (entry_object form entry) _ told ∙ entry_line form entry) at c.append_written.ensures.ok
