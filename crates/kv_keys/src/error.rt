@@ -3,73 +3,53 @@
 ghost use Rattle.std.specs.Prelude.{◌≡◌};
 
 use std::alloc::{AllocError, AllocFailed};
-use thiserror::Error;
+use std::error::Error;
+use std::fmt;
 
 /// Why a call was refused. Its text is its name.
-#[derive(Clone, Copy, Debug, PartialEq, Eq, Error)]
+#[derive(Clone, Copy, Debug, PartialEq, Eq)]
 pub enum KvError {
     /// A request for memory, or a thread of a race, was refused.
-    #[error("{}", self.name())]
     OutOfMemory,
     /// A bucket's name is not 1 to 64 letters, digits, `_` and `-`.
-    #[error("{}", self.name())]
     BadBucket,
     /// A number of the configuration is outside its limits.
-    #[error("{}", self.name())]
     BadConfig,
     /// A text is no key.
-    #[error("{}", self.name())]
     BadKey,
     /// A text is no filter.
-    #[error("{}", self.name())]
     BadFilter,
     /// Two of history, updates and a start from a revision were asked for.
-    #[error("{}", self.name())]
     OptionsClash,
     /// The value has more bytes than the bucket allows.
-    #[error("{}", self.name())]
     ValueTooLarge,
     /// The bucket is sealed.
-    #[error("{}", self.name())]
     Sealed,
     /// The bucket stores as many writes as it may, or its revisions are used up.
-    #[error("{}", self.name())]
     JournalFull,
     /// The latest entry of the key to be created is a put.
-    #[error("{}", self.name())]
     KeyExists,
     /// The last revision of the key is `last`, and not the one that the write asks for.
-    #[error("{}", self.name())]
     WrongLastRevision { last: u64 },
     /// There is no such entry.
-    #[error("{}", self.name())]
     KeyNotFound,
     /// The number was never given, or its watch was stopped.
-    #[error("{}", self.name())]
     NoSuchWatch,
     /// 64 watches are open, or all numbers were given.
-    #[error("{}", self.name())]
     TooManyWatches,
     /// The number of readers is not 1 to 32, or the reader store lets no reader in.
-    #[error("{}", self.name())]
     NoReader,
     /// A line of a script is no command.
-    #[error("{}", self.name())]
     BadCommand,
     /// The reader failed, or gave no end within its bound of calls.
-    #[error("{}", self.name())]
     ReadFault,
     /// The writer failed, or took no byte.
-    #[error("{}", self.name())]
     WriteFault,
     /// No compaction can go to this floor.
-    #[error("{}", self.name())]
     BadFloor,
     /// The watch still owes an entry at or below the floor.
-    #[error("{}", self.name())]
     WatchBehind { watch: u64 },
     /// The feed still owes an entry at or below the floor.
-    #[error("{}", self.name())]
     Lagged { floor: u64 },
 }
 
@@ -134,6 +114,14 @@ impl KvError {
         }
     }
 }
+
+impl fmt::Display for KvError {
+    fn fmt<W: fmt::Write>(&self, f: &mut fmt::Formatter<W>) -> fmt::Result {
+        f.write_str(self.name())
+    }
+}
+
+impl Error for KvError {}
 
 impl From<AllocError> for KvError {
     ghost use Rattle.std.specs.Prelude.{◌≡◌};
