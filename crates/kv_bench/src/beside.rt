@@ -11,7 +11,7 @@ use kv_gauge::keys::VALUE;
 use kv_gauge::plan::Plan;
 use kv_gauge::series::{Name, Series};
 use kv_gauge::subject::config;
-use kv_live::{Live, LiveName, Opened, Reader};
+use kv_live::{Live, LiveName, Opened, Reader, Request};
 use std::alloc::Global;
 use std::collections::{BTreeMap, HashMap};
 use std::marker::Brand;
@@ -53,6 +53,43 @@ fn copies<C: Copies, R: Wait + Clock>(
     Ok(each(took, count))
 }
 
+// What the rounds of the three calls gave.
+#[derive(Drop)]
+struct Measured {
+    got: Series,
+    put: Series,
+    copy: Series,
+}
+
+impl Measured {
+    fn new(alloc: Global, of: &'static str, plan: Plan) -> Measured {
+        Measured {
+            got: Series::new(alloc, Name::time(GROUP, "get", of), plan),
+            put: Series::new(alloc, Name::time(GROUP, "put", of), plan),
+            copy: Series::new(alloc, Name::time(GROUP, "copy", of), plan),
+        }
+    }
+
+    fn add_round<G: Gets + Copies, P: Puts, R: Wait + Clock>(
+        &mut self,
+        rt: &R,
+        plan: Plan,
+        reading: &mut G,
+        writing: &mut P,
+        copied: usize,
+    ) -> Result<(), Fault> {
+        self.got.add(gets(rt, reading, plan.asked())?)?;
+        self.put.add(puts(rt, writing, plan.asked())?)?;
+        self.copy.add(copies(rt, reading, copied, plan.keys)?)
+    }
+
+    fn tell<R: Print>(&mut self, rt: &R) -> Result<(), Fault> {
+        self.got.tell(rt)?;
+        self.put.tell(rt)?;
+        self.copy.tell(rt)
+    }
+}
+
 // One who reads and copies, one who writes, and how many copies a round makes.
 fn figures<G: Gets + Copies, P: Puts, R: Wait + Clock + Print>(
     rt: &R,
@@ -62,17 +99,11 @@ fn figures<G: Gets + Copies, P: Puts, R: Wait + Clock + Print>(
     writing: &mut P,
     copied: usize,
 ) -> Result<(), Fault> {
-    let mut got = Series::new(alloc, Name::time(GROUP, "get", G::NAME), plan);
-    let mut put = Series::new(alloc, Name::time(GROUP, "put", G::NAME), plan);
-    let mut copy = Series::new(alloc, Name::time(GROUP, "copy", G::NAME), plan);
+    let mut measured = Measured::new(alloc, G::NAME, plan);
     for _ in 0..plan.rounds {
-        got.add(gets(rt, reading, plan.asked())?)?;
-        put.add(puts(rt, writing, plan.asked())?)?;
-        copy.add(copies(rt, reading, copied, plan.keys)?)?;
+        measured.add_round(rt, plan, reading, writing, copied)?;
     }
-    got.tell(rt)?;
-    put.tell(rt)?;
-    copy.tell(rt)
+    measured.tell(rt)
 }
 
 fn live_figures<N: LiveName, R: Wait + Clock + Print>(
@@ -82,14 +113,23 @@ fn live_figures<N: LiveName, R: Wait + Clock + Print>(
     live: &Live<N>,
     reader: Reader<N>,
 ) -> Result<(), Fault> {
-    fill(rt, alloc, live, plan.keys)?;
     let load = spread_load(alloc, plan, plan.asked())?;
     let mut reads = Reads::new(reader, load.keys.as_slice())?;
-    let mut writes = Writes {
-        live,
-        requests: load.requests.as_slice(),
-    };
-    figures(rt, alloc, plan, &mut reads, &mut writes, plan.asked())
+    full_figures(rt, alloc, plan, live, &mut reads, load.requests.as_slice())
+}
+
+// The figures of a bucket that has its keys.
+fn full_figures<N: LiveName, R: Wait + Clock + Print>(
+    rt: &R,
+    alloc: Global,
+    plan: Plan,
+    live: &Live<N>,
+    reads: &mut Reads<'_, N>,
+    requests: &[Request],
+) -> Result<(), Fault> {
+    fill(rt, alloc, live, plan.keys)?;
+    let mut writes = Writes { live, requests };
+    figures(rt, alloc, plan, reads, &mut writes, plan.asked())
 }
 
 fn opened_figures<N: LiveName, R: Wait + Clock + Print>(

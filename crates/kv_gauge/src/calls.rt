@@ -4,7 +4,7 @@ use crate::fault::Fault;
 use crate::keys::{deletes, filters_of, keys, one_filter, puts, spread};
 use crate::plan::Plan;
 use crate::series::{Name, Series};
-use crate::subject::{empty, grow, time_writes};
+use crate::subject::{empty, fill, grow, time_writes};
 use crate::{reading, watching};
 use kv_bucket::{Bucket, Filter, Key};
 use std::alloc::Global;
@@ -157,31 +157,20 @@ fn figure<R: Clock + Print>(
     series.tell(rt)
 }
 
-fn grown_once<R: Clock>(
-    rt: &R,
-    alloc: Global,
-    keys: &[Key],
-    series: &mut Series,
-) -> Result<Bucket, Fault> {
+// The time of a put of a new key, in a bucket that is let go.
+fn growth<R: Clock>(rt: &R, alloc: Global, keys: &[Key]) -> Result<u64, Fault> {
     let mut bucket = empty(alloc)?;
-    series.add(grow(rt, alloc, &mut bucket, keys)?)?;
-    Ok(bucket)
+    grow(rt, alloc, &mut bucket, keys)
 }
 
-// Each round grows a bucket of its own; the last one is kept.
-fn grown<R: Clock + Print>(
-    rt: &R,
-    alloc: Global,
-    plan: Plan,
-    keys: &[Key],
-) -> Result<Bucket, Fault> {
-    let mut series = Series::new(alloc, Name::time("calls", "put, new key", ""), plan);
-    let mut bucket = empty(alloc)?;
+// Each round grows a bucket of its own.
+fn growths<R: Clock + Print>(rt: &R, alloc: Global, plan: Plan, keys: &[Key]) -> Result<(), Fault> {
+    let name = Name::time("calls", "put, new key", "");
+    let mut series = Series::new(alloc, name, plan);
     for _ in 0..plan.rounds {
-        bucket = grown_once(rt, alloc, keys, &mut series)?;
+        series.add(growth(rt, alloc, keys)?)?;
     }
-    series.tell(rt)?;
-    Ok(bucket)
+    series.tell(rt)
 }
 
 fn figures<R: Clock + Print>(
@@ -197,9 +186,20 @@ fn figures<R: Clock + Print>(
     Ok(())
 }
 
+fn on_a_full_bucket<R: Clock + Print>(
+    rt: &R,
+    alloc: Global,
+    plan: Plan,
+    keys: &[Key],
+) -> Result<(), Fault> {
+    let mut bucket = empty(alloc)?;
+    fill(alloc, &mut bucket, keys)?;
+    figures(rt, alloc, plan, &mut bucket)
+}
+
 /// Measures each call.
 pub fn run<R: Clock + Print>(rt: &R, alloc: Global, plan: Plan) -> Result<(), Fault> {
     let keys = keys(alloc, 0, plan.keys)?;
-    let mut bucket = grown(rt, alloc, plan, keys.as_slice())?;
-    figures(rt, alloc, plan, &mut bucket)
+    growths(rt, alloc, plan, keys.as_slice())?;
+    on_a_full_bucket(rt, alloc, plan, keys.as_slice())
 }

@@ -2,10 +2,10 @@
 
 use crate::clock::{each, since};
 use crate::fault::{Answer, Fault, check};
-use crate::keys::{VALUE, key, put};
+use crate::keys::{VALUE, key};
 use crate::plan::Plan;
 use crate::series::{Name, Series};
-use crate::subject::empty;
+use crate::subject::{empty, write};
 use kv_bucket::Bucket;
 use std::alloc::Global;
 use std::rt::Clock;
@@ -23,8 +23,7 @@ pub fn overwrite(
 ) -> Result<(), Fault> {
     for turn in 0..writes {
         let number = if keys == 0 { 0 } else { turn % keys };
-        let request = put(alloc, &key(alloc, number)?)?;
-        bucket.write(&request)?;
+        write(alloc, bucket, &key(alloc, number)?)?;
     }
     Ok(())
 }
@@ -45,12 +44,22 @@ pub fn compaction<R: Clock>(rt: &R, bucket: &mut Bucket) -> Result<u64, Fault> {
     Ok(each(took, 1))
 }
 
+// The time of a compaction behind so many writes.
+fn behind<R: Clock>(
+    rt: &R,
+    alloc: Global,
+    bucket: &mut Bucket,
+    writes: usize,
+) -> Result<u64, Fault> {
+    overwrite(alloc, bucket, KEYS, writes)?;
+    let took = compaction(rt, bucket)?;
+    is_there(alloc, bucket)?;
+    Ok(took)
+}
+
 fn measure<R: Clock>(rt: &R, alloc: Global, plan: Plan) -> Result<u64, Fault> {
     let mut bucket = empty(alloc)?;
-    overwrite(alloc, &mut bucket, KEYS, plan.keys)?;
-    let took = compaction(rt, &mut bucket)?;
-    is_there(alloc, &bucket)?;
-    Ok(took)
+    behind(rt, alloc, &mut bucket, plan.keys)
 }
 
 /// Measures compactions of so many stored writes to a thousand keys.

@@ -5,7 +5,7 @@ use crate::fault::{Answer, Fault, check};
 use crate::plan::Plan;
 use crate::series::{Name, Series};
 use crate::subject::empty;
-use kv_bucket::Bucket;
+use kv_bucket::{Bucket, Version};
 use std::alloc::Global;
 use std::fs;
 use std::rt::Files;
@@ -88,6 +88,17 @@ fn held<R: Files + AllocGlobal>(
 ) -> Result<u64, Fault> {
     overwrite(alloc, bucket, count, count)?;
     let snapshot = bucket.version().snapshot()?;
+    beside(rt, alloc, bucket, count, &snapshot)
+}
+
+// Another write to each key, while the version before them is held.
+fn beside<R: Files + AllocGlobal>(
+    rt: &R,
+    alloc: Global,
+    bucket: &mut Bucket,
+    count: usize,
+    snapshot: &Version,
+) -> Result<u64, Fault> {
     let took = keys(rt, alloc, bucket, count)?;
     check(snapshot.revision() == count as u64, Answer::Revision)?;
     Ok(took)
@@ -112,11 +123,21 @@ fn weigh<R: Files + AllocGlobal>(
     what: What,
 ) -> Result<u64, Fault> {
     let mut bucket = empty(alloc)?;
+    weigh_in(rt, alloc, &mut bucket, plan.keys, what)
+}
+
+fn weigh_in<R: Files + AllocGlobal>(
+    rt: &R,
+    alloc: Global,
+    bucket: &mut Bucket,
+    count: usize,
+    what: What,
+) -> Result<u64, Fault> {
     match what {
-        What::Keys => keys(rt, alloc, &mut bucket, plan.keys),
-        What::Writes => writes(rt, alloc, &mut bucket, plan.keys),
-        What::Held => held(rt, alloc, &mut bucket, plan.keys),
-        What::Compacted => compacted(rt, alloc, &mut bucket, plan.keys),
+        What::Keys => keys(rt, alloc, bucket, count),
+        What::Writes => writes(rt, alloc, bucket, count),
+        What::Held => held(rt, alloc, bucket, count),
+        What::Compacted => compacted(rt, alloc, bucket, count),
     }
 }
 

@@ -24,10 +24,17 @@ pub fn config(alloc: Global) -> Result<Config, Fault> {
     })
 }
 
+/// Puts to a key.
+pub fn write(alloc: Global, bucket: &mut Bucket, key: &Key) -> Result<(), Fault> {
+    let request = put(alloc, key)?;
+    bucket.write(&request)?;
+    Ok(())
+}
+
 /// Puts to each of these keys.
 pub fn fill(alloc: Global, bucket: &mut Bucket, keys: &[Key]) -> Result<(), Fault> {
     for key in keys {
-        bucket.write(&put(alloc, key)?)?;
+        write(alloc, bucket, key)?;
     }
     Ok(())
 }
