@@ -14,6 +14,7 @@ mod literal;
 mod put;
 mod reads;
 mod rev;
+mod tries;
 mod version;
 mod wanted;
 mod writing;

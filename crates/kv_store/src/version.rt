@@ -14,6 +14,7 @@ ghost use Rattle.kv_store.specs.Standing.{StandsFor};
 ghost use Rattle.kv_store.specs.Stored.{kept_at, write_at};
 
 use crate::rev::Rev;
+use crate::tries::Tries;
 use arrayvec::ArrayString;
 use kv_keys::{Key, KvError};
 use kv_model::{Config, Write};
@@ -32,8 +33,9 @@ pub struct Version {
     pub(crate) value_limit: u64,
     pub(crate) write_limit: u64,
     pub(crate) revision_limit: u64,
-    pub(crate) by_key: Trie<Key, Vec<u64>>,
-    pub(crate) by_revision: Trie<Rev, Write>,
+    /// An array of one, since that is dropped by a call. As plain fields both tries would be dropped in place at each
+    /// exit of each function that owns a version: much code, and more to prove than the rest of the function.
+    pub(crate) tries: [Tries; 1],
     pub(crate) last: u64,
     pub(crate) values: u64,
     pub(crate) floor: u64,
@@ -73,8 +75,10 @@ impl Version {
             value_limit: config.value_limit,
             write_limit: config.write_limit,
             revision_limit: config.revision_limit,
-            by_key: Trie::new(),
-            by_revision: Trie::new(),
+            tries: [Tries {
+                by_key: Trie::new(),
+                by_revision: Trie::new(),
+            }],
             last: 0,
             values: 0,
             floor: 0,
@@ -112,8 +116,10 @@ impl Version {
             value_limit: self.value_limit,
             write_limit: self.write_limit,
             revision_limit: self.revision_limit,
-            by_key,
-            by_revision,
+            tries: [Tries {
+                by_key,
+                by_revision,
+            }],
             last: self.last,
             values,
             floor,
@@ -121,13 +127,22 @@ impl Version {
         }
     }
 
+    fn tries(&self) -> &Tries
+        ensures keys { kept_entries result.now.by_key ≡ self.now.by_key }
+        ensures writes { result.now.by_revision ≡ self.now.by_revision }
+    {
+        let [tries] = &self.tries;
+        tries
+    }
+
     // The same version, or one that is sealed.
     fn share(&self, sealed: bool) -> Result<Version, KvError>
         ensures ok { IfOk result (λ version. version ≡ record self.now { sealed = sealed }) }
         ensures err { IfErr result (λ e. e ≡ OutOfMemory) }
     {
-        let by_key = self.by_key.snapshot()?;
-        let by_revision = self.by_revision.snapshot()?;
+        let tries = self.tries();
+        let by_key = tries.by_key.snapshot()?;
+        let by_revision = tries.by_revision.snapshot()?;
         Ok(self.with_parts(by_key, by_revision, self.values, self.floor, sealed))
     }
 
@@ -189,7 +204,7 @@ impl Version {
             lookup (λ k. bytes_eq key k) (kept_entries result.now)
             ≡ unless_empty (revisions (kept self.now.config.history key acts)) }
     {
-        &self.by_key
+        &self.tries().by_key
     }
 
     /// Of each revision the write that is stored of it.
@@ -198,14 +213,14 @@ impl Version {
         ensures acts { (acts : List Act) → StandsFor acts self.now → (revision : ℕ) →
             lookup (λ r. revision == r) result.now ≡ write_at_of self.now.config.history revision acts }
     {
-        &self.by_revision
+        &self.tries().by_revision
     }
 
     /// The revisions that are kept of the key, in order. It takes no memory.
     pub fn kept_at(&self, key: &Key) -> Option<&[u64]>
         ensures { option_copied result ≡ kept_at key.now self.now }
     {
-        match self.by_key.get(key) {
+        match self.by_key().get(key) {
             Some(kept) => Some(kept.as_slice()),
             None => None,
         }
@@ -220,6 +235,6 @@ impl Version {
         if revision > self.last {
             return None;
         }
-        self.by_revision.get(&Rev::new(revision as u32))
+        self.by_revision().get(&Rev::new(revision as u32))
     }
 }
