@@ -5,6 +5,7 @@ pub mod Compact
 pub mod Digits
 pub mod Escapes
 pub mod Lines
+pub mod Objects
 pub mod Places
 pub mod PlainBase64
 pub mod PutLines

@@ -4,9 +4,8 @@ use Rattle.std.specs.Str.{is_utf8}
 use Rattle.base64.specs.Engines.{standard}
 use Rattle.base64.specs.GeneralPurpose.{encode_of}
 use Rattle.json.specs.Print.{quoted}
-use Rattle.serde_json.specs.Data.{boolean, string, object, item, Members, no_members}
-use Rattle.serde_json.specs.Written.{compact_text, has_float, members_have_float, items_have_float}
-use Rattle.serde_json.specs.View.{items_of}
+use Rattle.serde_json.specs.Data.{boolean, object, Members, no_members}
+use Rattle.serde_json.specs.Written.{compact_text}
 use Rattle.serde_json.proofs.OnLiterals.{serde_json_on_literals}
 use Rattle.kv_keys.specs.declared.error.KvError.{KvError}
 use Rattle.kv_keys.specs.declared.error.KvError.TheVariants.{OutOfMemory, BadBucket, BadConfig, BadKey, BadFilter, OptionsClash, ValueTooLarge, Sealed, JournalFull, KeyExists, WrongLastRevision, KeyNotFound, NoSuchWatch, TooManyWatches, NoReader, BadCommand, ReadFault, WriteFault, BadFloor, WatchBehind, Lagged}
@@ -125,40 +124,6 @@ keys_line keys =
     ap line (compact-object (list_fields (codes "keys") (key_items keys)) (one (codes "keys") (array_text (map quoted keys)))
     (refl, compact-array (key_items keys) (map quoted keys) (keys_are keys), tt))
 
-keys_no_float : (keys : List (List ℕ)) → items_have_float (key_items keys) ≡ false
-keys_no_float [] = refl
-keys_no_float (key ∷ keys) = keys_no_float keys
-
-pub keys_list_no_float : (keys : List (List ℕ)) → has_float (object (list_fields (codes "keys") (key_items keys))) ≡ false
-keys_list_no_float keys = rw (keys_no_float keys) refl
-
-pub key_items-of : (keys : List (List ℕ)) → items_of (map (λ key. string key) keys) ≡ key_items keys
-key_items-of [] = refl
-key_items-of (key ∷ keys) = ap (item (string key)) (key_items-of keys)
-
-detail_no_float : (error : KvError) (ms : Members) → members_have_float ms ≡ false → members_have_float (detail_fields error ms) ≡ false
-detail_no_float OutOfMemory ms h = h
-detail_no_float BadBucket ms h = h
-detail_no_float BadConfig ms h = h
-detail_no_float BadKey ms h = h
-detail_no_float BadFilter ms h = h
-detail_no_float OptionsClash ms h = h
-detail_no_float ValueTooLarge ms h = h
-detail_no_float Sealed ms h = h
-detail_no_float JournalFull ms h = h
-detail_no_float KeyExists ms h = h
-detail_no_float (WrongLastRevision last) ms h = h
-detail_no_float KeyNotFound ms h = h
-detail_no_float NoSuchWatch ms h = h
-detail_no_float TooManyWatches ms h = h
-detail_no_float NoReader ms h = h
-detail_no_float BadCommand ms h = h
-detail_no_float ReadFault ms h = h
-detail_no_float WriteFault ms h = h
-detail_no_float BadFloor ms h = h
-detail_no_float (WatchBehind watch) ms h = h
-detail_no_float (Lagged floor) ms h = h
-
 detail_are : (error : KvError) (ms : Members) (members : List Member) → AreMembers ms members → AreMembers (detail_fields error ms) (detail_members error members)
 unfolding serde_json_on_literals
 detail_are OutOfMemory ms members h = h
@@ -182,9 +147,6 @@ detail_are WriteFault ms members h = h
 detail_are BadFloor ms members h = h
 detail_are (WatchBehind watch) ms members h = (refl, refl, h)
 detail_are (Lagged floor) ms members h = (refl, refl, h)
-
-pub refusal_no_float : (error : KvError) (ms : Members) → members_have_float ms ≡ false → has_float (object (refusal_fields error ms)) ≡ false
-refusal_no_float error ms h = detail_no_float error ms h
 
 refusal_compact : (error : KvError) (ms : Members) (members : List Member) → AreMembers ms members
     → compact_text (object (refusal_fields error ms)) ≡ object_text (refusal_members error members)

@@ -1,7 +1,7 @@
 -- The text of an object that was written token by token.
-use Rattle.std.proofs.Common.{◌≡◌, List, [], ◌∷◌, ◌++◌, ap, sym, ◌∙◌, codes, flat_map, map, append_assoc, refl}
+use Rattle.std.proofs.Common.{◌≡◌, ℕ, List, [], ◌∷◌, ◌++◌, ap, sym, ◌∙◌, codes, flat_map, map, append_assoc, refl}
 use Rattle.json.specs.Print.{print}
-use Rattle.json.specs.Token.{Token, begin_object, end_object, begin_array, end_array, key}
+use Rattle.json.specs.Token.{Token, begin_object, end_object, begin_array, end_array, key, string}
 use Rattle.json.specs.Tree.{json_tokens, items_tokens}
 use Rattle.serde_json.specs.Data.{Data, object}
 use Rattle.serde_json.specs.Written.{compact_text, outline, items_outline}
@@ -9,7 +9,7 @@ use Rattle.serde_json.proofs.Texts.{print-outline}
 use Rattle.kv_model.specs.Given.{Entry}
 use Rattle.kv_script.specs.Line.{line}
 use Rattle.kv_script.specs.declared.form.Form.{Form}
-use Rattle.kv_script.specs.inside.Fields.{entry_items, list_fields}
+use Rattle.kv_script.specs.inside.Fields.{entry_items, key_items, list_fields}
 use Rattle.kv_script.specs.inside.Tokens.{found_tokens}
 
 -- the line of what was written
@@ -31,3 +31,18 @@ history_tokens read form ws =
     ap (λ rest. begin_object ∷ key (codes "entries") ∷ begin_array ∷ rest)
     (sym (append_assoc (flat_map (λ w. found_tokens form (read w)) ws) (end_array ∷ []) (end_object ∷ []))
     ∙ ap (λ items. items ++ end_object ∷ []) (entries_tokens read form ws))
+
+-- the tokens of names one after another, and the bracket at their end
+names_tokens : {K : Type 0} (name : K → List ℕ) (ks : List K)
+    → map (λ k. string (name k)) ks ++ end_array ∷ [] ≡ items_tokens (items_outline (key_items (map name ks)))
+names_tokens name [] = refl
+names_tokens name (k ∷ ks) = ap (λ rest. string (name k) ∷ rest) (names_tokens name ks)
+
+-- the tokens of a list of keys
+pub keys_tokens : {K : Type 0} (name : K → List ℕ) (ks : List K)
+    → begin_object ∷ key (codes "keys") ∷ begin_array ∷ (map (λ k. string (name k)) ks ++ end_array ∷ end_object ∷ [])
+    ≡ json_tokens (outline (object (list_fields (codes "keys") (key_items (map name ks)))))
+keys_tokens name ks =
+    ap (λ rest. begin_object ∷ key (codes "keys") ∷ begin_array ∷ rest)
+    (sym (append_assoc (map (λ k. string (name k)) ks) (end_array ∷ []) (end_object ∷ []))
+    ∙ ap (λ items. items ++ end_object ∷ []) (names_tokens name ks))

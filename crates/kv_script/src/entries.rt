@@ -1,21 +1,17 @@
 //! Entries and keys.
 
-ghost use Rattle.std.specs.Prelude.{◌≡◌, ◌++◌, ◌∷◌, [], IfOk, OnOk, OnErr, codes, map, flat_map};
-ghost use Rattle.json.specs.Token.{begin_object, end_object, begin_array, end_array, key};
-ghost use Rattle.serde_json.specs.Data.{object, array, string};
-ghost use Rattle.serde_json.specs.View.{view};
+ghost use Rattle.std.specs.Prelude.{◌≡◌, ◌++◌, ◌∷◌, [], OnOk, OnErr, codes, map, flat_map};
+ghost use Rattle.json.specs.Token.{begin_object, end_object, begin_array, end_array, key, string};
 ghost use Rattle.kv_model.specs.State.{read_entry};
-ghost use Rattle.kv_script.specs.inside.Fields.{key_items, list_fields};
 ghost use Rattle.kv_script.specs.inside.Tokens.{Appends, found_tokens};
 ghost use Rattle.kv_script.specs.Text.{entry_text, history_text, keys_text};
 
 use crate::entry::write_entry;
 use crate::form::Form;
-use crate::json_line::{append_line, append_written, line_writer};
+use crate::json_line::{append_written, line_writer};
 use json::Writer;
 use kv_keys::Key;
 use kv_model::{Op, Write};
-use serde_json::{Value, json};
 use std::alloc::{AllocError, Global};
 
 fn write_found(
@@ -122,28 +118,32 @@ pub fn append_history(
     append_written(json, out)
 }
 
-fn key_value(alloc: Global, key: &Key) -> Result<Value, AllocError>
-    ensures { IfOk result (λ v. view v ≡ string key.now) }
+fn write_names(json: &mut Writer<Global>, keys: &[&Key]) -> Result<(), AllocError>
+    ensures { Appends result json.old json.new (map (λ key. string key.now) keys.now) }
 {
-    json!(in alloc; key.as_str())
-}
-
-fn names_value(alloc: Global, keys: &[&Key]) -> Result<Value, AllocError>
-    ensures { IfOk result (λ v. view v ≡ array (key_items (map (λ key. key.now) keys.now))) }
-{
-    let mut items = Vec::new(alloc);
     for key in keys {
-        items.push(key_value(alloc, key)?)?;
+        json.string(key.as_str())?;
     }
-    Ok(Value::Array(items))
+    Ok(())
 }
 
-fn keys_value(alloc: Global, keys: &[&Key]) -> Result<Value, AllocError>
-    ensures { IfOk result
-        (λ v. view v ≡ object (list_fields (codes "keys") (key_items (map (λ key. key.now) keys.now)))) }
+fn write_list_of_names(json: &mut Writer<Global>, keys: &[&Key]) -> Result<(), AllocError>
+    ensures { Appends result json.old json.new (begin_array
+        ∷ (map (λ key. string key.now) keys.now ++ end_array ∷ end_object ∷ [])) }
 {
-    let names = names_value(alloc, keys)?;
-    json!(in alloc; {"keys": names})
+    json.begin_array()?;
+    write_names(json, keys)?;
+    json.end_array()?;
+    json.end_object()
+}
+
+fn write_keys(json: &mut Writer<Global>, keys: &[&Key]) -> Result<(), AllocError>
+    ensures { Appends result json.old json.new (begin_object ∷ key (codes "keys") ∷ begin_array
+        ∷ (map (λ key. string key.now) keys.now ++ end_array ∷ end_object ∷ [])) }
+{
+    json.begin_object()?;
+    json.key("keys")?;
+    write_list_of_names(json, keys)
 }
 
 /// The keys that match a filter.
@@ -151,6 +151,7 @@ pub fn append_keys(alloc: Global, out: &mut Vec<u8>, keys: &[&Key]) -> Result<()
     ensures ok { OnOk result (out.new.items ≡ out.old.items ++ keys_text (map (λ key. key.now) keys.now)) }
     ensures err { OnErr result (out.new.items ≡ out.old.items) }
 {
-    let value = keys_value(alloc, keys)?;
-    append_line(alloc, out, &value)
+    let mut json = line_writer(alloc)?;
+    write_keys(&mut json, keys)?;
+    append_written(json, out)
 }

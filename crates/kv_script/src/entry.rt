@@ -1,12 +1,15 @@
 //! An entry in JSON, written token by token.
 
-ghost use Rattle.std.specs.Prelude.{◌≡◌, ◌++◌, Some, codes};
+ghost use Rattle.std.specs.Prelude.{◌≡◌, ◌++◌, IfOk, Some, codes, string_bytes};
 ghost use Rattle.std.specs.Option.{option_copied};
+ghost use Rattle.base64.specs.Engines.{standard};
+ghost use Rattle.base64.specs.GeneralPurpose.{encode_of};
 ghost use Rattle.serde_json.specs.Data.{string, member};
 ghost use Rattle.kv_script.specs.inside.Fields.{parts_entry, entry_fields, head_fields, value_field, base64_field};
 ghost use Rattle.kv_script.specs.inside.Tokens.{Appends, fields_tokens, object_tokens, text_tokens, number_tokens, head_tokens, watch_fields};
 ghost use Rattle.kv_script.specs.Text.{op_text};
 
+use crate::field::{number_member, text_member};
 use crate::form::Form;
 use base64::engine::general_purpose::STANDARD;
 use json::Writer;
@@ -22,20 +25,6 @@ pub(crate) fn op_name(op: Op) -> &'static str
         Op::Delete => "DEL",
         Op::Purge => "PURGE",
     }
-}
-
-fn text_member(json: &mut Writer<Global>, name: &str, text: &str) -> Result<(), AllocError>
-    ensures { Appends result json.old json.new (text_tokens name.now text.now) }
-{
-    json.key(name)?;
-    json.string(text)
-}
-
-fn number_member(json: &mut Writer<Global>, name: &str, n: u64) -> Result<(), AllocError>
-    ensures { Appends result json.old json.new (number_tokens name.now n) }
-{
-    json.key(name)?;
-    json.u64(n)
 }
 
 fn key_and_op(json: &mut Writer<Global>, key: &str, op: Op) -> Result<(), AllocError>
@@ -154,6 +143,12 @@ fn base64_members(
     end(json, watch)
 }
 
+fn base64_of(alloc: Global, value: &[u8]) -> Result<String, AllocError>
+    ensures { IfOk result (λ text. string_bytes text ≡ encode_of standard value.now) }
+{
+    STANDARD.encode(alloc, value)
+}
+
 fn encoded_members(
     alloc: Global,
     json: &mut Writer<Global>,
@@ -167,7 +162,7 @@ fn encoded_members(
     ensures { Appends result json.old json.new
         (fields_tokens (base64_field value.now (head_fields key.now op revision size (watch_fields watch)))) }
 {
-    let base64 = STANDARD.encode(alloc, value)?;
+    let base64 = base64_of(alloc, value)?;
     base64_members(json, watch, key, op, revision, size, base64.as_str())
 }
 
@@ -207,7 +202,7 @@ fn put_members(
 {
     match form {
         Form::Base64 => {
-            let text = STANDARD.encode(alloc, value)?;
+            let text = base64_of(alloc, value)?;
             shown_members(json, watch, key, op, revision, size, text.as_str())
         }
         Form::Text => text_members(alloc, json, watch, key, op, revision, size, value),

@@ -1,6 +1,6 @@
 //! Lines whose values stand in them as they are.
 
-ghost use Rattle.std.specs.Prelude.{◌≡◌, ◌∷◌, [], MatchOption};
+ghost use Rattle.std.specs.Prelude.{◌≡◌, ◌∷◌, [], IfOk, MatchOption};
 ghost use Rattle.kv_model.specs.Requests.{put, create};
 ghost use Rattle.kv_script.specs.Commands.{Gives, put_text_command, update_text_command, text_command};
 ghost use Rattle.kv_script.specs.Words.{words_of};
@@ -10,7 +10,7 @@ use crate::grammar::plain_command;
 use crate::numbers::number_of;
 use kv_keys::{Key, KvError};
 use kv_model::Request;
-use std::alloc::Global;
+use std::alloc::{AllocError, Global};
 
 /// The first word, and what stands behind the space after it, if there is one.
 fn split_word(text: &str) -> Option<(&str, &str)>
@@ -18,6 +18,13 @@ fn split_word(text: &str) -> Option<(&str, &str)>
         (λ parts. words_of text.entry.now ≡ parts.0.now ∷ words_of parts.1.now) }
 {
     text.split_once(' ')
+}
+
+// The bytes of a text, as they stand.
+fn bytes_of(alloc: Global, text: &str) -> Result<Vec<u8>, AllocError>
+    ensures { IfOk result (λ v. v.items ≡ text.now) }
+{
+    Vec::from_slice(alloc, text.as_bytes())
 }
 
 /// `put K VALUE`
@@ -32,7 +39,7 @@ fn put_command(alloc: Global, arguments: &str) -> Result<Command, KvError>
         return Err(KvError::BadCommand);
     }
     let key = Key::parse(alloc, key)?;
-    let value = Vec::from_slice(alloc, text.as_bytes())?;
+    let value = bytes_of(alloc, text)?;
     Ok(Command::Write(Request::Put { key, value }))
 }
 
@@ -48,7 +55,7 @@ fn create_command(alloc: Global, arguments: &str) -> Result<Command, KvError>
         return Err(KvError::BadCommand);
     }
     let key = Key::parse(alloc, key)?;
-    let value = Vec::from_slice(alloc, text.as_bytes())?;
+    let value = bytes_of(alloc, text)?;
     Ok(Command::Write(Request::Create { key, value }))
 }
 
@@ -70,7 +77,7 @@ fn update_command(alloc: Global, arguments: &str) -> Result<Command, KvError>
         return Err(KvError::BadCommand);
     };
     let key = Key::parse(alloc, key)?;
-    let value = Vec::from_slice(alloc, text.as_bytes())?;
+    let value = bytes_of(alloc, text)?;
     Ok(Command::Write(Request::Update { key, value, last }))
 }
 

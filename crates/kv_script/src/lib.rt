@@ -6,6 +6,7 @@ mod choices;
 mod command;
 mod entries;
 mod entry;
+mod field;
 mod form;
 mod grammar;
 mod in_text;

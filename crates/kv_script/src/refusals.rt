@@ -1,126 +1,128 @@
 //! Refusals.
 
-ghost use Rattle.std.specs.Prelude.{◌≡◌, ◌++◌, IfOk, OnOk, OnErr};
+ghost use Rattle.std.specs.Prelude.{◌≡◌, ◌++◌, OnOk, OnErr};
 ghost use Rattle.serde_json.specs.Data.{object, no_members};
-ghost use Rattle.serde_json.specs.View.{view};
-ghost use Rattle.kv_script.specs.inside.Fields.{worker_field, refusal_fields, detail_fields, plain_fields, last_field, behind_field, floor_field};
+ghost use Rattle.serde_json.specs.Written.{compact_text};
+ghost use Rattle.kv_script.specs.inside.Fields.{number_field, worker_field, plain_fields, refusal_fields};
+ghost use Rattle.kv_script.specs.Line.{line};
 ghost use Rattle.kv_script.specs.Text.{refusal_text, worker_refusal_text};
 
-use crate::json_line::append_line;
+use crate::field::{Field, append_object};
 use kv_keys::KvError;
-use serde_json::{Value, json};
 use std::alloc::{AllocError, Global};
 
-fn plain_value(alloc: Global, error: KvError) -> Result<Value, AllocError>
-    ensures { IfOk result (λ v. view v ≡ object (plain_fields error no_members)) }
+fn append_plain(alloc: Global, out: &mut Vec<u8>, error: KvError) -> Result<(), AllocError>
+    ensures ok { OnOk result (out.new.items
+        ≡ out.old.items ++ line (compact_text (object (plain_fields error no_members)))) }
+    ensures err { OnErr result (out.new.items ≡ out.old.items) }
 {
-    json!(in alloc; {"code": error.code(), "error": error.name()})
+    append_object(
+        alloc,
+        out,
+        &[
+            Field::Number("code", error.code()),
+            Field::Text("error", error.name()),
+        ],
+    )
 }
 
-fn last_value(alloc: Global, error: KvError, last: u64) -> Result<Value, AllocError>
-    ensures { IfOk result (λ v. view v ≡ object (plain_fields error (last_field last no_members))) }
+// A refusal that carries a number of this name.
+fn append_carrying(
+    alloc: Global,
+    out: &mut Vec<u8>,
+    error: KvError,
+    name: &str,
+    n: u64,
+) -> Result<(), AllocError>
+    ensures ok { OnOk result (out.new.items
+        ≡ out.old.items ++ line (compact_text (object (plain_fields error (number_field name.now n no_members))))) }
+    ensures err { OnErr result (out.new.items ≡ out.old.items) }
 {
-    json!(in alloc; {"code": error.code(), "error": error.name(), "last": last})
+    append_object(
+        alloc,
+        out,
+        &[
+            Field::Number("code", error.code()),
+            Field::Text("error", error.name()),
+            Field::Number(name, n),
+        ],
+    )
 }
 
-fn behind_value(alloc: Global, error: KvError, watch: u64) -> Result<Value, AllocError>
-    ensures { IfOk result (λ v. view v ≡ object (plain_fields error (behind_field watch no_members))) }
-{
-    json!(in alloc; {"code": error.code(), "error": error.name(), "watch": watch})
-}
-
-fn floor_value(alloc: Global, error: KvError, floor: u64) -> Result<Value, AllocError>
-    ensures { IfOk result (λ v. view v ≡ object (plain_fields error (floor_field floor no_members))) }
-{
-    json!(in alloc; {"code": error.code(), "error": error.name(), "floor": floor})
-}
-
-fn refusal_value(alloc: Global, error: KvError) -> Result<Value, AllocError>
-    ensures { IfOk result (λ v. view v ≡ object (refusal_fields error no_members)) }
+// What a refusal says, by the number that it carries.
+fn append_said(alloc: Global, out: &mut Vec<u8>, error: KvError) -> Result<(), AllocError>
+    ensures ok { OnOk result (out.new.items
+        ≡ out.old.items ++ line (compact_text (object (refusal_fields error no_members)))) }
+    ensures err { OnErr result (out.new.items ≡ out.old.items) }
 {
     match error {
-        KvError::WrongLastRevision { last } => last_value(alloc, error, last),
-        KvError::WatchBehind { watch } => behind_value(alloc, error, watch),
-        KvError::Lagged { floor } => floor_value(alloc, error, floor),
-        _ => plain_value(alloc, error),
+        KvError::WrongLastRevision { last } => append_carrying(alloc, out, error, "last", last),
+        KvError::WatchBehind { watch } => append_carrying(alloc, out, error, "watch", watch),
+        KvError::Lagged { floor } => append_carrying(alloc, out, error, "floor", floor),
+        _ => append_plain(alloc, out, error),
     }
 }
 
 /// A refusal, with its number and its name, and the number that it carries.
+#[tactic(auto, using(crate::proofs::Lines::refusal_line))]
 pub fn append_refusal(alloc: Global, out: &mut Vec<u8>, error: KvError) -> Result<(), AllocError>
     ensures ok { OnOk result (out.new.items ≡ out.old.items ++ refusal_text error) }
     ensures err { OnErr result (out.new.items ≡ out.old.items) }
 {
-    let value = refusal_value(alloc, error)?;
-    append_line(alloc, out, &value)
+    append_said(alloc, out, error)
 }
 
-fn plain_worker_value(alloc: Global, error: KvError, worker: u64) -> Result<Value, AllocError>
-    ensures { IfOk result (λ v. view v ≡ object (plain_fields error (worker_field worker))) }
-{
-    json!(in alloc; {"code": error.code(), "error": error.name(), "worker": worker})
-}
-
-fn last_worker_value(
+fn append_carrying_of_worker(
     alloc: Global,
-    error: KvError,
-    last: u64,
+    out: &mut Vec<u8>,
     worker: u64,
-) -> Result<Value, AllocError>
-    ensures { IfOk result (λ v. view v ≡ object (plain_fields error (last_field last (worker_field worker)))) }
+    error: KvError,
+    name: &str,
+    n: u64,
+) -> Result<(), AllocError>
+    ensures ok { OnOk result (out.new.items
+        ≡ out.old.items ++ line (compact_text (object (plain_fields error
+        (number_field name.now n (worker_field worker)))))) }
+    ensures err { OnErr result (out.new.items ≡ out.old.items) }
 {
-    json!(in alloc; {
-        "code": error.code(),
-        "error": error.name(),
-        "last": last,
-        "worker": worker
-    })
+    append_object(
+        alloc,
+        out,
+        &[
+            Field::Number("code", error.code()),
+            Field::Text("error", error.name()),
+            Field::Number(name, n),
+            Field::Number("worker", worker),
+        ],
+    )
 }
 
-fn behind_worker_value(
+fn append_said_of_worker(
     alloc: Global,
-    error: KvError,
-    watch: u64,
+    out: &mut Vec<u8>,
     worker: u64,
-) -> Result<Value, AllocError>
-    ensures { IfOk result (λ v. view v ≡ object (plain_fields error (behind_field watch (worker_field worker)))) }
-{
-    json!(in alloc; {
-        "code": error.code(),
-        "error": error.name(),
-        "watch": watch,
-        "worker": worker
-    })
-}
-
-fn floor_worker_value(
-    alloc: Global,
     error: KvError,
-    floor: u64,
-    worker: u64,
-) -> Result<Value, AllocError>
-    ensures { IfOk result (λ v. view v ≡ object (plain_fields error (floor_field floor (worker_field worker)))) }
-{
-    json!(in alloc; {
-        "code": error.code(),
-        "error": error.name(),
-        "floor": floor,
-        "worker": worker
-    })
-}
-
-fn worker_refusal_value(alloc: Global, error: KvError, worker: u64) -> Result<Value, AllocError>
-    ensures { IfOk result (λ v. view v ≡ object (refusal_fields error (worker_field worker))) }
+) -> Result<(), AllocError>
+    ensures ok { OnOk result (out.new.items
+        ≡ out.old.items ++ line (compact_text (object (refusal_fields error (worker_field worker))))) }
+    ensures err { OnErr result (out.new.items ≡ out.old.items) }
 {
     match error {
-        KvError::WrongLastRevision { last } => last_worker_value(alloc, error, last, worker),
-        KvError::WatchBehind { watch } => behind_worker_value(alloc, error, watch, worker),
-        KvError::Lagged { floor } => floor_worker_value(alloc, error, floor, worker),
-        _ => plain_worker_value(alloc, error, worker),
+        KvError::WrongLastRevision { last } => {
+            append_carrying_of_worker(alloc, out, worker, error, "last", last)
+        }
+        KvError::WatchBehind { watch } => {
+            append_carrying_of_worker(alloc, out, worker, error, "watch", watch)
+        }
+        KvError::Lagged { floor } => {
+            append_carrying_of_worker(alloc, out, worker, error, "floor", floor)
+        }
+        _ => append_carrying(alloc, out, error, "worker", worker),
     }
 }
 
 /// A refusal of a worker of a race. Workers count from 1.
+#[tactic(auto, using(crate::proofs::Lines::worker_refusal_line))]
 pub fn append_worker_refusal(
     alloc: Global,
     out: &mut Vec<u8>,
@@ -130,6 +132,5 @@ pub fn append_worker_refusal(
     ensures ok { OnOk result (out.new.items ≡ out.old.items ++ worker_refusal_text worker error) }
     ensures err { OnErr result (out.new.items ≡ out.old.items) }
 {
-    let value = worker_refusal_value(alloc, error, worker)?;
-    append_line(alloc, out, &value)
+    append_said_of_worker(alloc, out, worker, error)
 }

@@ -1,6 +1,6 @@
 -- What a writer of JSON has written of an entry, token by token, for clauses of this crate alone.
-use Rattle.std.specs.Prelude.{◌≡◌, ℕ, List, [], ◌∷◌, ◌++◌, Result, OnOk, codes, decimal, Option, Some, None}
-use Rattle.json.specs.Token.{Token, begin_object, key, string, number}
+use Rattle.std.specs.Prelude.{◌≡◌, ℕ, Bool, List, [], ◌∷◌, ◌++◌, Result, OnOk, codes, decimal, Option, Some, None}
+use Rattle.json.specs.Token.{Token, begin_object, key, string, number, boolean}
 use Rattle.json.specs.Tree.{members_tokens}
 use Rattle.json.specs.Written.{Written}
 use Rattle.serde_json.specs.Data.{Members, no_members}
@@ -27,6 +27,9 @@ text_tokens name text = key name ∷ string text ∷ []
 
 abbrev pub number_tokens : List ℕ → ℕ → List Token
 number_tokens name n = key name ∷ number (decimal n) ∷ []
+
+abbrev pub truth_tokens : List ℕ → Bool → List Token
+truth_tokens name truth = key name ∷ boolean truth ∷ []
 
 -- what an entry has but for its value
 abbrev pub head_tokens : List ℕ → Op → ℕ → ℕ → List Token

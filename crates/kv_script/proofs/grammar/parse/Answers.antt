@@ -1,9 +1,13 @@
-use Rattle.std.proofs.Common.{◌≡◌, nat_le, false, true, length, refl, arith}
+use Rattle.std.proofs.Common.{◌≡◌, nat_le, false, true, length, refl, arith, rules}
 use Rattle.std.specs.Str.{is_utf8}
 use Rattle.std.proofs.lemmas.Bool.{false_from_ne_true, le-leb}
 use Rattle.std.proofs.lemmas.Str.{IsUtf8-from_is_utf8, is_utf8-from_IsUtf8}
 use Rattle.kv_script.specs.Commands.{line_command}
 use Rattle.kv_script.proofs.grammar.parse.Goals as goal
+
+pub returns-then-line-gt-MOST_OF_LINE : goal.returns-then-line-gt-MOST_OF_LINE
+unfolding line_command
+returns-then-line-gt-MOST_OF_LINE c = search rules
 
 pub returns-in_default : goal.returns-in_default
 unfolding line_command
