@@ -1,8 +1,9 @@
 use Rattle.std.proofs.Common.{Err, ap}
+use Rattle.std.proofs.lemmas.Result.{on_ok_weaker}
 use Rattle.kv_replay.specs.Text.{line_text, line_next}
 use Rattle.kv_replay.specs.inside.Reading.{said}
 use Rattle.kv_replay.specs.declared.lines.TheConstants.{KEPT_BYTES}
-use Rattle.kv_replay.proofs.Pours.{poured_front_part, poured_part}
+use Rattle.kv_replay.proofs.Pours.{poured_all, poured_front, poured_front_part, poured_part}
 use Rattle.kv_replay.proofs.Progress.{err_of}
 use Rattle.kv_replay.proofs.engine.answer_bytes.Goals as goal
 
@@ -20,3 +21,19 @@ returns-in_err-write-in-Err-OutOfMemory-clause-write_fault g c = λ fault. (
       poured_front_part (said KEPT_BYTES (line_text c.args.form) (line_next c.args.form) r c.args.bytes.now) _ _ _ _ _ c.deref-in-Err-OutOfMemory.ensures.value
       (rw c.new-out.ensures.items at (c.in-Err-OutOfMemory.ensures.memory (ap Err c.in-Err-OutOfMemory.field-0-is) r holding)) c.in_err-write-in-Err-OutOfMemory.ensures.err,
 )
+
+pub returns-in-Ok-clause-ok : goal.returns-in-Ok-clause-ok
+returns-in-Ok-clause-ok g c = on_ok_weaker c.write.result (λ wrote r holding.
+    (poured_all (said KEPT_BYTES (line_text c.args.form) (line_next c.args.form) r c.args.bytes.now) _ _ _ _ _ c.deref.ensures.value (rw c.new-out.ensures.items at (c.in-Ok.ensures.ok r holding).0) wrote, (c.in-Ok.ensures.ok r holding).1)) c.write.ensures.ok
+
+pub returns-in-Err-OutOfMemory-clause-memory : goal.returns-in-Err-OutOfMemory-clause-memory
+returns-in-Err-OutOfMemory-clause-memory g c = λ fault r holding.
+    poured_front (said KEPT_BYTES (line_text c.args.form) (line_next c.args.form) r c.args.bytes.now) _ _ _ _ _ c.deref-in-Err-OutOfMemory.ensures.value
+    (rw c.new-out.ensures.items at (c.in-Err-OutOfMemory.ensures.memory (ap Err c.in-Err-OutOfMemory.field-0-is) r holding)) c.in_ok-write-in-Err-OutOfMemory.ensures.ok
+
+pub returns-in-Err-OutOfMemory-clause-same : goal.returns-in-Err-OutOfMemory-clause-same
+returns-in-Err-OutOfMemory-clause-same g c =
+    g.met.K.Output.goes_on_later _ _ _ c.in-Err-OutOfMemory.ensures.same c.in_ok-write-in-Err-OutOfMemory.ensures.same
+
+pub returns-in-Ok-clause-same : goal.returns-in-Ok-clause-same
+returns-in-Ok-clause-same g c = g.met.K.Output.goes_on_later _ _ _ c.in-Ok.ensures.same c.write.ensures.same

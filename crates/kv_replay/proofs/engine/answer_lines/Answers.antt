@@ -69,3 +69,23 @@ returns-then-count-eq0-clause-in_time g c = λ begins. in_time_still _ _ _ c.in_
 
 pub returns-in_err-answer_bytes-clause-in_time : goal.returns-in_err-answer_bytes-clause-in_time
 returns-in_err-answer_bytes-clause-in_time g c = λ begins. in_time_still _ _ _ c.in_ok-count.ensures.late (c.reads.invariant.in_time begins)
+
+pub returns-in_err-count-clause-same_source : goal.returns-in_err-count-clause-same_source
+returns-in_err-count-clause-same_source g c =
+    g.met.S.BoundedInput.goes_on_later _ _ _ c.reads.invariant.same_source c.in_err-count.ensures.same
+
+pub returns-then-count-eq0-clause-same_source : goal.returns-then-count-eq0-clause-same_source
+returns-then-count-eq0-clause-same_source g c =
+    g.met.S.BoundedInput.goes_on_later _ _ _ c.reads.invariant.same_source c.in_ok-count.ensures.same
+
+pub returns-then-count-eq0-clause-same_sink : goal.returns-then-count-eq0-clause-same_sink
+returns-then-count-eq0-clause-same_sink g c =
+    g.met.K.Output.goes_on_later _ _ _ c.reads.invariant.same_sink c.answer_end.ensures.same
+
+pub returns-in_err-answer_bytes-clause-same_source : goal.returns-in_err-answer_bytes-clause-same_source
+returns-in_err-answer_bytes-clause-same_source g c =
+    g.met.S.BoundedInput.goes_on_later _ _ _ c.reads.invariant.same_source c.in_ok-count.ensures.same
+
+pub returns-in_err-answer_bytes-clause-same_sink : goal.returns-in_err-answer_bytes-clause-same_sink
+returns-in_err-answer_bytes-clause-same_sink g c =
+    g.met.K.Output.goes_on_later _ _ _ c.reads.invariant.same_sink c.in_err-answer_bytes.ensures.same

@@ -1,5 +1,5 @@
 use Rattle.std.proofs.Common.{sym, ◌∙◌, arith}
-use Rattle.kv_replay.proofs.Taking.{poured_all, poured_fault, poured_last, poured_none, poured_one}
+use Rattle.kv_replay.proofs.Taking.{poured_all, poured_fault, poured_last, poured_none, poured_one, poured_part}
 use Rattle.kv_replay.proofs.takes.pour_takes.Goals as goal
 
 pub loop-init : goal.loop-init
@@ -34,3 +34,21 @@ loop-preserved g c = record {
 
 pub returns-clause-ok : goal.returns-clause-ok
 returns-clause-ok g c = λ state stands. poured_all state _ _ _ _ _ _ _ _ (c.loop.invariant.poured state stands) (omega arith)
+
+pub returns-in_err-goes_on-clause-memory : goal.returns-in_err-goes_on-clause-memory
+returns-in_err-goes_on-clause-memory g c = λ fault state stands.
+    rw c.in_err-goes_on.ensures.err.0 (poured_part state _ _ _ _ _ _ _ _ (c.loop.invariant.poured state stands))
+
+pub returns-in_err-goes_on-clause-same : goal.returns-in_err-goes_on-clause-same
+returns-in_err-goes_on-clause-same g c = c.loop.invariant.same
+
+pub returns-in_err-pour_many-clause-same : goal.returns-in_err-pour_many-clause-same
+returns-in_err-pour_many-clause-same g c =
+    g.met.K.Output.goes_on_later _ _ _ c.loop.invariant.same c.in_err-pour_many.ensures.same
+
+pub returns-then-not-goes_on-clause-same : goal.returns-then-not-goes_on-clause-same
+returns-then-not-goes_on-clause-same g c =
+    g.met.K.Output.goes_on_later _ _ _ c.loop.invariant.same c.in_ok-pour_many.ensures.same
+
+pub returns-clause-same : goal.returns-clause-same
+returns-clause-same g c = c.loop.invariant.same

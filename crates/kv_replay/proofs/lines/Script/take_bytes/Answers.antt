@@ -1,5 +1,6 @@
 use Rattle.std.proofs.Common.{◌<◌, length, arith, rules}
-use Rattle.kv_replay.proofs.TakingBytes.{drop_here, took_fault, took_none, took_one, took_part}
+use Rattle.std.proofs.lemmas.List.{drop_all}
+use Rattle.kv_replay.proofs.TakingBytes.{drop_here, took_all, took_fault, took_none, took_one, took_part}
 use Rattle.kv_replay.proofs.lines.Script.take_bytes.Goals as goal
 
 pub loop-byte-preserved : goal.loop-byte-preserved
@@ -33,3 +34,14 @@ loop-byte-init g c = record {
   same = g.met.K.Output.goes_on_itself _;
   took = λ r holding. took_none r _ _ _ _ holding;
 }
+
+pub returns-in_err-take_byte-clause-same : goal.returns-in_err-take_byte-clause-same
+returns-in_err-take_byte-clause-same g c =
+    g.met.K.Output.goes_on_later _ _ _ c.loop-byte.invariant.same c.in_err-take_byte.ensures.same
+
+pub returns-clause-same : goal.returns-clause-same
+returns-clause-same g c = c.loop-byte.invariant.same
+
+pub returns-clause-ok : goal.returns-clause-ok
+returns-clause-ok g c = λ r holding.
+    took_all r _ _ _ _ _ _ _ (drop_all c.loop-byte.byte-index c.args.bytes.now (omega arith)) (c.loop-byte.invariant.took r holding)
