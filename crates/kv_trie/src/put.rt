@@ -61,9 +61,9 @@ fn put_beside<K: Place + Drop, V: Drop, C: Companion>(
     requires place { place ≡ K.place_of (arc_value pair).0 }
     requires ready { C.ready companion.old }
     ensures form { IfOk result (IsFormWith K.cmp K.place_of left (arc_value pair) (arc_value old.now ∷ [])) }
-    ensures done { OnOk result (C.done companion.old companion.new) }
-    ensures kept { OnErr result ((companion.new ≡ companion.old) ⊎ C.kept companion.old companion.new) }
-    ensures err { IfErr result (λ error. error ≡ OutOfMemory) }
+    ensures companion { (OnOk result (C.done companion.old companion.new))
+        × (OnErr result ((companion.new ≡ companion.old) ⊎ C.kept companion.old companion.new))
+        × (IfErr result (λ error. error ≡ OutOfMemory)) }
 {
     if pair.0.cmp(&old.0).is_eq() {
         companion.commit()?;
@@ -96,10 +96,10 @@ fn put_below<K: Place + Drop, V: Drop, C: Companion>(
     requires ready { C.ready companion.old }
     ensures branch { OnOk result (AreFormsWith K.cmp K.place_of left (arc_value pair)
         (pairs_in (child_slots children.old)) (child_slots children.new)) }
-    ensures done { OnOk result (C.done companion.old companion.new) }
     ensures unchanged { OnErr result (child_slots children.new ≡ child_slots children.old) }
-    ensures kept { OnErr result ((companion.new ≡ companion.old) ⊎ C.kept companion.old companion.new) }
-    ensures err { IfErr result (λ error. error ≡ OutOfMemory) }
+    ensures companion { (OnOk result (C.done companion.old companion.new))
+        × (OnErr result ((companion.new ≡ companion.old) ⊎ C.kept companion.old companion.new))
+        × (IfErr result (λ error. error ≡ OutOfMemory)) }
 {
     let at = index(place, left - 1);
     put(alloc, &mut children[at], left - 1, place, pair, companion)
@@ -122,10 +122,10 @@ fn put_in_branch<K: Place + Drop, V: Drop, C: Companion>(
     requires ready { C.ready companion.old }
     ensures branch { OnOk result (AreFormsWith K.cmp K.place_of left (arc_value pair)
         (pairs_in (child_slots (arc_value children.old))) (child_slots (arc_value children.new))) }
-    ensures done { OnOk result (C.done companion.old companion.new) }
     ensures unchanged { OnErr result (child_slots (arc_value children.new) ≡ child_slots (arc_value children.old)) }
-    ensures kept { OnErr result ((companion.new ≡ companion.old) ⊎ C.kept companion.old companion.new) }
-    ensures err { IfErr result (λ error. error ≡ OutOfMemory) }
+    ensures companion { (OnOk result (C.done companion.old companion.new))
+        × (OnErr result ((companion.new ≡ companion.old) ⊎ C.kept companion.old companion.new))
+        × (IfErr result (λ error. error ≡ OutOfMemory)) }
 {
     unshare(alloc, children)?;
     let own = Arc::make_mut(children)?;

@@ -1,4 +1,4 @@
-use Rattle.std.proofs.Common.{refl, ◌∙◌, ap}
+use Rattle.std.proofs.Common.{rules, refl, ◌∙◌, ap}
 use Rattle.std.proofs.lemmas.Result.{on_ok_weaker}
 use Rattle.kv_trie.specs.Form.{order, put_pair}
 use Rattle.kv_trie.proofs.Maps.{lookup-put}
@@ -14,3 +14,9 @@ returns-clause-second_map g c =
     let made = done pair refl ∙ ap (put_pair (order g.K2.Ord.cmp place 11) pair) c.replace.ensures.value in
     rw made (lookup-put total place g.met.K2.Place.respects_equal 11 pair c.args.second.now q))
     c.put_with-put.ensures.done
+
+pub returns-clause-pairs : goal.returns-clause-pairs
+returns-clause-pairs g c = search rules
+
+pub returns-clause-unchanged : goal.returns-clause-unchanged
+returns-clause-unchanged g c = search rules

@@ -1,5 +1,5 @@
-use Rattle.std.proofs.Common.{map, sym, ap, ◌∙◌}
-use Rattle.std.proofs.lemmas.List.{map-set}
+use Rattle.std.proofs.Common.{map, sym, ap, ◌∙◌, arith}
+use Rattle.std.proofs.lemmas.List.{length-map, map-set}
 use Rattle.std.specs.Arc.{arc_value}
 use Rattle.std.specs.List.{insert}
 use Rattle.kv_trie.proofs.Clones.{map-insert}
@@ -17,3 +17,16 @@ returns-in-Ok-insert-clause-pairs g c =
     ∙ map-insert arc_value c.reserve.new.self.items c.in-Err.at c.args.pair
     ∙ ap (λ l. insert (map arc_value l) c.in-Err.at (arc_value c.args.pair)) c.reserve.ensures.items
     ∙ sym (gap.put (arc_value c.args.pair).1)
+
+pub index_mut-requires : goal.index_mut-requires
+index_mut-requires g c =
+    let place = rw c.deref.ensures.value at c.in-Ok.ensures.found in
+    omega (arith, place.within, length-map c.args.pairs.now.items arc_value, c.args.pairs.now.ok.0)
+
+pub insert-requires : goal.insert-requires
+insert-requires g c =
+    let gap = rw c.deref.ensures.value at c.in-Err.ensures.absent in
+    omega (arith, gap.within, length-map c.args.pairs.now.items arc_value, c.args.pairs.now.ok.0, c.reserve.ensures.len)
+
+pub unreachable-requires : goal.unreachable-requires
+unreachable-requires g c = omega (arith, c.in-Err-insert.ensures.full, c.in_ok-reserve-in-Err.ensures.ok)

@@ -1,4 +1,4 @@
-use Rattle.std.proofs.Common.{rules, ◌≡◌, ◌-◌, ◌<◌, length, refl, sym, ap, ◌∙◌, arith}
+use Rattle.std.proofs.Common.{rules, ◌≡◌, ◌-◌, ◌<◌, length, Some, refl, sym, ap, ◌∙◌, arith}
 use Rattle.std.proofs.lemmas.Result.{on_ok_weaker, on_err_weaker}
 use Rattle.std.specs.Arc.{arc_value}
 use Rattle.std.specs.Result.{IsOk, OnOk, OnErr}
@@ -8,7 +8,7 @@ use Rattle.std.proofs.Math.Seq.{map-set_same}
 use Rattle.kv_trie.specs.declared.node.Node.TheVariants.{Branch, List as Row}
 use Rattle.kv_trie.specs.declared.node.Node.TheViews.{the_lemmas}
 use Rattle.kv_trie.specs.inside.Change.{IsFormWith, AreFormsWith}
-use Rattle.kv_trie.specs.Form.{AreForms, order, node_pairs, pairs_in, index_of}
+use Rattle.kv_trie.specs.Form.{AreForms, branch, row, order, node_pairs, pairs_in, index_of}
 use Rattle.kv_trie.specs.Stored.{shape_of, slots_from, child_slots}
 use Rattle.kv_trie.proofs.Branches.{is_branch, child_is, child_form, slots_with}
 use Rattle.kv_trie.proofs.Changes.{form_with, forms_with, leaf_for, two_with, list_with, equal_from_is_eq, apart_from_is_eq, alone_forms}
@@ -114,3 +114,19 @@ put_beside-returns-clause-form g t c =
     let apart : cmp pair.0 old.0 ≡ Equal → ⊥ = λ e. apart_from_is_eq c.cmp.result (sym c.if-is_eq.ensures) (compared ∙ e) in
     let with = rw (c.in_ok-branch.ensures.ok, c.alone.ensures, c.in_ok-other.ensures) at c.in_ok-put_in_branch.ensures.branch in
     form_with cmp place (omega arith) (two_with cmp place left pair old apart) (record { slots = _; shape = shape_of-Branch c.put_in_branch.new.children; with = with })
+
+pub put-returns-in-Branch-clause-unchanged : goal.put-returns-in-Branch-clause-unchanged
+put-returns-in-Branch-clause-unchanged g t c =
+    let old = ap shape_of c.in-Branch.is ∙ shape_of-Branch c.in-Branch.children in
+    let same : OnErr c.put_in_branch.result (shape_of (Branch c.put_in_branch.new.children) ≡ shape_of c.args.node.now) =
+    on_err_weaker c.put_in_branch.result (λ same. shape_of-Branch c.put_in_branch.new.children ∙ ap (λ s. Some (branch s)) same ∙ sym old) (rw c.in-Branch.children-is at c.put_in_branch.ensures.unchanged)
+    in
+    search (rules, the_lemmas)
+
+pub put-returns-in-List-clause-unchanged : goal.put-returns-in-List-clause-unchanged
+put-returns-in-List-clause-unchanged g t c =
+    let old = ap shape_of c.in-List.is ∙ shape_of-List c.in-List.pairs in
+    let same : OnErr c.put_in_shared.result (shape_of (Row c.put_in_shared.new.list) ≡ shape_of c.args.node.now) =
+    on_err_weaker c.put_in_shared.result (λ same. shape_of-List c.put_in_shared.new.list ∙ ap (λ s. Some (row s)) same ∙ sym old) (rw c.in-List.pairs-is at c.put_in_shared.ensures.unchanged)
+    in
+    search (rules, the_lemmas)

@@ -1,8 +1,13 @@
 use Rattle.std.proofs.Common.{◌-◌, ◌<◌, length, get_or, ap, ◌∙◌, arith}
+use Rattle.std.proofs.lemmas.List.{length-map}
+use Rattle.std.proofs.lemmas.Result.{on_ok_weaker}
+use Rattle.std.specs.Arc.{arc_value}
+use Rattle.kv_trie.specs.Form.{node_pairs}
 use Rattle.kv_trie.specs.Retain.{is_wanted, children_so_far}
 use Rattle.kv_trie.specs.Stored.{shape_of, child_slots}
 use Rattle.kv_trie.proofs.Branches.{child_is}
 use Rattle.kv_trie.proofs.Retaining.{partly_none, partly_whole, partly_changed, partly_count, child_is_form, child_count, slots_changed, branch_left, whole_left}
+use Rattle.kv_trie.proofs.Stored.{shape_of-List}
 use Rattle.kv_trie.proofs.retain.+retain.Goals as goal
 use Rattle.kv_trie.proofs.retain.+retain.Goals.{retain_below-in-Some+in_ok-changed-in-Some, retain_below-in-None}
 
@@ -73,3 +78,14 @@ pub retain_below-returns-in-None-rest-clause-count :
     goal.retain_below-returns-in-None-rest-clause-count
 retain_below-returns-in-None-rest-clause-count g t c =
     partly_count g.K.Ord.cmp g.K.Place.place_of (is_wanted (g.W.Wants.wanted c.args.wants.now)) (c.args.left - 1) c.loop-index.index c.args.gone.now c.loop-index.gone _ _ c.loop-index-test.false c.loop-index.invariant.1
+
+pub retain-retain_listed-requires-clause-count : goal.retain-retain_listed-requires-clause-count
+retain-retain_listed-requires-clause-count g t c =
+    let pairs = ap node_pairs (ap shape_of c.in-List.is ∙ shape_of-List c.in-List.pairs) in
+    omega (arith, ap length pairs, length-map (arc_value c.in-List.pairs).items arc_value, ap (λ v. length v.items) c.deref-in-List.ensures, c.requires.count)
+
+pub retain-returns-in-List-clause-count : goal.retain-returns-in-List-clause-count
+retain-returns-in-List-clause-count g t c =
+    let pairs = ap node_pairs (ap shape_of c.in-List.is ∙ shape_of-List c.in-List.pairs) in
+    let n = length-map (arc_value c.in-List.pairs).items arc_value in
+    rw pairs (on_ok_weaker c.retain_listed.result (λ count. omega (arith, count, n)) (rw c.deref-in-List.ensures at c.retain_listed.ensures.count))
