@@ -7,6 +7,7 @@ ghost use Rattle.kv_c.specs.Feeding.{HandsNext, HasHanded, IsRefreshed, Opens, l
 ghost use Rattle.kv_keys.specs.declared.error.KvError.TheVariants.{Lagged, OutOfMemory};
 ghost use Rattle.kv_model.specs.Acts.{Act};
 ghost use Rattle.kv_model.specs.Answers.{answer_item};
+ghost use Rattle.kv_watch.specs.Following.{IsOpening};
 
 use crate::handing::{self, Item};
 use kv_bucket::{Filters, KvError, Options, Version};
@@ -33,6 +34,17 @@ impl Model for Feed {
     ghost view = { λ f. record { base = f.base.value; kept = f.kept; present = f.present; cursor = f.cursor } };
 }
 
+// What is kept of a version for a cursor that was opened on it, and the version itself. A function of its own, so that
+// nothing else is owned where a snapshot is refused.
+fn begun(version: &Version, cursor: &Cursor) -> Result<(Option<Version>, Version), KvError>
+    ensures ok { IfOk result (λ begun. IsOpening begun.0 version.now cursor.now × (begun.1 ≡ version.now)) }
+    ensures err { IfErr result (λ e. e ≡ OutOfMemory) }
+{
+    let base = version.snapshot()?;
+    let present = version.snapshot()?;
+    Ok((cursor.keep(base), present))
+}
+
 impl Feed {
     /// A feed that begins with a version.
     pub(crate) fn open(
@@ -44,12 +56,11 @@ impl Feed {
         ensures ok { IfOk result (λ feed. Opens version.now filters.now options feed) }
         ensures err { IfErr result (λ e. e ≡ OutOfMemory) }
     {
-        let base = version.snapshot()?;
-        let present = version.snapshot()?;
         let cursor = Cursor::open(alloc, version, filters, options)?;
+        let (kept, present) = begun(version, &cursor)?;
         Ok(Feed {
             base: Snapshot::of(version),
-            kept: cursor.keep(base),
+            kept,
             present,
             cursor,
         })
