@@ -78,6 +78,13 @@ fn next_revision<N: LiveName>(feed: &mut Feed<N>) -> u64 {
     }
 }
 
+// Of the entries before the compaction only the last is left.
+fn hands_out_the_last<N: LiveName, R: Abort>(rt: &R, feed: &mut Feed<N>) {
+    assert_eq!(rt; next_revision(feed), 5);
+    assert!(rt; matches!(feed.take(), Taken::Marker));
+    assert!(rt; matches!(feed.take(), Taken::Empty));
+}
+
 fn five_writes_of_three<N: LiveName, R: Wait + Abort>(
     rt: &R,
     alloc: Global,
@@ -89,9 +96,7 @@ fn five_writes_of_three<N: LiveName, R: Wait + Abort>(
     write_some(rt, alloc, live, 5)?;
 
     let mut feed = go_on(feed, filters)?;
-    assert_eq!(rt; next_revision(&mut feed), 5);
-    assert!(rt; matches!(feed.take(), Taken::Marker));
-    assert!(rt; matches!(feed.take(), Taken::Empty));
+    hands_out_the_last(rt, &mut feed);
     Ok(())
 }
 

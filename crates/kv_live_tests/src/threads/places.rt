@@ -73,12 +73,22 @@ pub(super) fn left_behind<N: LiveName, R: Wait + Abort>(
 ) -> Result<(), KvError> {
     calls(rt, alloc, live, &[(Call::Put("a"), Answer::Number(1))]);
     let mut feed = feed_of_last(alloc, readers)?;
-    calls(rt, alloc, live, &[(Call::Put("b"), Answer::Number(2))]);
-    equal(rt, left_by(&mut feed), Answer::On(1, 0));
-    moves(rt, &mut feed, ON_THE_SECOND);
-    calls(rt, alloc, live, &[(Call::Compact(2), Answer::Done)]);
-    moves(rt, &mut feed, COMPACTED);
+    goes_on_without_it(rt, alloc, live, &mut feed);
     Ok(())
+}
+
+// The feed hands out the version that it leaves, and goes on to what a write and a compaction made.
+fn goes_on_without_it<N: LiveName, R: Wait + Abort>(
+    rt: &R,
+    alloc: Global,
+    live: &Live<N>,
+    feed: &mut Feed<N>,
+) {
+    calls(rt, alloc, live, &[(Call::Put("b"), Answer::Number(2))]);
+    equal(rt, left_by(feed), Answer::On(1, 0));
+    moves(rt, feed, ON_THE_SECOND);
+    calls(rt, alloc, live, &[(Call::Compact(2), Answer::Done)]);
+    moves(rt, feed, COMPACTED);
 }
 
 fn left_by<N: LiveName>(feed: &mut Feed<N>) -> Answer {
