@@ -35,6 +35,22 @@ impl<N: LiveName> Model for Copies<N> {
     ghost view = { λ p. (manually_drop_value p.writer).desk.shown.value.glimpse.sight.log };
 }
 
+// A writer that shows two copies of a shelf.
+fn writer_on<N: LiveName>(
+    alloc: Global,
+    shelf: &Shelf,
+    readers: usize,
+) -> Result<Writer<Shelf, Shelf, (), Published<N>>, KvError>
+    requires of { IsOf N.opening shelf.now }
+    requires readers { (0 < readers) × (readers < 2 ^ 32) }
+    ensures { MatchResult result (λ w. w.desk.shown.value.glimpse.sight.log ≡ shelf.now.glimpse.sight.log)
+        (λ e. e ≡ OutOfMemory) }
+{
+    let first = shelf.again()?;
+    let second = shelf.again()?;
+    Ok(Writer::new(alloc, first, second, readers)?)
+}
+
 impl<N: LiveName> Copies<N> {
     fn of(writer: Writer<Shelf, Shelf, (), Published<N>>, head: Head<N>) -> Copies<N>
         ensures { result ≡ writer.desk.shown.value.glimpse.sight.log }
@@ -44,28 +60,40 @@ impl<N: LiveName> Copies<N> {
         Copies { writer, head }
     }
 
-    /// Two copies that are alike, with room for so many readers. The third shelf is the first that is pending: it makes
-    /// the room in which all later ones find a place.
+    /// Two copies of a shelf, with room for so many readers. The third is the first that is pending: it makes the room
+    /// in which all later ones find a place.
     pub fn new<R: Wait>(
         rt: &R,
         alloc: Global,
         head: Head<N>,
-        first: Shelf,
-        second: Shelf,
-        third: Shelf,
+        shelf: &Shelf,
         readers: usize,
     ) -> Result<Copies<N>, KvError>
-        requires of { IsOf N.opening first }
-        requires alike { (first.glimpse.sight ≡ second.glimpse.sight) × (first.version.config ≡ second.version.config) }
+        requires of { IsOf N.opening shelf.now }
         requires readers { (0 < readers) × (readers < 2 ^ 32) }
-        ensures { MatchResult result (λ p. p ≡ first.glimpse.sight.log) (λ e. e ≡ OutOfMemory) }
+        ensures { MatchResult result (λ p. p ≡ shelf.now.glimpse.sight.log) (λ e. e ≡ OutOfMemory) }
     {
-        let mut writer = Writer::new(alloc, first, second, readers)?;
-        if writer.append(third).is_err() {
-            Copies::of(writer, head).close(rt);
-            return Err(KvError::OutOfMemory);
+        let third = shelf.again()?;
+        let writer = writer_on(alloc, shelf, readers)?;
+        Copies::pending(rt, writer, head, third).ok_or(KvError::OutOfMemory)
+    }
+
+    // The copies with a shelf that is pending. Where it is refused they have ended.
+    fn pending<R: Wait>(
+        rt: &R,
+        mut writer: Writer<Shelf, Shelf, (), Published<N>>,
+        head: Head<N>,
+        shelf: Shelf,
+    ) -> Option<Copies<N>>
+        ensures { IfSome result (λ p. p ≡ writer.desk.shown.value.glimpse.sight.log) }
+    {
+        let refused = writer.append(shelf).is_err();
+        let copies = Copies::of(writer, head);
+        if refused {
+            copies.close(rt);
+            return None;
         }
-        Ok(Copies::of(writer, head))
+        Some(copies)
     }
 
     /// A new place for a reader.

@@ -96,6 +96,32 @@ fn readers_and_bell<N: LiveName>(
     Ok((readers, publisher.bell()?))
 }
 
+// What this lies under the lock of, and its readers. Where they are refused it has ended.
+fn live_of<N: LiveName, R: Wait>(
+    rt: &R,
+    keeper: Keeper<N>,
+    readers: usize,
+) -> Result<(Live<N>, Vec<Reader<N>>), KvError>
+    ensures ok { IfOk result
+        (λ r. (length r.1.items ≡ readers)
+        × All (λ reader. (reader.seen ≡ []) × (reader.told ≡ keeper.published)) r.1.items) }
+    ensures err { IfErr result IsUnread }
+{
+    match readers_and_bell(&keeper.publisher, readers) {
+        Ok((readers, bell)) => {
+            let live = Live {
+                keeper: Mutex::new(keeper),
+                bell,
+            };
+            Ok((live, readers))
+        }
+        Err(refusal) => {
+            keeper.close(rt);
+            Err(refusal)
+        }
+    }
+}
+
 impl Opened {
     /// The bucket under a name, and its readers, which have seen nothing. Where it is refused the opening ends.
     pub fn live<N: LiveName, R: Wait>(self, rt: &R) -> Result<(Live<N>, Vec<Reader<N>>), KvError>
@@ -112,19 +138,7 @@ impl Opened {
             readers,
         } = self;
         let publisher: Publisher<N> = Publisher::new(rt, alloc, blank, bucket.version(), readers)?;
-        match readers_and_bell(&publisher, readers) {
-            Ok((readers, bell)) => {
-                let live = Live {
-                    keeper: Mutex::new(Keeper { bucket, publisher }),
-                    bell,
-                };
-                Ok((live, readers))
-            }
-            Err(refusal) => {
-                publisher.close(rt, bucket.version());
-                Err(refusal)
-            }
-        }
+        live_of(rt, Keeper { bucket, publisher }, readers)
     }
 }
 

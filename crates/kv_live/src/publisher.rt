@@ -100,30 +100,38 @@ fn show<N: LiveName, R: Wait>(
     (Some(copies), Ok(()))
 }
 
-// The copies of an opening of which this is published.
-fn copies_of<N: LiveName, R: Wait>(
-    rt: &R,
+// What a publisher begins with besides its copies: its bell, the empty shelf, and the two ends of its history, of which
+// nothing is published.
+fn beginning<N: LiveName>(
     alloc: Global,
-    head: Head<N>,
-    shelf: &Shelf,
-    readers: usize,
-) -> Result<Copies<N>, KvError>
-    requires of { IsOf N.opening shelf.now }
-    requires readers { (0 < readers) × (readers < 2 ^ 32) }
-    ensures { MatchResult result (λ p. p ≡ shelf.now.glimpse.sight.log) (λ e. e ≡ OutOfMemory) }
+    blank: Blank,
+    version: &Version,
+) -> Result<(Bell<N>, Shelf, Front<N>, Head<N>), KvError>
+    requires book { blank.sight.book ≡ N.opening.book }
+    requires config { version.now.config ≡ N.opening.config }
+    requires stands { StandsFor [] version.now }
+    ensures { MatchResult result (λ r. IsOf N.opening r.1 × (r.1.glimpse.sight.log ≡ []) × (r.2 ≡ []))
+        (λ e. e ≡ OutOfMemory) }
 {
-    let first = shelf.again()?;
-    let second = shelf.again()?;
-    let third = shelf.again()?;
-    Copies::new(rt, alloc, head, first, second, third, readers)
+    let bell = Bell::new(alloc)?;
+    let version = version.snapshot()?;
+    let Blank { length, sight } = blank;
+    let front: Front<N> = Front::new(sight);
+    let empty = Shelf::new(version, front.glimpse());
+    Ok((bell, empty, front, Head::new(length)))
 }
 
 // Puts the copies in their place, which is empty. What stands there would end.
 fn put<N: LiveName, R: Wait>(rt: &R, place: &mut Option<Copies<N>>, copies: Option<Copies<N>>)
     ensures { place.new ≡ copies }
 {
-    if let Some(stray) = mem::replace(place, copies) {
-        stray.close(rt);
+    end(rt, mem::replace(place, copies));
+}
+
+// Ends the copies, if there are any.
+fn end<N: LiveName, R: Wait>(rt: &R, copies: Option<Copies<N>>) {
+    if let Some(copies) = copies {
+        copies.close(rt);
     }
 }
 
@@ -143,11 +151,8 @@ impl<N: LiveName> Publisher<N> {
         requires readers { (0 < readers) × (readers < 2 ^ 16) }
         ensures { MatchResult result (λ p. p ≡ showing []) (λ e. e ≡ OutOfMemory) }
     {
-        let bell = Bell::new(alloc)?;
-        let Blank { length, sight } = blank;
-        let front: Front<N> = Front::new(sight);
-        let empty = Shelf::new(version.snapshot()?, front.glimpse());
-        let copies: Copies<N> = copies_of(rt, alloc, Head::new(length), &empty, readers)?;
+        let (bell, empty, front, head) = beginning(alloc, blank, version)?;
+        let copies = Copies::new(rt, alloc, head, &empty, readers)?;
         Ok(Publisher {
             alloc,
             bell,
@@ -207,13 +212,25 @@ impl<N: LiveName> Publisher<N> {
         ensures err { IfErr result IsUnread }
     {
         let mut readers = Vec::with_capacity(self.alloc, count)?;
+        self.fill(&mut readers, count)?;
+        Ok(readers)
+    }
+
+    // Adds readers to none, until there are as many.
+    fn fill(&self, readers: &mut Vec<Reader<N>>, count: usize) -> Result<(), KvError>
+        requires { readers.old.items ≡ [] }
+        ensures ok { OnOk result
+            ((length readers.new.items ≡ count)
+            × All (λ r. (r.seen ≡ []) × (r.told ≡ self.now.acts)) readers.new.items) }
+        ensures err { IfErr result IsUnread }
+    {
         while readers.len() < count {
             let reader = self.reader()?;
             if readers.push(reader).is_err() {
                 return Err(KvError::OutOfMemory);
             }
         }
-        Ok(readers)
+        Ok(())
     }
 
     /// The bell that it rings.
@@ -245,21 +262,34 @@ impl<N: LiveName> Publisher<N> {
         requires stands { StandsFor self.acts version.now }
         requires config { version.now.config ≡ N.opening.config }
     {
+        self.leave(version);
+        let (bell, copies) = self.into_bell_and_copies();
+        end(rt, copies);
+        bell.close();
+    }
+
+    // What an end still needs of it.
+    fn into_bell_and_copies(self) -> (Bell<N>, Option<Copies<N>>) {
         let Publisher {
             alloc: _,
             bell,
             empty: _,
-            front,
+            front: _,
             noted: _,
             copies,
             recent: _,
         } = self;
+        (bell, copies)
+    }
+
+    // Leaves the version of what is published for readers that come later.
+    fn leave(&self, version: &Version)
+        requires stands { StandsFor self.now.acts version.now }
+        requires config { version.now.config ≡ N.opening.config }
+    {
         if let Ok(version) = version.snapshot() {
-            bell.leave(Last::new(Shelf::new(version, front.glimpse())));
+            self.bell
+                .leave(Last::new(Shelf::new(version, self.front.glimpse())));
         }
-        if let Some(copies) = copies {
-            copies.close(rt);
-        }
-        bell.close();
     }
 }

@@ -162,8 +162,7 @@ impl<N: LiveName> Reader<N> {
         ensures err { IfErr result IsUnread }
     {
         for _ in rt.forever() {
-            let version = self.version()?;
-            if version.revision() >= revision {
+            if let Some(version) = self.version_from(revision)? {
                 return Ok(Some(version));
             }
             if self.wait(rt) == Woken::Closed {
@@ -171,6 +170,24 @@ impl<N: LiveName> Reader<N> {
             }
         }
         unreachable!()
+    }
+
+    // The version that is published, if it has at least this revision.
+    fn version_from(&mut self, revision: u64) -> Result<Option<Version>, KvError>
+        ensures later { IsPrefix self.old.seen self.new.seen }
+        ensures told { self.new.told ≡ self.old.told }
+        ensures ok { IfOk result
+            (λ found. IfSome found
+            (λ v. StandsFor self.new.seen v × (v.config ≡ N.opening.config) × (revision ≤ v.last))) }
+        ensures learned { IfOk result (λ _. IsPrefix self.old.told self.new.seen) }
+        ensures err { IfErr result IsUnread }
+    {
+        let version = self.version()?;
+        if version.revision() >= revision {
+            Ok(Some(version))
+        } else {
+            Ok(None)
+        }
     }
 
     /// What is published.

@@ -45,3 +45,36 @@ returns-clause-ok g c =
     let put : kept_after old (Compact floor) next ≡ new = kept_same old was.bucket c.keep.new.bucket (Compact floor) next c.keep.new.publisher refl posted bucket in
     let step : IsKeptStep old (calls.Compact floor) (Compacted floor) (kept_after old (Compact floor) next) = λ state at. at_compact state old floor next on (may state at) at in
     subst (λ (k : Kept). IsKeptStep k (calls.Compact floor) (Compacted floor) new) c.self.view_is (subst (λ (k : Kept). IsKeptStep old (calls.Compact floor) (Compacted floor) k) put step)
+
+pub returns-in_err-may_compact-clause-refused : goal.returns-in_err-may_compact-clause-refused
+returns-in_err-may_compact-clause-refused g c = search rules
+
+pub returns-in_err-may_compact-clause-unchanged : goal.returns-in_err-may_compact-clause-unchanged
+returns-in_err-may_compact-clause-unchanged g c = search rules
+
+pub returns-in_err-next-clause-unchanged : goal.returns-in_err-next-clause-unchanged
+returns-in_err-next-clause-unchanged g c = search rules
+
+pub returns-in_err-keep-clause-refused : goal.returns-in_err-keep-clause-refused
+returns-in_err-keep-clause-refused g c = search rules
+
+pub returns-in_err-keep-clause-unchanged : goal.returns-in_err-keep-clause-unchanged
+returns-in_err-keep-clause-unchanged g c = search rules
+
+pub keep-requires-clause-stands : goal.keep-requires-clause-stands
+keep-requires-clause-stands g c = search rules
+
+pub keep-requires-clause-config : goal.keep-requires-clause-config
+keep-requires-clause-config g c = search rules
+
+pub returns-clause-refused : goal.returns-clause-refused
+returns-clause-refused g c = search rules
+
+pub returns-clause-open : goal.returns-clause-open
+returns-clause-open g c = search rules
+
+pub returns-clause-unchanged : goal.returns-clause-unchanged
+returns-clause-unchanged g c = search rules
+
+pub invariant_of-self-in_err-keep : goal.invariant_of-self-in_err-keep
+invariant_of-self-in_err-keep g c = search rules

@@ -38,3 +38,33 @@ returns-clause-ok g c =
     let put : kept_after old Seal next ≡ new = kept_same old was.bucket c.keep.new.bucket Seal next c.keep.new.publisher refl posted bucket in
     let step : IsKeptStep old calls.Seal Sealed (kept_after old Seal next) = λ state at. (refl, at_act state old Seal next (goes_on old Seal next refl same stands) at) in
     subst (λ (k : Kept). IsKeptStep k calls.Seal Sealed new) c.self.view_is (subst (λ (k : Kept). IsKeptStep old calls.Seal Sealed k) put step)
+
+pub returns-in_err-next-clause-err : goal.returns-in_err-next-clause-err
+returns-in_err-next-clause-err g c = search rules
+
+pub returns-in_err-next-clause-unchanged : goal.returns-in_err-next-clause-unchanged
+returns-in_err-next-clause-unchanged g c = search rules
+
+pub returns-in_err-keep-clause-err : goal.returns-in_err-keep-clause-err
+returns-in_err-keep-clause-err g c = search rules
+
+pub returns-in_err-keep-clause-unchanged : goal.returns-in_err-keep-clause-unchanged
+returns-in_err-keep-clause-unchanged g c = search rules
+
+pub keep-requires-clause-stands : goal.keep-requires-clause-stands
+keep-requires-clause-stands g c = search rules
+
+pub keep-requires-clause-config : goal.keep-requires-clause-config
+keep-requires-clause-config g c = search rules
+
+pub returns-clause-open : goal.returns-clause-open
+returns-clause-open g c = search rules
+
+pub returns-clause-err : goal.returns-clause-err
+returns-clause-err g c = search rules
+
+pub returns-clause-unchanged : goal.returns-clause-unchanged
+returns-clause-unchanged g c = search rules
+
+pub invariant_of-self-in_err-keep : goal.invariant_of-self-in_err-keep
+invariant_of-self-in_err-keep g c = search rules

@@ -1,3 +1,4 @@
+use Rattle.std.proofs.Common.{rules}
 use Rattle.kv_model.specs.declared.stopped.Stopped.{Stopped}
 use Rattle.kv_model.specs.declared.call.Call.TheVariants as calls
 use Rattle.kv_model.specs.Answers.{Ended}
@@ -10,3 +11,12 @@ invariant_of-self g c =
     let was = c.self.inside in
     let old : Kept = kept_of was.bucket was.publisher in
     somewhere_quiet (calls.Stop c.args.number) (λ (stopped : Stopped). Ended stopped.handed) g.N.LiveName.opening.config old c.stop.new.self c.stop.result (quiet_stop c.args.number) c.self.invariant c.stop.ensures.ok c.stop.ensures.unchanged
+
+pub returns-clause-ok : goal.returns-clause-ok
+returns-clause-ok g c = search rules
+
+pub returns-clause-open : goal.returns-clause-open
+returns-clause-open g c = search rules
+
+pub returns-clause-unchanged : goal.returns-clause-unchanged
+returns-clause-unchanged g c = search rules

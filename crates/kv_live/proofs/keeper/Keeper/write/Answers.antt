@@ -61,3 +61,33 @@ returns-clause-published g c =
     let posted : c.keep.new.publisher ≡ posted_after old (Wrote accepted.0) = search rules in
     let there = publishes config old (asked c.args.request.now) accepted.0 next c.revision-revision.result c.keep.new.publisher.acts some accepted.1.0 accepted.1.1 c.revision-revision.ensures.value (ap (λ (p : Posted). p.acts) posted) in
     subst (λ (k : Kept). PublishesWrite config (asked c.args.request.now) c.revision-revision.result k.published c.keep.new.publisher.acts) c.self.view_is there
+
+pub returns-in_err-next-clause-refused : goal.returns-in_err-next-clause-refused
+returns-in_err-next-clause-refused g c = search rules
+
+pub returns-in_err-next-clause-unchanged : goal.returns-in_err-next-clause-unchanged
+returns-in_err-next-clause-unchanged g c = search rules
+
+pub returns-in_err-keep-clause-refused : goal.returns-in_err-keep-clause-refused
+returns-in_err-keep-clause-refused g c = search rules
+
+pub returns-in_err-keep-clause-unchanged : goal.returns-in_err-keep-clause-unchanged
+returns-in_err-keep-clause-unchanged g c = search rules
+
+pub keep-requires-clause-stands : goal.keep-requires-clause-stands
+keep-requires-clause-stands g c = search rules
+
+pub keep-requires-clause-config : goal.keep-requires-clause-config
+keep-requires-clause-config g c = search rules
+
+pub returns-clause-refused : goal.returns-clause-refused
+returns-clause-refused g c = search rules
+
+pub returns-clause-open : goal.returns-clause-open
+returns-clause-open g c = search rules
+
+pub returns-clause-unchanged : goal.returns-clause-unchanged
+returns-clause-unchanged g c = search rules
+
+pub unreachable-unreachable : goal.unreachable-unreachable
+unreachable-unreachable g c = search rules
