@@ -45,5 +45,5 @@ As text: printf 'put greeting hello, you\\nget greeting\\n' | kvbucket --text
 Each command is shown with its answer in docs/script.md.
 ";
 
-/// The text of `--version`: the program's version, and the logic that it is proved with, which releases of the kit share.
+/// The text of `--version`: the program's version, and the logic that it is proved with. Releases of the kit share it.
 pub const VERSION: &str = "kvbucket 0.1.0, proved with Rattle's logic dac8208d650f15bf\n";
