@@ -54,11 +54,20 @@ fn copies<C: Copies, R: Wait + Clock>(
 }
 
 // What the rounds of the three calls gave.
-#[derive(Drop)]
 struct Measured {
     got: Series,
     put: Series,
     copy: Series,
+}
+
+impl Drop for Measured {
+    fn drop(self) {
+        let Self {
+            got: _,
+            put: _,
+            copy: _,
+        } = self;
+    }
 }
 
 impl Measured {

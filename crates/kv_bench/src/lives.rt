@@ -37,11 +37,20 @@ pub fn fill<N: LiveName, R: Wait>(
 }
 
 /// A reader, with the version that it keeps, and the keys that it reads.
-#[derive(Drop)]
 pub struct Reads<'a, N: LiveName> {
     reader: Reader<N>,
     cached: Cached<N>,
     keys: &'a [Key],
+}
+
+impl<'a, N: LiveName> Drop for Reads<'a, N> {
+    fn drop(self) {
+        let Self {
+            reader: _,
+            cached: _,
+            keys: _,
+        } = self;
+    }
 }
 
 impl<'a, N: LiveName> Reads<'a, N> {

@@ -38,11 +38,20 @@ pub fn most(task: Task) -> usize {
 }
 
 /// What rounds with so many others gave: what the others did, and the writer's writes and its processor time.
-#[derive(Drop)]
 pub struct Told {
     others: Series,
     writes: Series,
     busy: Series,
+}
+
+impl Drop for Told {
+    fn drop(self) {
+        let Self {
+            others: _,
+            writes: _,
+            busy: _,
+        } = self;
+    }
 }
 
 fn of(over: Over, task: Task) -> &'static str {

@@ -17,12 +17,22 @@ use std::marker::Model;
 /// A bucket: its version, and at most 64 watches that are open. It keeps the allocator that it was opened with.
 ///
 /// Contracts say which states of the model it represents, and that each call is one step of the model.
-#[derive(Drop)]
 pub struct Bucket {
     pub(crate) version: Version,
     pub(crate) watches: Vec<Held>,
     pub(crate) opened: u64,
     pub(crate) alloc: Global,
+}
+
+impl Drop for Bucket {
+    fn drop(self) {
+        let Self {
+            version: _,
+            watches: _,
+            opened: _,
+            alloc: _,
+        } = self;
+    }
 }
 
 impl Model for Bucket {

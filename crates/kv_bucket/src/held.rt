@@ -12,12 +12,22 @@ use std::snapshot::Snapshot;
 
 /// A watch that is open: its number, how far it has come, and a snapshot of the version that it was opened on, as long
 /// as it owes initial entries. Contracts go on to see that version; it has no bytes any more.
-#[derive(Drop)]
 pub(crate) struct Held {
     number: u64,
     base: Snapshot<Version>,
     pub(crate) kept: Option<Version>,
     pub(crate) cursor: Cursor,
+}
+
+impl Drop for Held {
+    fn drop(self) {
+        let Self {
+            number: _,
+            base: _,
+            kept: _,
+            cursor: _,
+        } = self;
+    }
 }
 
 impl Model for Held {

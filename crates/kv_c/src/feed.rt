@@ -18,12 +18,22 @@ use std::snapshot::Snapshot;
 
 /// A watch: the version that it was opened on, as contracts see it and as long as initial entries are owed, the one
 /// that it has gone on to, and how far it has come.
-#[derive(Drop)]
 pub struct Feed {
     base: Snapshot<Version>,
     kept: Option<Version>,
     present: Version,
     cursor: Cursor,
+}
+
+impl Drop for Feed {
+    fn drop(self) {
+        let Self {
+            base: _,
+            kept: _,
+            present: _,
+            cursor: _,
+        } = self;
+    }
 }
 
 impl Model for Feed {

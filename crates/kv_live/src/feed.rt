@@ -37,20 +37,38 @@ use std::time::Duration;
 
 /// A watch that takes no lock: it goes on from version to version as it is refreshed. Contracts see its reader, the
 /// acts when it was opened, those that its version stands for, what it shows, and how many items it handed out.
-#[derive(Drop)]
 pub struct Feed<N: LiveName> {
     reader: Reader<N>,
     held: Held,
     cursor: Cursor,
 }
 
+impl<N: LiveName> Drop for Feed<N> {
+    fn drop(self) {
+        let Self {
+            reader: _,
+            held: _,
+            cursor: _,
+        } = self;
+    }
+}
+
 // What a feed was opened on, as contracts see it and as long as initial entries are owed, and what it went on to: one
 // field, which `take` lends from.
-#[derive(Drop)]
 struct Held {
     base: Snapshot<Shelf>,
     kept: Option<Version>,
     current: Shelf,
+}
+
+impl Drop for Held {
+    fn drop(self) {
+        let Self {
+            base: _,
+            kept: _,
+            current: _,
+        } = self;
+    }
 }
 
 impl<N: LiveName> Model for Feed<N> {

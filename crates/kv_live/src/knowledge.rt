@@ -18,11 +18,20 @@ use std::marker::Model;
 
 /// What a reader of the opening N has seen, what it was told, and how many acts the version stands for that it took in
 /// last. Contracts see the acts of the first two.
-#[derive(Drop)]
 pub struct Knowledge<N: LiveName> {
     seen: Front<N>,
     told: Front<N>,
     taken_in: u64,
+}
+
+impl<N: LiveName> Drop for Knowledge<N> {
+    fn drop(self) {
+        let Self {
+            seen: _,
+            told: _,
+            taken_in: _,
+        } = self;
+    }
 }
 
 impl<N: LiveName> Model for Knowledge<N> {

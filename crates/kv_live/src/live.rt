@@ -29,12 +29,22 @@ const MOST_READERS: usize = 32;
 
 /// An opening that has no name yet. Contracts see which history and which configuration it is of, and for how many
 /// readers.
-#[derive(Drop)]
 pub struct Opened {
     alloc: Global,
     bucket: Bucket,
     blank: Blank,
     readers: usize,
+}
+
+impl Drop for Opened {
+    fn drop(self) {
+        let Self {
+            alloc: _,
+            bucket: _,
+            blank: _,
+            readers: _,
+        } = self;
+    }
 }
 
 impl Model for Opened {

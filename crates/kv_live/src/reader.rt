@@ -29,13 +29,24 @@ use std::time::Duration;
 
 /// A reader of the opening N. It takes no lock. Contracts see it as the acts that it has seen, and those that it was
 /// told of.
-#[derive(Drop)]
 pub struct Reader<N: LiveName> {
     alloc: Global,
     bell: Bell<N>,
     seat: Option<Seat<Shelf, (), Published<N>>>,
     knowledge: Knowledge<N>,
     empty: Shelf,
+}
+
+impl<N: LiveName> Drop for Reader<N> {
+    fn drop(self) {
+        let Self {
+            alloc: _,
+            bell: _,
+            seat: _,
+            knowledge: _,
+            empty: _,
+        } = self;
+    }
 }
 
 impl<N: LiveName> Model for Reader<N> {

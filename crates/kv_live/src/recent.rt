@@ -6,10 +6,15 @@ use std::mem;
 /// The last two versions that were published. While they are held here no reader is the last to let one go: that one
 /// would free what the version has alone, and write to the counts of owners of all that lies beside it, to which the
 /// next write of the bucket writes, too. So readers that take a version and soon let it go free nothing.
-#[derive(Drop)]
 pub struct Recent {
     last: Option<Version>,
     before: Option<Version>,
+}
+
+impl Drop for Recent {
+    fn drop(self) {
+        let Self { last: _, before: _ } = self;
+    }
 }
 
 impl Recent {

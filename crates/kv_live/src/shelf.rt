@@ -14,10 +14,18 @@ use std::alloc::AllocError;
 use std::marker::Model;
 
 /// A version, and a glimpse of the history: the version stands for its acts.
-#[derive(Drop)]
 pub struct Shelf {
     version: Version,
     glimpse: Glimpse,
+}
+
+impl Drop for Shelf {
+    fn drop(self) {
+        let Self {
+            version: _,
+            glimpse: _,
+        } = self;
+    }
 }
 
 impl Model for Shelf {

@@ -42,12 +42,22 @@ impl Op {
 }
 
 /// An accepted write.
-#[derive(Drop)]
 pub struct Write {
     key: Key,
     op: Op,
     value: Vec<u8>,
     revision: u64,
+}
+
+impl Drop for Write {
+    fn drop(self) {
+        let Self {
+            key: _,
+            op: _,
+            value: _,
+            revision: _,
+        } = self;
+    }
 }
 
 impl Model for Write {

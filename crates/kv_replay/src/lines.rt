@@ -20,10 +20,15 @@ use std::marker::Model;
 pub const KEPT_BYTES: usize = 1_400_001;
 
 /// A script that is being read.
-#[derive(Drop)]
 pub(crate) struct Script {
     bucket: Bucket,
     line: Vec<u8>,
+}
+
+impl Drop for Script {
+    fn drop(self) {
+        let Self { bucket: _, line: _ } = self;
+    }
 }
 
 impl Model for Script {

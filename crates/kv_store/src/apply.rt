@@ -40,11 +40,10 @@ impl Version {
         let kept = next_kept(alloc, self.history, write.op(), revision, before)?;
         let entries = (self.values + kept.len() as u64).saturating_sub(before.len() as u64);
         let key = write.key().copy(alloc)?;
-        let [tries] = &mut self.tries;
         put_write(
             alloc,
-            &mut tries.by_key,
-            &mut tries.by_revision,
+            &mut self.by_key,
+            &mut self.by_revision,
             key,
             kept,
             write,

@@ -14,7 +14,6 @@ mod literal;
 mod put;
 mod reads;
 mod rev;
-mod tries;
 mod version;
 mod wanted;
 mod writing;

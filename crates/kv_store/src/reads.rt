@@ -39,7 +39,7 @@ impl Version {
         ensures acts { (acts : List Act) → StandsFor acts self.now →
             result ≡ length (stored_writes self.now.config.history acts) }
     {
-        self.by_revision().len()
+        self.by_revision.len()
     }
 
     /// The history bound, the last revision, whether writes have ended, and how many writes are stored and how many

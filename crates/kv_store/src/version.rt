@@ -14,7 +14,6 @@ ghost use Rattle.kv_store.specs.Standing.{StandsFor};
 ghost use Rattle.kv_store.specs.Stored.{kept_at, write_at};
 
 use crate::rev::Rev;
-use crate::tries::Tries;
 use arrayvec::ArrayString;
 use kv_keys::{Key, KvError};
 use kv_model::{Config, Write};
@@ -26,20 +25,36 @@ use std::marker::Model;
 /// one as it is; `write` and `compact_in_place` change this one, and no other.
 ///
 /// Contracts see what it stores, and say which lists of accepted acts that stands for.
-#[derive(Drop)]
 pub struct Version {
     pub(crate) name: ArrayString<64>,
     pub(crate) history: u64,
     pub(crate) value_limit: u64,
     pub(crate) write_limit: u64,
     pub(crate) revision_limit: u64,
-    /// An array of one, since that is dropped by a call. As plain fields both tries would be dropped in place at each
-    /// exit of each function that owns a version: much code, and more to prove than the rest of the function.
-    pub(crate) tries: [Tries; 1],
+    pub(crate) by_key: Trie<Key, Vec<u64>>,
+    pub(crate) by_revision: Trie<Rev, Write>,
     pub(crate) last: u64,
     pub(crate) values: u64,
     pub(crate) floor: u64,
     pub(crate) sealed: bool,
+}
+
+impl Drop for Version {
+    fn drop(self) {
+        let Self {
+            name: _,
+            history: _,
+            value_limit: _,
+            write_limit: _,
+            revision_limit: _,
+            by_key: _,
+            by_revision: _,
+            last: _,
+            values: _,
+            floor: _,
+            sealed: _,
+        } = self;
+    }
 }
 
 impl Model for Version {
@@ -75,10 +90,8 @@ impl Version {
             value_limit: config.value_limit,
             write_limit: config.write_limit,
             revision_limit: config.revision_limit,
-            tries: [Tries {
-                by_key: Trie::new(),
-                by_revision: Trie::new(),
-            }],
+            by_key: Trie::new(),
+            by_revision: Trie::new(),
             last: 0,
             values: 0,
             floor: 0,
@@ -116,10 +129,8 @@ impl Version {
             value_limit: self.value_limit,
             write_limit: self.write_limit,
             revision_limit: self.revision_limit,
-            tries: [Tries {
-                by_key,
-                by_revision,
-            }],
+            by_key,
+            by_revision,
             last: self.last,
             values,
             floor,
@@ -127,22 +138,13 @@ impl Version {
         }
     }
 
-    fn tries(&self) -> &Tries
-        ensures keys { kept_entries result.now.by_key ≡ self.now.by_key }
-        ensures writes { result.now.by_revision ≡ self.now.by_revision }
-    {
-        let [tries] = &self.tries;
-        tries
-    }
-
     // The same version, or one that is sealed.
     fn share(&self, sealed: bool) -> Result<Version, KvError>
         ensures ok { IfOk result (λ version. version ≡ record self.now { sealed = sealed }) }
         ensures err { IfErr result (λ e. e ≡ OutOfMemory) }
     {
-        let tries = self.tries();
-        let by_key = tries.by_key.snapshot()?;
-        let by_revision = tries.by_revision.snapshot()?;
+        let by_key = self.by_key.snapshot()?;
+        let by_revision = self.by_revision.snapshot()?;
         Ok(self.with_parts(by_key, by_revision, self.values, self.floor, sealed))
     }
 
@@ -204,7 +206,7 @@ impl Version {
             lookup (λ k. bytes_eq key k) (kept_entries result.now)
             ≡ unless_empty (revisions (kept self.now.config.history key acts)) }
     {
-        &self.tries().by_key
+        &self.by_key
     }
 
     /// Of each revision the write that is stored of it.
@@ -213,14 +215,14 @@ impl Version {
         ensures acts { (acts : List Act) → StandsFor acts self.now → (revision : ℕ) →
             lookup (λ r. revision == r) result.now ≡ write_at_of self.now.config.history revision acts }
     {
-        &self.tries().by_revision
+        &self.by_revision
     }
 
     /// The revisions that are kept of the key, in order. It takes no memory.
     pub fn kept_at(&self, key: &Key) -> Option<&[u64]>
         ensures { option_copied result ≡ kept_at key.now self.now }
     {
-        match self.by_key().get(key) {
+        match self.by_key.get(key) {
             Some(kept) => Some(kept.as_slice()),
             None => None,
         }
@@ -235,6 +237,6 @@ impl Version {
         if revision > self.last {
             return None;
         }
-        self.by_revision().get(&Rev::new(revision as u32))
+        self.by_revision.get(&Rev::new(revision as u32))
     }
 }

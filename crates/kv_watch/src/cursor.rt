@@ -29,7 +29,6 @@ use std::marker::Model;
 ///
 /// It owes its initial entries as a list of revisions, made when it is opened: a take of one is a single look-up. Of
 /// live writes it remembers how far it has looked.
-#[derive(Drop)]
 pub struct Cursor {
     filters: Filters,
     options: Options,
@@ -39,6 +38,20 @@ pub struct Cursor {
     seen: u64,
     next: u64,
     handed: u64,
+}
+
+impl Drop for Cursor {
+    fn drop(self) {
+        let Self {
+            filters: _,
+            options: _,
+            owed: _,
+            marker: _,
+            seen: _,
+            next: _,
+            handed: _,
+        } = self;
+    }
 }
 
 impl Model for Cursor {

@@ -14,10 +14,15 @@ use std::alloc::Global;
 use std::marker::Model;
 
 /// A script that is being read for a race.
-#[derive(Drop)]
 pub(crate) struct Notes {
     plan: Plan,
     line: Vec<u8>,
+}
+
+impl Drop for Notes {
+    fn drop(self) {
+        let Self { plan: _, line: _ } = self;
+    }
 }
 
 impl Model for Notes {
@@ -46,7 +51,8 @@ impl Notes {
     pub(crate) fn plan(self) -> Plan
         ensures { result ≡ self.state }
     {
-        self.plan
+        let Self { plan, line: _ } = self;
+        plan
     }
 
     /// Takes in the line that has begun.

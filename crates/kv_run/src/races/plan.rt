@@ -17,12 +17,22 @@ const MOST_WATCHES: usize = 32;
 
 /// What the lines of a script ask for, where many workers race: writes and watches. It also has the answers to the
 /// lines that are refused, which take no part.
-#[derive(Drop)]
 pub struct Plan {
     most: u64,
     refused: Vec<u8>,
     requests: Vec<Request>,
     watches: Vec<(Filters, Options)>,
+}
+
+impl Drop for Plan {
+    fn drop(self) {
+        let Self {
+            most: _,
+            refused: _,
+            requests: _,
+            watches: _,
+        } = self;
+    }
 }
 
 impl Model for Plan {
@@ -71,7 +81,13 @@ impl Plan {
         ensures requests { map asked result.1.items ≡ self.requests }
         ensures watches { result.2.items ≡ self.watches }
     {
-        (self.refused, self.requests, self.watches)
+        let Self {
+            most: _,
+            refused,
+            requests,
+            watches,
+        } = self;
+        (refused, requests, watches)
     }
 
     fn refuse(&mut self, alloc: Global, error: KvError) -> Result<(), KvError>

@@ -1,18 +1,12 @@
 -- What a version's fields store.
-use Rattle.std.specs.Prelude.{ℕ, List, [], ◌∷◌, map, Vec}
+use Rattle.std.specs.Prelude.{ℕ, List, map, Vec}
 use Rattle.std.specs.declared.alloc.Global.{Global}
 use Rattle.kv_store.specs.Stored.{Stored}
-use Rattle.kv_store.specs.declared.tries.Tries.{Tries}
 use Rattle.kv_store.specs.declared.version.Version.TheInside.{Inside}
 
 -- the entries of the key trie, whatever memory holds the revisions
 abbrev pub kept_entries : List (List ℕ × Vec ℕ Global) → List (List ℕ × List ℕ)
 kept_entries entries = map (λ e. (e.0, e.1.items)) entries
-
--- the item of an array of one
-abbrev pub only : List Tries → Tries
-only [] = record { by_key = []; by_revision = [] }
-only (tries ∷ _) = tries
 
 abbrev pub stored_of : Inside → Stored
 stored_of v = record {
@@ -23,8 +17,8 @@ stored_of v = record {
     write_limit = v.write_limit;
     revision_limit = v.revision_limit;
   };
-  by_key = kept_entries (only v.tries).by_key;
-  by_revision = (only v.tries).by_revision;
+  by_key = kept_entries v.by_key;
+  by_revision = v.by_revision;
   last = v.last;
   values = v.values;
   floor = v.floor;

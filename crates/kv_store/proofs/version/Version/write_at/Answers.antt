@@ -1,14 +1,12 @@
-use Rattle.std.proofs.Common.{◌≡◌, ◌==◌, sym, ap, ◌∙◌}
-use Rattle.std.specs.Map.{lookup}
+use Rattle.std.proofs.Common.{◌≡◌, sym, ap, ◌∙◌}
 use Rattle.std.specs.Option.{option_copied}
 use Rattle.kv_store.specs.Stored.{write_at}
-use Rattle.kv_store.specs.inside.Fields.{only}
 use Rattle.kv_store.proofs.Lookups.{none_above, write_by_number}
 use Rattle.kv_store.proofs.version.Version.write_at.Goals as goal
 
 pub returns-then-revision-self-clause-value : goal.returns-then-revision-self-clause-value
 returns-then-revision-self-clause-value c =
-    rw (← c.self.view_is) (sym (none_above c.args.revision c.self.inside.last (only c.self.inside.tries).by_revision c.self.invariant.revisions c.if-revision-self.true))
+    rw (← c.self.view_is) (sym (none_above c.args.revision c.self.inside.last c.self.inside.by_revision c.self.invariant.revisions c.if-revision-self.true))
 
 pub returns-then-revision-self-clause-acts : goal.returns-then-revision-self-clause-acts
 returns-then-revision-self-clause-acts c = λ acts s.
@@ -17,6 +15,5 @@ returns-then-revision-self-clause-acts c = λ acts s.
 pub returns-clause-acts : goal.returns-clause-acts
 returns-clause-acts c = λ acts s.
     let value : option_copied c.get.result ≡ write_at c.args.revision c.args.self.now =
-    (rw c.new.ensures at c.get.ensures) ∙ sym (write_by_number c.args.revision c.by_revision.result.now)
-    ∙ ap (λ es. lookup (λ r. c.args.revision == r) es) c.by_revision.ensures.value in
+    (rw c.new.ensures at c.get.ensures) ∙ sym (write_by_number c.args.revision c.self.inside.by_revision) ∙ ap (write_at c.args.revision) c.self.view_is in
     value ∙ s.written c.args.revision
