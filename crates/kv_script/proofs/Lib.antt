@@ -2,13 +2,14 @@ pub mod Base64Words
 mod Cases
 pub mod Choosing
 pub mod Compact
+pub mod Counts
 pub mod Digits
 pub mod Escapes
 pub mod Lines
-pub mod Objects
 pub mod Places
 pub mod PlainBase64
 pub mod PutLines
+pub mod Sending
 pub mod Spaced
 pub mod Texts
-pub mod Tokens
+pub mod Whole

@@ -1,15 +1,16 @@
-//! Objects of JSON with a few members, written token by token.
+//! Objects of JSON with a few members.
 
-ghost use Rattle.std.specs.Prelude.{◌≡◌, ◌++◌, ◌∷◌, [], OnOk, OnErr, flat_map};
-ghost use Rattle.json.specs.Token.{begin_object, end_object};
-ghost use Rattle.serde_json.specs.Data.{object};
+ghost use Rattle.std.specs.Prelude.{◌≡◌, ◌++◌, OnOk, OnErr};
+ghost use Rattle.serde_json.specs.Data.{object, string, boolean, member};
+ghost use Rattle.serde_json.specs.Events.{SendsValue};
 ghost use Rattle.serde_json.specs.Written.{compact_text};
-ghost use Rattle.kv_script.specs.inside.Objects.{field_tokens, fields_of};
-ghost use Rattle.kv_script.specs.inside.Tokens.{Appends, text_tokens, number_tokens, truth_tokens};
+ghost use Rattle.kv_script.specs.inside.Fields.{number_field};
+ghost use Rattle.kv_script.specs.inside.Objects.{field_of, fields_of};
+ghost use Rattle.kv_script.specs.inside.Sends.{SendsFront};
 ghost use Rattle.kv_script.specs.Line.{line};
 
-use crate::json_line::{append_written, line_writer};
-use json::Writer;
+use crate::json_line::append_line;
+use serde::{Described, Serialize, Serializer};
 use std::alloc::{AllocError, Global};
 
 /// A member of an object: its name, and what it is.
@@ -20,57 +21,55 @@ pub(crate) enum Field<'a> {
     Truth(&'a str, bool),
 }
 
-pub(crate) fn text_member(
-    json: &mut Writer<Global>,
-    name: &str,
-    text: &str,
-) -> Result<(), AllocError>
-    ensures { Appends result json.old json.new (text_tokens name.now text.now) }
+/// Sends a member that is a text.
+pub(crate) fn send_text<S: Serializer>(out: &mut S, name: &str, text: &str) -> Result<(), S::Error>
+    ensures { OnOk result (SendsFront (member name.now (string text.now)) (S.written out.old) (S.written out.new)) }
 {
-    json.key(name)?;
-    json.string(text)
+    out.key(name)?;
+    out.str(text)
 }
 
-pub(crate) fn number_member(json: &mut Writer<Global>, name: &str, n: u64) -> Result<(), AllocError>
-    ensures { Appends result json.old json.new (number_tokens name.now n) }
+/// Sends a member that is a number.
+pub(crate) fn send_number<S: Serializer>(out: &mut S, name: &str, n: u64) -> Result<(), S::Error>
+    ensures { OnOk result (SendsFront (number_field name.now n) (S.written out.old) (S.written out.new)) }
 {
-    json.key(name)?;
-    json.u64(n)
+    out.key(name)?;
+    out.u64(n)
 }
 
-fn truth_member(json: &mut Writer<Global>, name: &str, truth: bool) -> Result<(), AllocError>
-    ensures { Appends result json.old json.new (truth_tokens name.now truth) }
+fn send_truth<S: Serializer>(out: &mut S, name: &str, truth: bool) -> Result<(), S::Error>
+    ensures { OnOk result (SendsFront (member name.now (boolean truth)) (S.written out.old) (S.written out.new)) }
 {
-    json.key(name)?;
-    json.boolean(truth)
+    out.key(name)?;
+    out.bool(truth)
 }
 
-fn member(json: &mut Writer<Global>, field: Field<'_>) -> Result<(), AllocError>
-    ensures { Appends result json.old json.new (field_tokens field.entry) }
+fn send_field<S: Serializer>(out: &mut S, field: Field<'_>) -> Result<(), S::Error>
+    ensures { OnOk result (SendsFront (field_of field.entry) (S.written out.old) (S.written out.new)) }
 {
     match field {
-        Field::Number(name, n) => number_member(json, name, n),
-        Field::Text(name, text) => text_member(json, name, text),
-        Field::Truth(name, truth) => truth_member(json, name, truth),
+        Field::Number(name, n) => send_number(out, name, n),
+        Field::Text(name, text) => send_text(out, name, text),
+        Field::Truth(name, truth) => send_truth(out, name, truth),
     }
 }
 
-fn members(json: &mut Writer<Global>, fields: &[Field<'_>]) -> Result<(), AllocError>
-    ensures { Appends result json.old json.new (flat_map field_tokens fields.now) }
-{
-    for field in fields {
-        member(json, *field)?;
-    }
-    Ok(())
+// An object with these members.
+#[derive(Clone, Copy)]
+struct Object<'a>(&'a [Field<'a>]);
+
+impl Described for Object<'_> {
+    ghost writes = { λ fields. SendsValue (object (fields_of fields.0.now)) };
 }
 
-fn whole_object(json: &mut Writer<Global>, fields: &[Field<'_>]) -> Result<(), AllocError>
-    ensures { Appends result json.old json.new
-        (begin_object ∷ (flat_map field_tokens fields.now ++ end_object ∷ [])) }
-{
-    json.begin_object()?;
-    members(json, fields)?;
-    json.end_object()
+impl Serialize for Object<'_> {
+    fn serialize<S: Serializer>(&self, out: &mut S) -> Result<(), S::Error> {
+        out.begin_map(Some(self.0.len()))?;
+        for field in self.0 {
+            send_field(out, *field)?;
+        }
+        out.end_map()
+    }
 }
 
 /// Appends an object with these members, and a line feed.
@@ -82,7 +81,5 @@ pub(crate) fn append_object(
     ensures ok { OnOk result (out.new.items ≡ out.old.items ++ line (compact_text (object (fields_of fields.now)))) }
     ensures err { OnErr result (out.new.items ≡ out.old.items) }
 {
-    let mut json = line_writer(alloc)?;
-    whole_object(&mut json, fields)?;
-    append_written(json, out)
+    append_line(alloc, out, &Object(fields))
 }

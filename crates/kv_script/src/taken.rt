@@ -5,9 +5,9 @@ ghost use Rattle.std.specs.Option.{option_copied};
 ghost use Rattle.kv_script.specs.inside.Fields.{parts_entry};
 ghost use Rattle.kv_script.specs.Text.{taken_entry_text};
 
-use crate::entry::write_entry;
 use crate::form::Form;
-use crate::json_line::{append_written, line_writer};
+use crate::json_line::append_line;
+use crate::shown::Shown;
 use kv_keys::Key;
 use kv_model::Op;
 use std::alloc::{AllocError, Global};
@@ -30,17 +30,15 @@ pub fn append_taken_entry(
         (parts_entry key.now op revision size (option_copied value.entry))) }
     ensures err { OnErr result (out.new.items ≡ out.old.items) }
 {
-    let mut json = line_writer(alloc)?;
-    write_entry(
+    let taken = Shown {
         alloc,
         form,
-        &mut json,
-        Some(watch),
-        key.as_str(),
+        watch: Some(watch),
+        key: key.as_str(),
         op,
         revision,
         size,
         value,
-    )?;
-    append_written(json, out)
+    };
+    append_line(alloc, out, &taken)
 }

@@ -1,16 +1,9 @@
 -- Objects with a few members, for clauses of this crate alone.
 use Rattle.std.specs.Prelude.{List, [], ◌∷◌}
-use Rattle.json.specs.Token.{Token}
 use Rattle.serde_json.specs.Data.{boolean, string, Members, member, no_members}
 use Rattle.kv_script.specs.declared.field.Field.{Field}
 use Rattle.kv_script.specs.declared.field.Field.TheVariants.{Number, Text, Truth}
 use Rattle.kv_script.specs.inside.Fields.{number_field}
-use Rattle.kv_script.specs.inside.Tokens.{number_tokens, text_tokens, truth_tokens}
-
-abbrev pub field_tokens : Field → List Token
-field_tokens (Number name n) = number_tokens name.now n
-field_tokens (Text name text) = text_tokens name.now text.now
-field_tokens (Truth name truth) = truth_tokens name.now truth
 
 -- a member, and more behind it
 abbrev pub field_of : Field → Members → Members

@@ -1,7 +1,11 @@
-use Rattle.kv_script.proofs.Objects.{fields_line}
+use Rattle.std.proofs.lemmas.Result.{on_ok_weaker}
+use Rattle.serde_json.specs.Data.{object}
+use Rattle.kv_script.specs.inside.Objects.{fields_of}
+use Rattle.kv_script.proofs.Sending.{line_of}
+use Rattle.kv_script.proofs.Whole.{fields_whole}
 use Rattle.kv_script.proofs.field.append_object.Goals as goal
 
 pub returns-clause-ok : goal.returns-clause-ok
 returns-clause-ok c =
-    let told = rw (c.in_ok-whole_object.was, c.in_ok-json.ensures.1) at c.whole_object.ensures.1 in
-    rw (fields_line c.args.fields.now _ told) at c.append_written.ensures.ok
+    let fields = c.args.fields.now in
+    on_ok_weaker c.append_line.result (line_of (object (fields_of fields)) _ _ (fields_whole fields)) c.append_line.ensures.ok
