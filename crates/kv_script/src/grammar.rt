@@ -10,6 +10,7 @@ ghost use Rattle.kv_script.specs.Words.{words_of};
 use crate::command::Command;
 use crate::form::Form;
 use crate::in_text::text_command;
+use crate::words::split_word;
 use crate::{reads, watches, writes};
 use kv_keys::KvError;
 use std::alloc::Global;
@@ -87,12 +88,27 @@ fn present_words_command(alloc: Global, words: &[&str]) -> Result<Command, KvErr
     }
 }
 
-/// Reads a line none of whose words may be empty.
-pub(crate) fn plain_command(alloc: Global, line: &str) -> Result<Command, KvError>
+fn many_words_command(alloc: Global, line: &str) -> Result<Command, KvError>
     ensures { Gives result (present_words_command (words_of line.now)) }
 {
     let words: Vec<&str> = line.split(' ').collect(alloc)?;
     present_words_command(alloc, &words)
+}
+
+/// Reads a line none of whose words may be empty. Up to three words take no list in memory.
+pub(crate) fn plain_command(alloc: Global, line: &str) -> Result<Command, KvError>
+    ensures { Gives result (present_words_command (words_of line.now)) }
+{
+    let Some((name, arguments)) = split_word(line) else {
+        return present_words_command(alloc, &[line]);
+    };
+    let Some((first, more)) = split_word(arguments) else {
+        return present_words_command(alloc, &[name, arguments]);
+    };
+    if split_word(more).is_some() {
+        return many_words_command(alloc, line);
+    }
+    present_words_command(alloc, &[name, first, more])
 }
 
 fn command_in(alloc: Global, form: Form, line: &str) -> Result<Command, KvError>
@@ -105,8 +121,8 @@ fn command_in(alloc: Global, form: Form, line: &str) -> Result<Command, KvError>
 }
 
 /// Reads a line, without its end, that is not to be skipped, and whose value stands in this form. A line that is no
-/// command is refused before its key or filters are read, and those before options that clash. Memory goes to the list
-/// of the words and to the command.
+/// command is refused before its key or filters are read, and those before options that clash. Memory goes to the
+/// command, and to the list of the words where they are more than three.
 #[tactic(auto, unfolding(crate::specs::Commands::line_command))]
 pub fn parse(alloc: Global, form: Form, line: &[u8]) -> Result<Command, KvError>
     ensures { Gives result (line_command form line.now) }

@@ -1,6 +1,6 @@
 //! Lines whose values stand in them as they are.
 
-ghost use Rattle.std.specs.Prelude.{◌≡◌, ◌∷◌, [], IfOk, MatchOption};
+ghost use Rattle.std.specs.Prelude.{◌≡◌, IfOk};
 ghost use Rattle.kv_model.specs.Requests.{put, create};
 ghost use Rattle.kv_script.specs.Commands.{Gives, put_text_command, update_text_command, text_command};
 ghost use Rattle.kv_script.specs.Words.{words_of};
@@ -8,17 +8,10 @@ ghost use Rattle.kv_script.specs.Words.{words_of};
 use crate::command::Command;
 use crate::grammar::plain_command;
 use crate::numbers::number_of;
+use crate::words::split_word;
 use kv_keys::{Key, KvError};
 use kv_model::Request;
 use std::alloc::{AllocError, Global};
-
-/// The first word, and what stands behind the space after it, if there is one.
-fn split_word(text: &str) -> Option<(&str, &str)>
-    ensures { MatchOption result (words_of text.entry.now ≡ text.entry.now ∷ [])
-        (λ parts. words_of text.entry.now ≡ parts.0.now ∷ words_of parts.1.now) }
-{
-    text.split_once(' ')
-}
 
 // The bytes of a text, as they stand.
 fn bytes_of(alloc: Global, text: &str) -> Result<Vec<u8>, AllocError>

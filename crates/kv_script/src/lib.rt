@@ -21,6 +21,7 @@ mod status;
 mod taken;
 mod values;
 mod watches;
+mod words;
 mod writes;
 
 pub use answers::{

@@ -4,7 +4,7 @@ use Rattle.std.proofs.lemmas.Result.{IfOk-at_ok}
 use Rattle.std.proofs.lemmas.Iterator.Consumers.{map_from_collect}
 use Rattle.std.proofs.lemmas.Iterator.Splits.{YieldsList-from_str_split}
 use Rattle.kv_script.specs.Commands.{texts}
-use Rattle.kv_script.proofs.grammar.plain_command.Goals as goal
+use Rattle.kv_script.proofs.grammar.many_words_command.Goals as goal
 
 pub returns : goal.returns
 returns c =
