@@ -8,6 +8,6 @@ pub mod Progress
 pub mod Reached
 pub mod Reading
 pub mod Taking
-pub mod TakingBytes
+pub mod TakingLines
 pub mod Texts
 pub mod WholeLines

@@ -3,7 +3,7 @@
 ghost use Rattle.std.specs.Prelude.{◌≡◌, ◌++◌, [], OnOk, IfErr, IsErrOf};
 ghost use Rattle.kv_model.specs.State.{State};
 ghost use Rattle.kv_replay.specs.Faults.{IsWriteOrMemory};
-ghost use Rattle.kv_replay.specs.inside.Reading.{Reading, step, said_by, after_bytes, said, ended, line_ended};
+ghost use Rattle.kv_replay.specs.inside.Reading.{Reading, after_bytes, ended, grown, line_ended, said, within};
 ghost use Rattle.kv_replay.specs.inside.Scripted.{Holds};
 ghost use Rattle.kv_replay.specs.Text.{line_text, line_next};
 ghost use Rattle.kv_replay.specs.inside.Written.{Pours, PoursFront, Puts};
@@ -13,7 +13,8 @@ use crate::output::Output;
 use kv_bucket::Bucket;
 use kv_keys::KvError;
 use kv_script::{Form, without_return};
-use std::alloc::Global;
+use memchr::memchr;
+use std::alloc::{AllocError, Global};
 use std::marker::Model;
 
 /// How many bytes of a line are looked at. A longer one is no command, with or without a carriage return at its end.
@@ -86,36 +87,43 @@ impl Script {
         Ok(())
     }
 
-    /// Takes one byte: a line feed ends the line.
-    fn take_byte<K: Output>(
+    /// Takes bytes of the line that has begun. No more are kept than show that it is too long.
+    fn take_part(&mut self, part: &[u8]) -> Result<(), AllocError>
+        ensures { OnOk result (self.new ≡ record self.old { line = grown KEPT_BYTES self.old.line part.now }) }
+    {
+        let room = (KEPT_BYTES + 1).saturating_sub(self.line.len());
+        if part.len() <= room {
+            self.line.extend_from_slice(part)
+        } else {
+            self.line.extend_from_slice(&part[..room])
+        }
+    }
+
+    /// Takes the rest of the line that has begun, and answers it.
+    fn take_line<K: Output>(
         &mut self,
         alloc: Global,
         form: Form,
-        byte: u8,
+        rest: &[u8],
         out: &mut Vec<u8>,
         sink: &mut K,
     ) -> Result<(), KvError>
         ensures same { K.goes_on sink.old sink.new }
         ensures ok { OnOk result ((r : Reading State) → Holds r self.old →
-            Pours (said_by KEPT_BYTES (line_text form) (line_next form) r byte)
+            Pours (ended KEPT_BYTES (line_text form) (line_next form) (within KEPT_BYTES r rest.now))
             (K.held sink.old) out.old.items (K.held sink.new) out.new.items
-            × Holds (step KEPT_BYTES (line_text form) (line_next form) r byte) self.new) }
+            × Holds (line_ended KEPT_BYTES (line_text form) (line_next form) (within KEPT_BYTES r rest.now)) self.new) }
         ensures write_fault { IsErrOf result KvError.WriteFault →
             K.failed_between sink.old sink.new × ((r : Reading State) → Holds r self.old →
-            Puts (out.old.items ++ said_by KEPT_BYTES (line_text form) (line_next form) r byte)
+            Puts (out.old.items ++ ended KEPT_BYTES (line_text form) (line_next form) (within KEPT_BYTES r rest.now))
             (K.held sink.old) (K.held sink.new)) }
         ensures memory { IsErrOf result KvError.OutOfMemory → (r : Reading State) → Holds r self.old →
-            PoursFront (said_by KEPT_BYTES (line_text form) (line_next form) r byte)
+            PoursFront (ended KEPT_BYTES (line_text form) (line_next form) (within KEPT_BYTES r rest.now))
             (K.held sink.old) out.old.items (K.held sink.new) out.new.items }
         ensures fault { IfErr result IsWriteOrMemory }
     {
-        if byte == b'\n' {
-            return self.end_line(alloc, form, out, sink);
-        }
-        if self.line.len() <= KEPT_BYTES {
-            self.line.push(byte)?;
-        }
-        Ok(())
+        self.take_part(rest)?;
+        self.end_line(alloc, form, out, sink)
     }
 
     /// Takes the next bytes, and answers the lines that they end.
@@ -141,9 +149,14 @@ impl Script {
             (K.held sink.old) out.old.items (K.held sink.new) out.new.items }
         ensures fault { IfErr result IsWriteOrMemory }
     {
-        for byte in bytes {
-            self.take_byte(alloc, form, *byte, out, sink)?;
+        let mut left = bytes;
+        'lines: loop {
+            let Some(at) = memchr(b'\n', left) else {
+                self.take_part(left)?;
+                return Ok(());
+            };
+            self.take_line(alloc, form, &left[..at], out, sink)?;
+            left = &left[at + 1..];
         }
-        Ok(())
     }
 }

@@ -1,5 +1,5 @@
 -- A script byte by byte: the state so far, and the line that has begun.
-use Rattle.std.specs.Prelude.{ℕ, ◌==◌, nat_lt, if◌then◌else◌, List, [], ◌∷◌, ◌++◌, length}
+use Rattle.std.specs.Prelude.{ℕ, ◌+◌, ◌-◌, ◌==◌, nat_lt, if◌then◌else◌, List, [], ◌∷◌, ◌++◌, length, take}
 
 -- no more bytes of a line are kept than show that it is too long
 pub record Reading (S : Type 0) : Type 0 where
@@ -8,6 +8,14 @@ pub record Reading (S : Type 0) : Type 0 where
 
 abbrev pub beginning : {S : Type 0} → S → Reading S
 beginning {S} s = record { state = s; line = [] }
+
+-- a line, and so much of what follows in it as is kept
+abbrev pub grown : ℕ → List ℕ → List ℕ → List ℕ
+grown limit line part = line ++ take (limit + 1 - length line) part
+
+-- after bytes that end no line
+abbrev pub within : {S : Type 0} → ℕ → Reading S → List ℕ → Reading S
+within {S} limit r part = record { state = r.state; line = grown limit r.line part }
 
 module _ {S : Type 0} (limit : ℕ) (text : S → List ℕ → List ℕ) (next : S → List ℕ → S) where
   -- the answer to the line that has begun
