@@ -1,5 +1,5 @@
 -- A script takes lines one at a time.
-use Rattle.std.proofs.Common.{◌≡◌, ◌==◌, ◌<◌, ◌≤◌, ◌+◌, ◌-◌, ℕ, suc, add-one, Bool, true, false, nat_lt, List, [], ◌∷◌, ◌++◌, length, length-append, length-drop, take, take_all, drop, get_or, append_assoc, append-nil, Option, refl, sym, ap, subst, ◌∙◌, arith, inl, inr}
+use Rattle.std.proofs.Common.{◌≡◌, ◌==◌, ◌<◌, ◌≤◌, ◌+◌, ◌-◌, ℕ, suc, add-one, true, false, nat_lt, List, [], ◌∷◌, ◌++◌, length, length-append, length-drop, take, take_all, drop, get_or, append_assoc, append-nil, Option, refl, sym, ap, subst, ◌∙◌, arith, inl, inr}
 use Rattle.std.proofs.Math.Seq.{append_snoc, get_or-take, length-take-le, split_at, take-nil}
 use Rattle.std.proofs.lemmas.Bool.{cases_Bool, eqb-true, ltb-true, ltb-false}
 use Rattle.memchr.specs.Find.{NoneBefore, Nowhere, Passes, is_byte}
