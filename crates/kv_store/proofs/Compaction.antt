@@ -1,8 +1,7 @@
 -- A version that is compacted stands for the acts with the compaction.
 use Rattle.std.proofs.Common.{◌≡◌, ℕ, suc, ◌≤◌, Bool, true, false, cond, ◌||◌, ◌==◌, List, [], ◌∷◌, ◌++◌, Option, Some, None, unwrap_or, length, filter, refl, sym, subst, ap, ◌∙◌, arith}
 use Rattle.std.specs.Prelude.{nat_lt}
-use Rattle.std.specs.List.{find, list_any}
-use Rattle.std.specs.Option.{option_and_then, option_map}
+use Rattle.std.specs.List.{find, last_or, list_any}
 use Rattle.std.proofs.lemmas.Bool.{eqb-true}
 use Rattle.kv_model.specs.Acts.{Act, Compact, Write, writes_of}
 use Rattle.kv_model.specs.Acceptance.{IsLawful}
@@ -10,16 +9,15 @@ use Rattle.kv_model.specs.Compaction.{is_bad_floor, is_stored}
 use Rattle.kv_model.specs.Configuration.{Configuration, IsLegal}
 use Rattle.kv_model.specs.Reads.{unless_empty, write_at_of}
 use Rattle.kv_model.specs.Retained.{is_cleared, is_kept, kept, last_write, retained, revisions, writes_of_key}
-use Rattle.kv_model.proofs.Found.{last_contained, last_write-kept, or_empty}
-use Rattle.kv_model.proofs.Keeping.{kept_cleared, kept_spared}
+use Rattle.kv_model.proofs.Found.{or_empty}
+use Rattle.kv_model.proofs.Keeping.{kept_cleared, kept_spared, writes_of_key-cleared, writes_of_key-spared}
 use Rattle.kv_model.proofs.Numbered.{CountsFrom, counts_from_lawful, find_below, writes_of-compact}
 use Rattle.kv_model.proofs.Storing.{floor_of-compact, is_stored-compact, spared_is_kept, stored_before}
 use Rattle.kv_store.specs.Standing.{StandsFor}
-use Rattle.kv_store.specs.Stored.{Stored, kept_at, write_at}
-use Rattle.kv_store.specs.inside.Compacted.{IsCompacted, clears, is_left, last_stored, left_of, spared}
+use Rattle.kv_store.specs.Stored.{Stored, kept_at, last_at, write_at}
+use Rattle.kv_store.specs.inside.Compacted.{IsCompacted, is_left, left_of, spared}
 use Rattle.kv_store.proofs.Naming.{kept_counted}
-use Rattle.kv_store.proofs.Reading.{history_some, kept_stored}
-use Rattle.kv_store.proofs.Selecting.{last_kept}
+use Rattle.kv_store.proofs.Reading.{history_some}
 use Rattle.kv_store.proofs.Standings.{is_sealed-compact, lawful-push}
 
 -- ---- what passes a test
@@ -66,32 +64,23 @@ module _ (acts : List Act) (old new : Stored) (floor : ℕ) (s : StandsFor acts 
   lawful_then : IsLawful old.config (acts ++ Compact floor ∷ [])
   lawful_then = lawful-push old.config acts (Compact floor) s.lawful good
 
-  -- the last write that is stored of the kept revisions of a key is its last write
-  last_is : (key : List ℕ) → last_stored (revisions (kept old.config.history key acts)) old ≡ last_write key acts
-  last_is key =
-      ap (option_and_then (λ r. write_at r old)) (last_kept old.config.history acts (history_some old.config s.legal) (counts_from_lawful old.config acts s.lawful) key)
-      ∙ by_last (last_write key acts) refl
-    where
-      by_last : (o : Option Write) → last_write key acts ≡ o → option_and_then (λ r. write_at r old) (option_map (λ (w : Write). w.revision) o) ≡ o
-      by_last None e = refl
-      by_last (Some w) e =
-          kept_stored acts old key w s (last_contained (kept old.config.history key acts) w (sym (last_write-kept old.config.history key acts (history_some old.config s.legal)) ∙ e))
-
-  spared_if : (rs : List ℕ) → spared floor old (unless_empty rs) ≡ cond (clears floor (last_stored rs old)) None (unless_empty rs)
-  spared_if [] = refl
-  spared_if (r ∷ rs) = refl
-
   kept_then : (key : List ℕ) → kept_at key new ≡ unless_empty (revisions (kept old.config.history key (acts ++ Compact floor ∷ [])))
   kept_then key =
       c.kept key
-      ∙ ap (spared floor old) (s.kept key)
-      ∙ spared_if (revisions (kept old.config.history key acts))
-      ∙ ap (λ o. cond (clears floor o) None (unless_empty (revisions (kept old.config.history key acts)))) (last_is key)
+      ∙ ap (λ o. spared floor o (kept_at key old)) (s.last_of key)
+      ∙ ap (spared floor (last_write key acts)) (s.kept key)
       ∙ by_test (is_cleared floor (writes_of_key key acts)) refl
     where
       by_test : (b : Bool) → is_cleared floor (writes_of_key key acts) ≡ b → cond b None (unless_empty (revisions (kept old.config.history key acts))) ≡ unless_empty (revisions (kept old.config.history key (acts ++ Compact floor ∷ [])))
       by_test true e = sym (ap (λ ws. unless_empty (revisions ws)) (kept_cleared old.config.history key acts floor e))
       by_test false e = sym (ap (λ ws. unless_empty (revisions ws)) (kept_spared old.config.history key acts floor e))
+
+  last_then : (key : List ℕ) → last_at key new ≡ last_write key (acts ++ Compact floor ∷ [])
+  last_then key = c.last_of key ∙ ap (λ o. spared floor o o) (s.last_of key) ∙ by_test (is_cleared floor (writes_of_key key acts)) refl
+    where
+      by_test : (b : Bool) → is_cleared floor (writes_of_key key acts) ≡ b → cond b None (last_write key acts) ≡ last_write key (acts ++ Compact floor ∷ [])
+      by_test true e = sym (ap (last_or None) (writes_of_key-cleared key acts floor e))
+      by_test false e = sym (ap (last_or None) (writes_of_key-spared key acts floor e))
 
   -- a write stays exactly where it is stored then
   left_is : (w : Write) → is_left floor new.by_key w.revision w ≡ is_stored old.config.history (acts ++ Compact floor ∷ []) w
@@ -134,6 +123,7 @@ module _ (acts : List Act) (old new : Stored) (floor : ℕ) (s : StandsFor acts 
     last = c.last ∙ s.last ∙ ap length (sym (writes_of-compact acts floor));
     written = λ r. written_then r ∙ ap (λ (k : Configuration). write_at_of k.history r (acts ++ Compact floor ∷ [])) (sym c.config);
     kept = λ key. kept_then key ∙ ap (λ (k : Configuration). unless_empty (revisions (kept k.history key (acts ++ Compact floor ∷ [])))) (sym c.config);
+    last_of = last_then;
     values = values_then ∙ ap (λ (k : Configuration). length (retained k.history (acts ++ Compact floor ∷ []))) (sym c.config);
     floor = c.floor ∙ sym (floor_of-compact acts floor);
     sealed = c.sealed ∙ s.sealed ∙ sym (is_sealed-compact acts floor);

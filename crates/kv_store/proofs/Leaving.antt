@@ -1,5 +1,5 @@
 -- What is found in the entries that stay of the two tries.
-use Rattle.std.proofs.Common.{◌≡◌, ℕ, Bool, true, false, cond, ◌==◌, not, List, [], ◌∷◌, Option, Some, None, refl, sym, ap, ◌∙◌}
+use Rattle.std.proofs.Common.{◌≡◌, ℕ, Bool, true, false, cond, ◌==◌, not, List, [], ◌∷◌, Option, Some, None, map, refl, sym, ap, ◌∙◌}
 use Rattle.std.specs.BTreeMap.{is_at}
 use Rattle.std.specs.Cmp.Lexicographic.{slice_cmp}
 use Rattle.std.specs.List.{find}
@@ -7,15 +7,13 @@ use Rattle.std.specs.Map.{lookup}
 use Rattle.std.specs.Option.{option_map}
 use Rattle.std.specs.Ordering.{nat_cmp}
 use Rattle.std.specs.Str.{bytes_eq}
-use Rattle.std.specs.declared.alloc.Global.{Global}
-use Rattle.std.specs.declared.vec.Vec.{Vec}
 use Rattle.std.proofs.lemmas.Bool.{eqb-true}
 use Rattle.kv_model.specs.Acts.{Write}
 use Rattle.kv_trie.specs.Retain.{wanted_value}
-use Rattle.kv_store.specs.Stored.{Stored}
-use Rattle.kv_store.specs.inside.Compacted.{clears, is_left, last_stored, left_of, spared}
-use Rattle.kv_store.specs.inside.Fields.{kept_entries}
-use Rattle.kv_store.proofs.Lookups.{is_eq-nat_cmp, kept_by_bytes, write_by_number}
+use Rattle.kv_store.specs.Stored.{Kept}
+use Rattle.kv_store.specs.inside.Compacted.{clears, is_left, left_of, spared}
+use Rattle.kv_store.specs.inside.Fields.{last_entries}
+use Rattle.kv_store.proofs.Lookups.{by_bytes, is_eq-nat_cmp, write_by_number}
 
 lookup_find : {K X : Type 0} (p : K → Bool) (es : List (K × X)) → lookup p es ≡ option_map (λ (e : K × X). e.1) (find (λ (e : K × X). p e.0) es)
 lookup_find p [] = refl
@@ -33,22 +31,23 @@ found_passes {X} p (y ∷ ys) x h = by_test (λ k. found_passes p ys x k) (p y) 
     by_test rest true e k = let same : y ≡ x = cc in ap p (sym same) ∙ e
     by_test rest false e k = rest k
 
--- of a key that stays the same revisions
-pub spared_lookup : (floor : ℕ) (version : Stored) (q : List ℕ) (old new : List (List ℕ × Vec ℕ Global)) → lookup (is_at (slice_cmp nat_cmp q)) new ≡ wanted_value (λ key kept. not (clears floor (last_stored kept.items version))) (find (λ p. is_at (slice_cmp nat_cmp q) p.0) old) → lookup (λ k. bytes_eq q k) (kept_entries new) ≡ spared floor version (lookup (λ k. bytes_eq q k) (kept_entries old))
-spared_lookup floor version q old new h =
-    kept_by_bytes q new
-    ∙ ap (option_map (λ v. v.items)) h
+-- of a key that stays the same
+pub spared_lookup : {X : Type 0} (part : Kept → X) (floor : ℕ) (q : List ℕ) (old new : List (List ℕ × Kept)) → lookup (is_at (slice_cmp nat_cmp q)) new ≡ wanted_value (λ key kept. not (clears floor (Some kept.last))) (find (λ p. is_at (slice_cmp nat_cmp q) p.0) old) → lookup (λ k. bytes_eq q k) (map (λ e. (e.0, part e.1)) new) ≡ spared floor (lookup (λ k. bytes_eq q k) (last_entries old)) (lookup (λ k. bytes_eq q k) (map (λ e. (e.0, part e.1)) old))
+spared_lookup {X} part floor q old new h =
+    by_bytes part q new
+    ∙ ap (option_map part) h
     ∙ by_found (find (λ p. is_at (slice_cmp nat_cmp q) p.0) old)
-    ∙ ap (λ o. spared floor version (option_map (λ v. v.items) o)) (sym (lookup_find (is_at (slice_cmp nat_cmp q)) old))
-    ∙ ap (spared floor version) (sym (kept_by_bytes q old))
+    ∙ ap (λ o. spared floor (option_map (λ v. v.last) o) (option_map part o)) (sym (lookup_find (is_at (slice_cmp nat_cmp q)) old))
+    ∙ ap (λ o. spared floor o (option_map part (lookup (is_at (slice_cmp nat_cmp q)) old))) (sym (by_bytes (λ v. v.last) q old))
+    ∙ ap (spared floor (lookup (λ k. bytes_eq q k) (last_entries old))) (sym (by_bytes part q old))
   where
-    by_test : (b : Bool) (p : List ℕ × Vec ℕ Global) → option_map (λ (v : Vec ℕ Global). v.items) (cond (not b) (Some p.1) None) ≡ cond b None (Some p.1.items)
+    by_test : (b : Bool) (p : List ℕ × Kept) → option_map part (cond (not b) (Some p.1) None) ≡ cond b None (Some (part p.1))
     by_test true p = refl
     by_test false p = refl
 
-    by_found : (o : Option (List ℕ × Vec ℕ Global)) → option_map (λ (v : Vec ℕ Global). v.items) (wanted_value (λ key kept. not (clears floor (last_stored kept.items version))) o) ≡ spared floor version (option_map (λ v. v.items) (option_map (λ (e : List ℕ × Vec ℕ Global). e.1) o))
+    by_found : (o : Option (List ℕ × Kept)) → option_map part (wanted_value (λ key kept. not (clears floor (Some kept.last))) o) ≡ spared floor (option_map (λ v. v.last) (option_map (λ (e : List ℕ × Kept). e.1) o)) (option_map part (option_map (λ (e : List ℕ × Kept). e.1) o))
     by_found None = refl
-    by_found (Some p) = by_test (clears floor (last_stored p.1.items version)) p
+    by_found (Some p) = by_test (clears floor (Some p.1.last)) p
 
 -- of a revision the write, where it stays
 pub left_lookup : (floor : ℕ) (kept : List (List ℕ × List ℕ)) (q : ℕ) (old new : List (ℕ × Write)) → lookup (is_at (nat_cmp q)) new ≡ wanted_value (λ revision w. is_left floor kept revision w) (find (λ p. is_at (nat_cmp q) p.0) old) → lookup (λ r. q == r) new ≡ left_of floor kept q (lookup (λ r. q == r) old)

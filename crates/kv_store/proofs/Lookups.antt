@@ -1,6 +1,6 @@
 -- What is found in the entries of the two tries.
 use Rattle.std.proofs.Common.{◌≡◌, ℕ, suc, ◌+◌, ◌<◌, ◌≤◌, Bool, true, false, cond, ◌==◌, List, [], ◌∷◌, Some, None, length, refl, sym, ap, ◌∙◌, arith, rules, Ordering}
-use Rattle.std.specs.Prelude.{All, Vec}
+use Rattle.std.specs.Prelude.{All, map}
 use Rattle.std.specs.declared.cmp.Ordering.TheVariants.{Less, Equal, Greater}
 use Rattle.std.specs.BTreeMap.{is_at}
 use Rattle.std.specs.Ordering.{nat_cmp, is_eq, match_ordering}
@@ -8,12 +8,12 @@ use Rattle.std.specs.Cmp.Lexicographic.{slice_cmp}
 use Rattle.std.specs.Map.{lookup}
 use Rattle.std.specs.Option.{option_map}
 use Rattle.std.specs.Str.{bytes_eq}
-use Rattle.std.specs.declared.alloc.Global.{Global}
 use Rattle.std.proofs.lemmas.Bool.{ne_eqb}
 use Rattle.std.proofs.lemmas.List.Elements.{All-cons, All-head, All-tail}
 use Rattle.std.proofs.lemmas.Map.Made.{lookup-map_values}
 use Rattle.std.proofs.lemmas.Map.Text.{is_eq-slice_cmp}
 use Rattle.kv_trie.specs.Form.{put_pair}
+use Rattle.kv_store.specs.Stored.{Kept}
 use Rattle.kv_store.specs.inside.Fields.{kept_entries}
 
 -- two tests that say the same find the same
@@ -21,11 +21,11 @@ pub lookup-agree : {K X : Type 0} (p q : K → Bool) → ((k : K) → p k ≡ q 
 lookup-agree p q h [] = refl
 lookup-agree p q h (e ∷ es) = rw (h e.0, lookup-agree p q h es) refl
 
--- a key is found by its bytes
-pub kept_by_bytes : (key : List ℕ) (es : List (List ℕ × Vec ℕ Global)) → lookup (λ k. bytes_eq key k) (kept_entries es) ≡ option_map (λ v. v.items) (lookup (is_at (slice_cmp nat_cmp key)) es)
-kept_by_bytes key es =
-    lookup-map_values (λ v. v.items) (λ k. bytes_eq key k) es
-    ∙ ap (option_map (λ v. v.items)) (lookup-agree (λ k. bytes_eq key k) (is_at (slice_cmp nat_cmp key)) (λ k. sym (is_eq-slice_cmp key k)) es)
+-- something of the entries of the key trie is found by the bytes of the key
+pub by_bytes : {X : Type 0} (part : Kept → X) (key : List ℕ) (es : List (List ℕ × Kept)) → lookup (λ k. bytes_eq key k) (map (λ e. (e.0, part e.1)) es) ≡ option_map part (lookup (is_at (slice_cmp nat_cmp key)) es)
+by_bytes part key es =
+    lookup-map_values part (λ k. bytes_eq key k) es
+    ∙ ap (option_map part) (lookup-agree (λ k. bytes_eq key k) (is_at (slice_cmp nat_cmp key)) (λ k. sym (is_eq-slice_cmp key k)) es)
 
 pub is_eq-nat_cmp : (a b : ℕ) → is_eq (nat_cmp a b) ≡ (a == b)
 is_eq-nat_cmp a b = search rules
@@ -41,21 +41,21 @@ none_above {X} revision last (e ∷ es) h l =
     let small : e.0 ≤ last = All-head (λ (e : ℕ × X). e.0 ≤ last) e es h in
     rw (ne_eqb revision e.0 (λ same. omega (arith, same, small)), none_above revision last es (All-tail (λ (e : ℕ × X). e.0 ≤ last) e es h) l) refl
 
-pub length-kept_entries : (es : List (List ℕ × Vec ℕ Global)) → length (kept_entries es) ≡ length es
+pub length-kept_entries : (es : List (List ℕ × Kept)) → length (kept_entries es) ≡ length es
 length-kept_entries [] = refl
 length-kept_entries (e ∷ es) = ap suc (length-kept_entries es)
 
 -- ---- after a pair is put
 
-pub kept_more : (key q : List ℕ) (kept : Vec ℕ Global) (old new : List (List ℕ × Vec ℕ Global)) → lookup (is_at (slice_cmp nat_cmp q)) new ≡ cond (is_at (slice_cmp nat_cmp key) q) (Some kept) (lookup (is_at (slice_cmp nat_cmp q)) old) → lookup (λ k. bytes_eq q k) (kept_entries new) ≡ cond (bytes_eq key q) (Some kept.items) (lookup (λ k. bytes_eq q k) (kept_entries old))
-kept_more key q kept old new h =
-    kept_by_bytes q new
-    ∙ ap (option_map (λ v. v.items)) h
+pub more_by_bytes : {X : Type 0} (part : Kept → X) (key q : List ℕ) (kept : Kept) (old new : List (List ℕ × Kept)) → lookup (is_at (slice_cmp nat_cmp q)) new ≡ cond (is_at (slice_cmp nat_cmp key) q) (Some kept) (lookup (is_at (slice_cmp nat_cmp q)) old) → lookup (λ k. bytes_eq q k) (map (λ e. (e.0, part e.1)) new) ≡ cond (bytes_eq key q) (Some (part kept)) (lookup (λ k. bytes_eq q k) (map (λ e. (e.0, part e.1)) old))
+more_by_bytes part key q kept old new h =
+    by_bytes part q new
+    ∙ ap (option_map part) h
     ∙ inside (is_at (slice_cmp nat_cmp key) q)
-    ∙ ap (λ b. cond b (Some kept.items) (option_map (λ v. v.items) (lookup (is_at (slice_cmp nat_cmp q)) old))) (is_eq-slice_cmp key q)
-    ∙ ap (cond (bytes_eq key q) (Some kept.items)) (sym (kept_by_bytes q old))
+    ∙ ap (λ b. cond b (Some (part kept)) (option_map part (lookup (is_at (slice_cmp nat_cmp q)) old))) (is_eq-slice_cmp key q)
+    ∙ ap (cond (bytes_eq key q) (Some (part kept))) (sym (by_bytes part q old))
   where
-    inside : (b : Bool) → option_map (λ (v : Vec ℕ Global). v.items) (cond b (Some kept) (lookup (is_at (slice_cmp nat_cmp q)) old)) ≡ cond b (Some kept.items) (option_map (λ v. v.items) (lookup (is_at (slice_cmp nat_cmp q)) old))
+    inside : (b : Bool) → option_map part (cond b (Some kept) (lookup (is_at (slice_cmp nat_cmp q)) old)) ≡ cond b (Some (part kept)) (option_map part (lookup (is_at (slice_cmp nat_cmp q)) old))
     inside true = refl
     inside false = refl
 

@@ -14,6 +14,7 @@ use Rattle.kv_trie.specs.contracts.node.Node as Node
 use Rattle.kv_trie.specs.contracts.trie.Trie as Trie
 use Rattle.kv_trie.proofs.node.Node.TheLaws.TheKnot as knot
 use Rattle.kv_store.specs.contracts.version.Version as Version
+use Rattle.kv_store.proofs.kept.Kept.TheSendSync as kept
 use Rattle.kv_store.proofs.rev.Rev.TheSendSync as rev
 
 module _ (K V : RattleType) (s : IsSend K) (t : IsSend V) (y : IsSync K) (z : IsSync V) where
@@ -31,7 +32,7 @@ module _ (K V : RattleType) (s : IsSend K) (t : IsSend V) (y : IsSync K) (z : Is
     trie_sync = search (sendable, crosses, knot.crosses_both) depth 20
 
 pub version_send : IsSend Version.the_row
-version_send = search (sendable, crosses, trie_send, key.the_send, key.the_sync, rev.the_send, rev.the_sync, write.the_send, write.the_sync) depth 20
+version_send = search (sendable, crosses, trie_send, key.the_send, key.the_sync, kept.the_send, kept.the_sync, rev.the_send, rev.the_sync, write.the_send, write.the_sync) depth 20
 
 pub version_sync : IsSync Version.the_row
-version_sync = search (sendable, crosses, trie_sync, key.the_send, key.the_sync, rev.the_send, rev.the_sync, write.the_send, write.the_sync) depth 20
+version_sync = search (sendable, crosses, trie_sync, key.the_send, key.the_sync, kept.the_send, kept.the_sync, rev.the_send, rev.the_sync, write.the_send, write.the_sync) depth 20

@@ -1,5 +1,5 @@
 -- Which acts a version stands for once one more is accepted, and what it stores of a key.
-use Rattle.std.proofs.Common.{◌≡◌, ℕ, ◌+◌, ◌-◌, ◌<◌, ◌≤◌, Bool, true, false, cond, ◌==◌, List, [], ◌∷◌, ◌++◌, Some, None, Result, Ok, unwrap_or, length, refl, sym, subst, ap, ◌∙◌, arith, append_assoc, append-nil, length-append, length-drop}
+use Rattle.std.proofs.Common.{◌≡◌, ℕ, ◌+◌, ◌-◌, ◌<◌, ◌≤◌, Bool, true, false, cond, ◌==◌, List, [], ◌∷◌, ◌++◌, Option, Some, None, Result, Ok, unwrap_or, length, refl, sym, subst, ap, ◌∙◌, arith, append_assoc, append-nil, length-append, length-drop}
 use Rattle.std.specs.List.{Contains, find, last_or}
 use Rattle.std.specs.Str.{bytes_eq}
 use Rattle.std.proofs.lemmas.Bool.{eqb-true}
@@ -15,12 +15,12 @@ use Rattle.kv_model.specs.Configuration.{Configuration, IsLegal}
 use Rattle.kv_store.specs.inside.Next.{HasOneMore, kept_after, kept_before, next_kept}
 use Rattle.kv_model.specs.Reads.{unless_empty, write_at_of}
 use Rattle.kv_model.specs.Requests.{Asked, key_of, op_of, value_of}
-use Rattle.kv_model.specs.Retained.{kept, last_n, last_revision, retained, revisions}
+use Rattle.kv_model.specs.Retained.{kept, last_n, last_write, retained, revisions, writes_of_key}
 use Rattle.kv_store.specs.Standing.{StandsFor}
 use Rattle.kv_store.specs.Stored.{Stored, kept_at}
 use Rattle.kv_model.specs.declared.write.Op.{Op}
-use Rattle.kv_model.proofs.Found.{last_revision-kept, or_empty, unless_empty-long, unless_empty-none, unless_empty-some}
-use Rattle.kv_model.proofs.Keeping.{kept_other, kept_revisions_same, kept_seal, retained_count, retained_seal}
+use Rattle.kv_model.proofs.Found.{or_empty, unless_empty-long}
+use Rattle.kv_model.proofs.Keeping.{kept_other, kept_revisions_same, kept_seal, retained_count, retained_seal, writes_of_key-push}
 use Rattle.kv_model.proofs.Members.{Contains-here, Contains-map, Contains-there}
 use Rattle.kv_model.proofs.Numbered.{accepted_is_next, counts_from_lawful, rises_counted, writes_of-seal, writes_of-wrote}
 use Rattle.kv_model.proofs.Rising.{Rises-members}
@@ -65,19 +65,6 @@ history_some config legal = let numbers = legal.1 in grind (arith, nat_tests)
 pub kept_before-is : (acts : List Act) (version : Stored) (key : List ℕ) → StandsFor acts version → kept_before key version ≡ revisions (kept version.config.history key acts)
 kept_before-is acts version key s = ap (λ o. unwrap_or o []) (s.kept key) ∙ or_empty (revisions (kept version.config.history key acts))
 
--- the last revision of a key is the last that is stored of it
-pub last_revision-some : (acts : List Act) (version : Stored) (key rs : List ℕ) → StandsFor acts version → kept_at key version ≡ Some rs → last_revision key acts ≡ unwrap_or (last_or None rs) 0
-last_revision-some acts version key rs s e =
-    let h = version.config.history in
-    last_revision-kept h key acts (history_some version.config s.legal)
-    ∙ ap (λ vs. unwrap_or (last_or None vs) 0) (unless_empty-some (revisions (kept h key acts)) rs (sym (s.kept key) ∙ e))
-
-pub last_revision-none : (acts : List Act) (version : Stored) (key : List ℕ) → StandsFor acts version → kept_at key version ≡ None → last_revision key acts ≡ 0
-last_revision-none acts version key s e =
-    let h = version.config.history in
-    last_revision-kept h key acts (history_some version.config s.legal)
-    ∙ ap (λ vs. unwrap_or (last_or None vs) 0) (unless_empty-none (revisions (kept h key acts)) (sym (s.kept key) ∙ e))
-
 -- ---- a seal
 
 pub stands_for_seal : (acts : List Act) (version : Stored) → StandsFor acts version → StandsFor (acts ++ Seal ∷ []) (record version { sealed = true })
@@ -89,12 +76,25 @@ stands_for_seal acts version s =
       last = s.last ∙ ap length (sym (writes_of-seal acts));
       written = λ r. s.written r ∙ ap (find (λ (w : Write). w.revision == r)) (sym (stored-push version.config h acts Seal s.lawful tt));
       kept = λ key. s.kept key ∙ ap (λ ws. unless_empty (revisions ws)) (sym (kept_seal h key acts));
+      last_of = λ key. s.last_of key ∙ ap (last_or None) (sym (writes_of_key-push key acts Seal));
       values = s.values ∙ ap length (sym (retained_seal h acts));
       floor = s.floor ∙ sym (floor_of-seal acts);
       sealed = sym (is_sealed-seal acts);
     }
 
 -- ---- a write
+
+last_or-push : (ws : List Write) (w : Write) (o : Option Write) → last_or o (ws ++ w ∷ []) ≡ Some w
+last_or-push [] w o = refl
+last_or-push (v ∷ ws) w o = last_or-push ws w (Some v)
+
+-- a write is the last of its key, and of no other
+last_write-wrote : (key : List ℕ) (acts : List Act) (w : Write) → last_write key (acts ++ Wrote w ∷ []) ≡ cond (bytes_eq w.key key) (Some w) (last_write key acts)
+last_write-wrote key acts w = ap (last_or None) (writes_of_key-push key acts (Wrote w)) ∙ by_key (bytes_eq w.key key)
+  where
+    by_key : (b : Bool) → last_or None (cond b (writes_of_key key acts ++ w ∷ []) (writes_of_key key acts)) ≡ cond b (Some w) (last_or None (writes_of_key key acts))
+    by_key true = last_or-push (writes_of_key key acts) w None
+    by_key false = refl
 
 find-push : (r : ℕ) (ws : List Write) (w : Write) → ((v : Write) → Contains ws v → v.revision < w.revision) → find (λ v. v.revision == r) (ws ++ w ∷ []) ≡ cond (w.revision == r) (Some w) (find (λ v. v.revision == r) ws)
 find-push r [] w h = refl
@@ -171,6 +171,7 @@ module _ (acts : List Act) (old new : Stored) (w : Write) (s : StandsFor acts ol
         more.kept key
         ∙ kept_of key (bytes_eq w.key key) refl
         ∙ ap (λ (c : Configuration). unless_empty (revisions (kept c.history key (acts ++ Wrote w ∷ [])))) (sym more.config);
+    last_of = λ key. more.last_of key ∙ ap (cond (bytes_eq w.key key) (Some w)) (s.last_of key) ∙ sym (last_write-wrote key acts w);
     values = values_after ∙ ap (λ (c : Configuration). length (retained c.history (acts ++ Wrote w ∷ []))) (sym more.config);
     floor = more.floor ∙ s.floor ∙ sym (floor_of-wrote acts w);
     sealed = more.sealed ∙ s.sealed ∙ sym (is_sealed-wrote acts w);

@@ -1,28 +1,17 @@
 //! Which requests a version accepts.
 
-ghost use Rattle.std.specs.Prelude.{◌≡◌, ℕ, ◌<◌, List, false, unwrap_or, if◌then◌else◌, IfErr, OnOk};
-ghost use Rattle.std.specs.List.{last_or};
-ghost use Rattle.std.specs.Option.{option_copied};
+ghost use Rattle.std.specs.Prelude.{◌≡◌, ℕ, ◌<◌, List, false, if◌then◌else◌, IfErr, OnOk};
 ghost use Rattle.kv_keys.specs.Outcome.{Refuses};
 ghost use Rattle.kv_keys.specs.declared.error.KvError.TheVariants.{KeyExists};
 ghost use Rattle.kv_model.specs.Acceptance.{accept, has_value, is_full, next_write, objection, unless_last, unless_last_or_none};
 ghost use Rattle.kv_model.specs.Acts.{Act};
 ghost use Rattle.kv_model.specs.Requests.{asked};
-ghost use Rattle.kv_model.specs.Retained.{last_revision, last_write};
+ghost use Rattle.kv_model.specs.Retained.{last_revision};
 ghost use Rattle.kv_store.specs.Standing.{StandsFor};
 
 use crate::version::Version;
 use kv_keys::{Key, KvError};
-use kv_model::{Request, Write};
-
-fn last_or_zero(revisions: &[u64]) -> u64
-    ensures { result ≡ unwrap_or (last_or None revisions.now) 0 }
-{
-    match revisions.last() {
-        Some(last) => *last,
-        None => 0,
-    }
-}
+use kv_model::Request;
 
 fn unless_value(has_value: bool) -> Option<KvError>
     ensures { result ≡ (if has_value then Some KeyExists else None) }
@@ -60,17 +49,10 @@ impl Version {
     pub fn last_revision(&self, key: &Key) -> u64
         ensures { (acts : List Act) → StandsFor acts self.now → result ≡ last_revision key.now acts }
     {
-        match self.kept_at(key) {
-            Some(kept) => last_or_zero(kept),
+        match self.last_write(key) {
+            Some(write) => write.revision(),
             None => 0,
         }
-    }
-
-    // The last write of the key.
-    pub(crate) fn last_write(&self, key: &Key) -> Option<&Write>
-        ensures { (acts : List Act) → StandsFor acts self.now → option_copied result ≡ last_write key.now acts }
-    {
-        self.write_at(self.last_revision(key))
     }
 
     fn has_value(&self, key: &Key) -> bool

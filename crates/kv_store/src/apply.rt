@@ -9,7 +9,7 @@ ghost use Rattle.kv_store.specs.inside.Next.{HasOneMore, kept_before};
 ghost use Rattle.kv_model.specs.Requests.{asked};
 ghost use Rattle.kv_store.specs.Standing.{StandsFor};
 
-use crate::kept::next_kept;
+use crate::next::next_kept;
 use crate::put::put_write;
 use crate::version::Version;
 use kv_keys::{Key, KvError};

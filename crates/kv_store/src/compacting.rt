@@ -27,7 +27,7 @@ impl Version {
         ensures ok { IfOk result (IsCompacted floor self.now) }
         ensures err { IfErr result (λ e. e ≡ OutOfMemory) }
     {
-        let by_key = uncleared_keys(alloc, self, floor)?;
+        let by_key = uncleared_keys(alloc, &self.by_key, floor)?;
         let by_revision = left_writes(alloc, &self.by_revision, &by_key, floor)?;
         let values = kept_count(&by_key)?.min(self.values);
         Ok(self.with_parts(by_key, by_revision, values, floor, self.sealed))

@@ -1,43 +1,57 @@
-//! Which revisions of a key are kept after one more write.
+//! What is stored of a key.
 
-ghost use Rattle.std.specs.Prelude.{◌≡◌, ◌<◌, ◌∷◌, [], ◌++◌, IfOk};
-ghost use Rattle.kv_store.specs.inside.Next.{next_kept};
-ghost use Rattle.kv_model.specs.Retained.{last_n};
+ghost use Rattle.std.specs.Prelude.{◌≡◌};
+ghost use Rattle.std.specs.Arc.{arc_value};
 
-use kv_model::Op;
-use std::alloc::{AllocError, Global};
+use crate::rev::Rev;
+use kv_model::Write;
+use std::marker::Model;
+use std::sync::Arc;
 
-// The last of these revisions and one more, as many as are kept.
-fn last_with(
-    alloc: Global,
-    history: u64,
-    before: &[u64],
-    revision: u64,
-) -> Result<Vec<u64>, AllocError>
-    requires { 0 < history }
-    ensures { IfOk result (λ kept. kept.items ≡ last_n history (before.now ++ revision ∷ [])) }
-{
-    let surplus = (before.len() + 1).saturating_sub(history as usize);
-    let mut kept = Vec::with_capacity(alloc, before.len() + 1 - surplus)?;
-    kept.extend_from_slice(&before[surplus..])?;
-    kept.push(revision)?;
-    Ok(kept)
+/// What is stored of a key: the revisions that are kept of it, in order, and its last write. The entry of that write is
+/// the one that the trie of revisions has, so who asks for the last write of a key looks into one trie.
+pub struct Kept {
+    revisions: Vec<u64>,
+    last: Arc<(Rev, Write)>,
 }
 
-/// The kept revisions of a key after one more write of it: a purge removes those before it. There are at most as many
-/// as the history, so at most 64 numbers are copied.
-pub fn next_kept(
-    alloc: Global,
-    history: u64,
-    op: Op,
-    revision: u64,
-    before: &[u64],
-) -> Result<Vec<u64>, AllocError>
-    requires { 0 < history }
-    ensures { IfOk result (λ kept. kept.items ≡ next_kept history op revision before.now) }
-{
-    if op.is_purge() {
-        return last_with(alloc, history, &[], revision);
+impl Drop for Kept {
+    fn drop(self) {
+        let Self {
+            revisions: _,
+            last: _,
+        } = self;
     }
-    last_with(alloc, history, before, revision)
+}
+
+impl Model for Kept {
+    ghost use Rattle.std.specs.Arc.{arc_value};
+    ghost use Rattle.kv_store.specs.Stored.{Kept};
+
+    ghost Value = { Kept };
+
+    ghost view = { λ kept. record { revisions = kept.revisions.items; last = (arc_value kept.last).1 } };
+}
+
+impl Kept {
+    /// These revisions and this write.
+    pub(crate) fn new(revisions: Vec<u64>, last: Arc<(Rev, Write)>) -> Kept
+        ensures { result ≡ record { revisions = revisions.items; last = (arc_value last).1 } }
+    {
+        Kept { revisions, last }
+    }
+
+    /// The revisions that are kept, in order.
+    pub fn revisions(&self) -> &[u64]
+        ensures { result.now ≡ self.now.revisions }
+    {
+        &self.revisions
+    }
+
+    /// The last write.
+    pub fn last(&self) -> &Write
+        ensures { result.now ≡ self.now.last }
+    {
+        &self.last.1
+    }
 }

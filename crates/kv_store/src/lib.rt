@@ -11,6 +11,7 @@ mod kept;
 mod left;
 mod listed;
 mod literal;
+mod next;
 mod put;
 mod reads;
 mod rev;
@@ -18,6 +19,7 @@ mod version;
 mod wanted;
 mod writing;
 
+pub use kept::Kept;
 pub use rev::Rev;
 pub use version::Version;
 pub use wanted::Wanted;

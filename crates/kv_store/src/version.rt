@@ -9,10 +9,11 @@ ghost use Rattle.kv_keys.specs.declared.error.KvError.TheVariants.{OutOfMemory};
 ghost use Rattle.kv_model.specs.Acts.{Act, Seal, floor_of, is_sealed, writes_of};
 ghost use Rattle.kv_model.specs.Configuration.{configure};
 ghost use Rattle.kv_model.specs.Reads.{unless_empty, write_at_of};
-ghost use Rattle.kv_model.specs.Retained.{kept, revisions};
+ghost use Rattle.kv_model.specs.Retained.{kept, last_write, revisions};
 ghost use Rattle.kv_store.specs.Standing.{StandsFor};
-ghost use Rattle.kv_store.specs.Stored.{kept_at, write_at};
+ghost use Rattle.kv_store.specs.Stored.{kept_at, last_at, write_at};
 
+use crate::kept::Kept;
 use crate::rev::Rev;
 use arrayvec::ArrayString;
 use kv_keys::{Key, KvError};
@@ -31,7 +32,7 @@ pub struct Version {
     pub(crate) value_limit: u64,
     pub(crate) write_limit: u64,
     pub(crate) revision_limit: u64,
-    pub(crate) by_key: Trie<Key, Vec<u64>>,
+    pub(crate) by_key: Trie<Key, Kept>,
     pub(crate) by_revision: Trie<Rev, Write>,
     pub(crate) last: u64,
     pub(crate) values: u64,
@@ -72,7 +73,7 @@ impl Model for Version {
 
 impl Version {
     ghost use Rattle.kv_store.specs.inside.Bounds.{IsBounded};
-    ghost use Rattle.kv_store.specs.inside.Fields.{kept_entries};
+    ghost use Rattle.kv_store.specs.inside.Fields.{kept_entries, last_entries};
 
     /// The version of a new bucket: no write, not sealed. The name is checked before the numbers, and both before any
     /// request for memory.
@@ -102,7 +103,7 @@ impl Version {
     // The version of the same bucket with these parts.
     pub(crate) fn with_parts(
         &self,
-        by_key: Trie<Key, Vec<u64>>,
+        by_key: Trie<Key, Kept>,
         by_revision: Trie<Rev, Write>,
         values: u64,
         floor: u64,
@@ -110,6 +111,7 @@ impl Version {
     ) -> Version
         requires { IsBounded (record self.now {
           by_key = kept_entries by_key;
+          last_by_key = last_entries by_key;
           by_revision = by_revision;
           values = values;
           floor = floor;
@@ -117,6 +119,7 @@ impl Version {
         }) }
         ensures { result ≡ record self.now {
           by_key = kept_entries by_key;
+          last_by_key = last_entries by_key;
           by_revision = by_revision;
           values = values;
           floor = floor;
@@ -199,12 +202,15 @@ impl Version {
         self.sealed
     }
 
-    /// Of each key the revisions that are kept of it, in order.
-    pub fn by_key(&self) -> &Trie<Key, Vec<u64>>
+    /// Of each key what is stored of it: the revisions that are kept of it, in order, and its last write.
+    pub fn by_key(&self) -> &Trie<Key, Kept>
         ensures value { kept_entries result.now ≡ self.now.by_key }
+        ensures last_value { last_entries result.now ≡ self.now.last_by_key }
         ensures acts { (acts : List Act) → StandsFor acts self.now → (key : List ℕ) →
             lookup (λ k. bytes_eq key k) (kept_entries result.now)
             ≡ unless_empty (revisions (kept self.now.config.history key acts)) }
+        ensures last { (acts : List Act) → StandsFor acts self.now → (key : List ℕ) →
+            lookup (λ k. bytes_eq key k) (last_entries result.now) ≡ last_write key acts }
     {
         &self.by_key
     }
@@ -223,7 +229,19 @@ impl Version {
         ensures { option_copied result ≡ kept_at key.now self.now }
     {
         match self.by_key.get(key) {
-            Some(kept) => Some(kept.as_slice()),
+            Some(kept) => Some(kept.revisions()),
+            None => None,
+        }
+    }
+
+    /// The last write of the key, put or marker; none where it was never written, or was cleared and not written since.
+    /// It looks into the trie of keys alone, and takes no memory.
+    pub fn last_write(&self, key: &Key) -> Option<&Write>
+        ensures value { option_copied result ≡ last_at key.now self.now }
+        ensures acts { (acts : List Act) → StandsFor acts self.now → option_copied result ≡ last_write key.now acts }
+    {
+        match self.by_key.get(key) {
+            Some(kept) => Some(kept.last()),
             None => None,
         }
     }

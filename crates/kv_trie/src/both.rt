@@ -1,40 +1,45 @@
 //! One change of two maps.
 
 ghost use Rattle.std.specs.Prelude.{◌≡◌, ◌<◌, ◌-◌, ◌^◌, length, if◌then◌else◌, Some, IfErr, OnErr, OnOk};
+ghost use Rattle.std.specs.Arc.{arc_value};
 ghost use Rattle.std.specs.BTreeMap.{is_at};
 ghost use Rattle.std.specs.Map.{lookup};
 ghost use Rattle.kv_keys.specs.declared.error.KvError.TheVariants.{OutOfMemory};
 ghost use Rattle.kv_trie.specs.Form.{order, put_pair};
 
-use crate::companion::Companion;
+use crate::companion::{Alone, Companion};
 use crate::node::Pair;
 use crate::trie::Trie;
 use kv_keys::{KvError, Place};
 use std::alloc::Global;
 use std::mem;
+use std::sync::Arc;
 
 // A trie, and the pair that is put into it with a change of another one, or not at all.
 #[derive(Drop)]
 struct Waiting<K: Place, V> {
     alloc: Global,
     trie: Trie<K, V>,
-    pair: Option<Pair<K, V>>,
+    pair: Option<Arc<Pair<K, V>>>,
 }
 
 impl<K: Place + Drop, V: Drop> Companion for Waiting<K, V> {
     ghost use Rattle.std.specs.Prelude.{◌≡◌, ◌<◌, ◌-◌, ◌^◌, length, IsSome, Some};
+    ghost use Rattle.std.specs.Arc.{arc_value};
+    ghost use Rattle.std.specs.declared.alloc.Global.{Global};
+    ghost use Rattle.std.specs.declared.sync.Arc.{Arc};
     ghost use Rattle.kv_trie.specs.Form.{order, put_pair};
 
     ghost ready = { λ waiting. IsSome waiting.pair × (length waiting.trie < 2 ^ 32 - 1) };
 
-    ghost done = { λ old new. (pair : K × V) → old.pair ≡ Some pair →
-        new.trie ≡ put_pair (order K.cmp K.place_of 11) pair old.trie };
+    ghost done = { λ old new. (pair : Arc (K × V) Global) → old.pair ≡ Some pair →
+        new.trie ≡ put_pair (order K.cmp K.place_of 11) (arc_value pair) old.trie };
 
     ghost kept = { λ old new. new.trie ≡ old.trie };
 
     fn commit(&mut self) -> Result<(), KvError> {
         match self.pair.take() {
-            Some((key, value)) => self.trie.put(self.alloc, key, value),
+            Some(pair) => self.trie.put_with(self.alloc, pair, &mut Alone),
             None => unreachable!(),
         }
     }
@@ -42,23 +47,25 @@ impl<K: Place + Drop, V: Drop> Companion for Waiting<K, V> {
 
 /// Puts a pair into each of two tries, in place of any with an equal key, or changes neither. Where nobody else has a
 /// node of the two paths, that node itself is changed; else a copy of it is, so snapshots and older versions stay as
-/// they were. Where it is refused both pairs are dropped.
+/// they were. The tries share the pairs with whoever has them else.
 pub fn put_both<K1: Place + Drop, V1: Drop, K2: Place + Drop, V2: Drop>(
     alloc: Global,
     first: &mut Trie<K1, V1>,
-    first_pair: Pair<K1, V1>,
+    first_pair: Arc<Pair<K1, V1>>,
     second: &mut Trie<K2, V2>,
-    second_pair: Pair<K2, V2>,
+    second_pair: Arc<Pair<K2, V2>>,
 ) -> Result<(), KvError>
     requires first { length first.old < 2 ^ 32 - 1 }
     requires second { length second.old < 2 ^ 32 - 1 }
     ensures err { IfErr result (λ error. error ≡ OutOfMemory) }
-    ensures pairs { OnOk result ((first.new ≡ put_pair (order K1.cmp K1.place_of 11) first_pair first.old)
-        × (second.new ≡ put_pair (order K2.cmp K2.place_of 11) second_pair second.old)) }
+    ensures pairs { OnOk result ((first.new ≡ put_pair (order K1.cmp K1.place_of 11) (arc_value first_pair) first.old)
+        × (second.new ≡ put_pair (order K2.cmp K2.place_of 11) (arc_value second_pair) second.old)) }
     ensures first_map { OnOk result ((q : K1) → lookup (is_at (K1.cmp q)) first.new ≡
-        (if is_at (K1.cmp first_pair.0) q then Some first_pair.1 else lookup (is_at (K1.cmp q)) first.old)) }
+        (if is_at (K1.cmp (arc_value first_pair).0) q then Some (arc_value first_pair).1
+        else lookup (is_at (K1.cmp q)) first.old)) }
     ensures second_map { OnOk result ((q : K2) → lookup (is_at (K2.cmp q)) second.new ≡
-        (if is_at (K2.cmp second_pair.0) q then Some second_pair.1 else lookup (is_at (K2.cmp q)) second.old)) }
+        (if is_at (K2.cmp (arc_value second_pair).0) q then Some (arc_value second_pair).1
+        else lookup (is_at (K2.cmp q)) second.old)) }
     ensures unchanged { OnErr result ((first.new ≡ first.old) × (second.new ≡ second.old)) }
 {
     let mut waiting = Waiting {
@@ -66,8 +73,7 @@ pub fn put_both<K1: Place + Drop, V1: Drop, K2: Place + Drop, V2: Drop>(
         trie: mem::replace(second, Trie::new()),
         pair: Some(second_pair),
     };
-    let (key, value) = first_pair;
-    let put = first.put_with(alloc, key, value, &mut waiting);
+    let put = first.put_with(alloc, first_pair, &mut waiting);
     *second = waiting.trie;
     put
 }

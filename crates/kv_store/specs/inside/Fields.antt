@@ -1,12 +1,16 @@
 -- What a version's fields store.
-use Rattle.std.specs.Prelude.{ℕ, List, map, Vec}
-use Rattle.std.specs.declared.alloc.Global.{Global}
-use Rattle.kv_store.specs.Stored.{Stored}
+use Rattle.std.specs.Prelude.{ℕ, List, map}
+use Rattle.kv_model.specs.Acts.{Write}
+use Rattle.kv_store.specs.Stored.{Kept, Stored}
 use Rattle.kv_store.specs.declared.version.Version.TheInside.{Inside}
 
--- the entries of the key trie, whatever memory holds the revisions
-abbrev pub kept_entries : List (List ℕ × Vec ℕ Global) → List (List ℕ × List ℕ)
-kept_entries entries = map (λ e. (e.0, e.1.items)) entries
+-- the revisions in the entries of the key trie
+abbrev pub kept_entries : List (List ℕ × Kept) → List (List ℕ × List ℕ)
+kept_entries entries = map (λ e. (e.0, e.1.revisions)) entries
+
+-- the last writes in the entries of the key trie
+abbrev pub last_entries : List (List ℕ × Kept) → List (List ℕ × Write)
+last_entries entries = map (λ e. (e.0, e.1.last)) entries
 
 abbrev pub stored_of : Inside → Stored
 stored_of v = record {
@@ -18,6 +22,7 @@ stored_of v = record {
     revision_limit = v.revision_limit;
   };
   by_key = kept_entries v.by_key;
+  last_by_key = last_entries v.by_key;
   by_revision = v.by_revision;
   last = v.last;
   values = v.values;

@@ -4,7 +4,7 @@ use Rattle.std.specs.Str.{bytes_eq}
 use Rattle.kv_model.specs.declared.write.Op.{Op}
 use Rattle.kv_model.specs.Acts.{Write, is_purge}
 use Rattle.kv_model.specs.Retained.{last_n}
-use Rattle.kv_store.specs.Stored.{Stored, kept_at, write_at}
+use Rattle.kv_store.specs.Stored.{Stored, kept_at, last_at, write_at}
 
 -- the kept revisions of a key after one more write of it: that one behind those before it, none of them where it is a
 -- purge, and of all these the last h
@@ -20,7 +20,7 @@ abbrev pub kept_after : Write → Stored → List ℕ
 kept_after w version = next_kept version.config.history w.op w.revision (kept_before w.key version)
 
 -- the new version has this write beside those of the old one, the next kept revisions of its key, and of each other key
--- the same
+-- the same; and it is the last write of its key
 pub record HasOneMore (w : Write) (old new : Stored) : Type 0 where
   pub config : new.config ≡ old.config
   pub last : new.last ≡ old.last + 1
@@ -28,6 +28,7 @@ pub record HasOneMore (w : Write) (old new : Stored) : Type 0 where
       write_at revision old)
   pub kept : (key : List ℕ) → kept_at key new ≡ (if bytes_eq w.key key then Some (kept_after w old) else
       kept_at key old)
+  pub last_of : (key : List ℕ) → last_at key new ≡ (if bytes_eq w.key key then Some w else last_at key old)
   pub values : new.values ≡ (old.values + length (kept_after w old)) - length (kept_before w.key old)
   pub floor : new.floor ≡ old.floor
   pub sealed : new.sealed ≡ old.sealed

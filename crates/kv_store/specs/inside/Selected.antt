@@ -2,12 +2,10 @@
 use Rattle.std.specs.Prelude.{ℕ, Bool, nat_le, List, [], Option, None, filter, if◌then◌else◌}
 use Rattle.std.specs.List.{last_or}
 use Rattle.std.specs.Option.{option_to_list, option_map, option_and_then}
-use Rattle.std.specs.declared.alloc.Global.{Global}
-use Rattle.std.specs.declared.vec.Vec.{Vec}
 use Rattle.kv_model.specs.declared.options.Start.{Start}
 use Rattle.kv_model.specs.declared.options.Start.TheVariants.{Latest, History, Updates, From}
 use Rattle.kv_model.specs.Reads.{if_put}
-use Rattle.kv_store.specs.Stored.{Stored, write_at}
+use Rattle.kv_store.specs.Stored.{Kept, Stored, write_at}
 use Rattle.kv_store.specs.inside.Compacted.{kept_in}
 use Rattle.kv_store.specs.inside.Fields.{kept_entries}
 
@@ -19,11 +17,11 @@ initial_revisions Updates rs = []
 initial_revisions (From revision) rs = filter (λ r. nat_le revision r) rs
 
 -- those of an entry whose key is asked for
-abbrev pub initial_of : (List ℕ → Bool) → Start → List ℕ × Vec ℕ Global → List ℕ
-initial_of wants start entry = if wants entry.0 then initial_revisions start entry.1.items else []
+abbrev pub initial_of : (List ℕ → Bool) → Start → List ℕ × Kept → List ℕ
+initial_of wants start entry = if wants entry.0 then initial_revisions start entry.1.revisions else []
 
 -- those that entries keep of a key
-abbrev pub initial_at : Start → List (List ℕ × Vec ℕ Global) → List ℕ → List ℕ
+abbrev pub initial_at : Start → List (List ℕ × Kept) → List ℕ → List ℕ
 initial_at start entries key = initial_revisions start (kept_in key (kept_entries entries))
 
 -- the key of the write that is stored of a revision, where that is a put

@@ -107,8 +107,22 @@ fn last(kept: Option<&[u64]>) -> u64 {
 
 fn in_trie<'a>(version: &'a Version, key: &Key) -> Option<&'a [u64]> {
     match version.by_key().get(key) {
-        Some(kept) => Some(kept.as_slice()),
+        Some(kept) => Some(kept.revisions()),
         None => None,
+    }
+}
+
+fn last_in_trie(version: &Version, key: &Key) -> u64 {
+    match version.by_key().get(key) {
+        Some(kept) => kept.last().revision(),
+        None => 0,
+    }
+}
+
+fn revision_of(write: Option<&Write>) -> u64 {
+    match write {
+        Some(write) => write.revision(),
+        None => 0,
     }
 }
 
@@ -123,6 +137,8 @@ fn has_kept(
     equal(rt, version.kept_at(&key), wanted);
     equal(rt, in_trie(version, &key), wanted);
     equal(rt, version.last_revision(&key), last(wanted));
+    equal(rt, last_in_trie(version, &key), last(wanted));
+    equal(rt, revision_of(version.last_write(&key)), last(wanted));
     Ok(())
 }
 

@@ -2,6 +2,7 @@
 
 use super::*;
 use kv_trie::put_both;
+use std::sync::Arc;
 
 // The names are the keys of the one trie and of the other, in which those of one length have one place. The first and
 // the last get new values.
@@ -26,7 +27,9 @@ fn put_in_both(
     let key = Key::named(alloc, text)?;
     let short = Short::named(alloc, text)?;
     if keys.len() < MANY && shorts.len() < MANY {
-        put_both(alloc, keys, (key, value), shorts, (short, value))
+        let of_key = Arc::new(alloc, (key, value))?;
+        let of_short = Arc::new(alloc, (short, value))?;
+        put_both(alloc, keys, of_key, shorts, of_short)
     } else {
         Err(KvError::JournalFull)
     }

@@ -1,5 +1,6 @@
 use Rattle.std.proofs.Common.{rules, refl, ◌∙◌, ap}
 use Rattle.std.proofs.lemmas.Result.{on_ok_weaker}
+use Rattle.std.specs.Arc.{arc_value}
 use Rattle.kv_trie.specs.Form.{order, put_pair}
 use Rattle.kv_trie.proofs.Maps.{lookup-put}
 use Rattle.kv_trie.proofs.both.put_both.Goals as goal
@@ -11,8 +12,8 @@ returns-clause-second_map g c =
     let pair = c.args.second_pair in
     on_ok_weaker c.put_with-put.result
     (λ done q.
-    let made = done pair refl ∙ ap (put_pair (order g.K2.Ord.cmp place 11) pair) c.replace.ensures.value in
-    rw made (lookup-put total place g.met.K2.Place.respects_equal 11 pair c.args.second.now q))
+    let made = done pair refl ∙ ap (put_pair (order g.K2.Ord.cmp place 11) (arc_value pair)) c.replace.ensures.value in
+    rw made (lookup-put total place g.met.K2.Place.respects_equal 11 (arc_value pair) c.args.second.now q))
     c.put_with-put.ensures.done
 
 pub returns-clause-pairs : goal.returns-clause-pairs

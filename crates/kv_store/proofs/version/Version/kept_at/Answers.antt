@@ -1,18 +1,18 @@
 use Rattle.std.proofs.Common.{Some, sym, ap, ◌∙◌}
 use Rattle.std.specs.Option.{option_map}
 use Rattle.kv_store.specs.Stored.{kept_at}
-use Rattle.kv_store.proofs.Lookups.{kept_by_bytes}
+use Rattle.kv_store.proofs.Lookups.{by_bytes}
 use Rattle.kv_store.proofs.version.Version.kept_at.Goals as goal
 
 pub returns-in-Some : goal.returns-in-Some
 returns-in-Some c =
-    ap (λ xs. Some xs) c.as_slice.ensures.value
-    ∙ ap (option_map (λ v. v.items)) c.in-Some.ensures
-    ∙ sym (kept_by_bytes c.args.key.now c.self.inside.by_key)
+    ap (λ xs. Some xs) c.revisions.ensures
+    ∙ ap (option_map (λ v. v.revisions)) c.in-Some.ensures
+    ∙ sym (by_bytes (λ v. v.revisions) c.args.key.now c.self.inside.by_key)
     ∙ ap (kept_at c.args.key.now) c.self.view_is
 
 pub returns-in-None : goal.returns-in-None
 returns-in-None c =
-    ap (option_map (λ v. v.items)) c.in-None.ensures
-    ∙ sym (kept_by_bytes c.args.key.now c.self.inside.by_key)
+    ap (option_map (λ v. v.revisions)) c.in-None.ensures
+    ∙ sym (by_bytes (λ v. v.revisions) c.args.key.now c.self.inside.by_key)
     ∙ ap (kept_at c.args.key.now) c.self.view_is

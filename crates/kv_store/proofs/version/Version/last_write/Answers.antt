@@ -1,11 +1,24 @@
-use Rattle.std.proofs.Common.{ap, ◌∙◌}
-use Rattle.kv_model.specs.Reads.{write_at_of}
-use Rattle.kv_model.proofs.Found.{write_at-last}
-use Rattle.kv_store.proofs.Reading.{history_some}
+use Rattle.std.proofs.Common.{Some, sym, ap, ◌∙◌}
+use Rattle.std.specs.Option.{option_map}
+use Rattle.kv_store.specs.Stored.{last_at}
+use Rattle.kv_store.proofs.Lookups.{by_bytes}
 use Rattle.kv_store.proofs.version.Version.last_write.Goals as goal
 
-pub returns : goal.returns
-returns c = λ acts s.
-    c.write_at.ensures.acts acts s
-    ∙ ap (λ r. write_at_of c.args.self.now.config.history r acts) (c.last_revision.ensures acts s)
-    ∙ write_at-last c.args.self.now.config c.args.self.now.config.history c.args.key.now acts (history_some c.args.self.now.config s.legal) s.lawful
+pub returns-in-Some-clause-value : goal.returns-in-Some-clause-value
+returns-in-Some-clause-value c =
+    ap (λ w. Some w) c.last.ensures
+    ∙ ap (option_map (λ v. v.last)) c.in-Some.ensures
+    ∙ sym (by_bytes (λ v. v.last) c.args.key.now c.self.inside.by_key)
+    ∙ ap (last_at c.args.key.now) c.self.view_is
+
+pub returns-in-Some-clause-acts : goal.returns-in-Some-clause-acts
+returns-in-Some-clause-acts c = λ acts s. returns-in-Some-clause-value c ∙ s.last_of c.args.key.now
+
+pub returns-in-None-clause-value : goal.returns-in-None-clause-value
+returns-in-None-clause-value c =
+    ap (option_map (λ v. v.last)) c.in-None.ensures
+    ∙ sym (by_bytes (λ v. v.last) c.args.key.now c.self.inside.by_key)
+    ∙ ap (last_at c.args.key.now) c.self.view_is
+
+pub returns-in-None-clause-acts : goal.returns-in-None-clause-acts
+returns-in-None-clause-acts c = λ acts s. returns-in-None-clause-value c ∙ s.last_of c.args.key.now

@@ -1,4 +1,5 @@
 use Rattle.std.proofs.Common.{◌≡◌, length, sym, ap, ◌∙◌, subst}
+use Rattle.std.specs.Arc.{arc_value}
 use Rattle.kv_trie.specs.Form.{order, Ascends, put_pair}
 use Rattle.kv_trie.specs.Stored.{shape_of}
 use Rattle.kv_trie.specs.Trie.{root_pairs}
@@ -7,15 +8,15 @@ use Rattle.kv_trie.proofs.trie.Trie.put_with.Goals as goal
 use Rattle.kv_trie.proofs.trie.Trie.put_with.Goals.{In_ok-put}
 
 -- the pairs below the new root
-made : (g : _) (c : In_ok-put g) → root_pairs c.put.new.node ≡ put_pair (order g.K.Ord.cmp g.K.Place.place_of 11) (c.args.key, c.args.value) c.args.self.now
-made g c = rw (c.in_ok-pair.ensures.ok, c.self.view_is) at c.in_ok-put.ensures.form.has
+made : (g : _) (c : In_ok-put g) → root_pairs c.put.new.node ≡ put_pair (order g.K.Ord.cmp g.K.Place.place_of 11) (arc_value c.args.pair) c.args.self.now
+made g c = rw c.self.view_is at c.in_ok-put.ensures.form.has
 
 pub invariant_of-self-2 : goal.invariant_of-self-2
 invariant_of-self-2 g c =
     let ascends = subst (Ascends (order g.K.Ord.cmp g.K.Place.place_of 11)) c.self.view_is (Ascends-node g.K.Ord.cmp g.K.Place.place_of 11 (shape_of c.self.inside.root) c.self.invariant.1) in
-    let counted = length-put-order g.met.K.Ord.total g.K.Place.place_of g.met.K.Place.respects_equal 11 (c.args.key, c.args.value) c.args.self.now ascends in
-    (c.len_with-entries.ensures ∙ sym counted ∙ ap length (sym (made g c)), c.in_ok-put.ensures.form.form)
+    let counted = length-put-order g.met.K.Ord.total g.K.Place.place_of g.met.K.Place.respects_equal 11 (arc_value c.args.pair) c.args.self.now ascends in
+    (rw c.deref-2.ensures at c.len_with-entries.ensures ∙ sym counted ∙ ap length (sym (made g c)), c.in_ok-put.ensures.form.form)
 
 pub returns-clause-map : goal.returns-clause-map
 returns-clause-map g c = λ q.
-    rw (made g c) (lookup-put g.met.K.Ord.total g.K.Place.place_of g.met.K.Place.respects_equal 11 (c.args.key, c.args.value) c.args.self.now q)
+    rw (made g c) (lookup-put g.met.K.Ord.total g.K.Place.place_of g.met.K.Place.respects_equal 11 (arc_value c.args.pair) c.args.self.now q)
