@@ -18,25 +18,21 @@ fields_whole (Number name n ∷ fields) = fields_whole fields
 fields_whole (fields.Text name text ∷ fields) = fields_whole fields
 fields_whole (Truth name truth ∷ fields) = fields_whole fields
 
+either_whole : (test : Bool) (one other : Members) → members_have_float one ≡ false → members_have_float other ≡ false → members_have_float (cond test one other) ≡ false
+either_whole true one other h k = h
+either_whole false one other h k = k
+
 value_whole : (form : Form) (value : Option (List ℕ)) (more : Members) → members_have_float more ≡ false → members_have_float (value_fields form value more) ≡ false
 value_whole Base64 None more h = h
 value_whole Text None more h = h
 value_whole Base64 (Some value) more h = h
-value_whole Text (Some value) more h = by_utf8 (is_utf8 value)
-  where
-    by_utf8 : (text : Bool) → members_have_float (cond text (value_field value more) more) ≡ false
-    by_utf8 true = h
-    by_utf8 false = h
+value_whole Text (Some value) more h = either_whole (is_utf8 value) (value_field value more) more h h
 
 base64_whole : (form : Form) (value : Option (List ℕ)) (more : Members) → members_have_float more ≡ false → members_have_float (base64_fields form value more) ≡ false
 base64_whole Base64 None more h = h
 base64_whole Text None more h = h
 base64_whole Base64 (Some value) more h = h
-base64_whole Text (Some value) more h = by_utf8 (is_utf8 value)
-  where
-    by_utf8 : (text : Bool) → members_have_float (cond text more (base64_field value more)) ≡ false
-    by_utf8 true = h
-    by_utf8 false = h
+base64_whole Text (Some value) more h = either_whole (is_utf8 value) more (base64_field value more) h h
 
 pub entry_whole : (form : Form) (entry : Entry) (more : Members) → members_have_float more ≡ false → members_have_float (entry_fields form entry more) ≡ false
 entry_whole form entry more h = base64_whole form entry.value _ (value_whole form entry.value more h)
