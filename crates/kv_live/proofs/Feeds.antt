@@ -17,8 +17,8 @@ use Rattle.kv_watch.proofs.Reaching.{in_reach_later}
 use Rattle.kv_live.specs.inside.Fed.{IsFed, acts_on, feeding_of}
 use Rattle.kv_live.specs.Feeding.{Feeding, HasSeenMore, IsRefreshed, given_by, lags, next_of, after_item}
 use Rattle.kv_live.specs.Known.{Known}
-use Rattle.kv_live.specs.inside.Shelves.{Shelved}
-use Rattle.kv_live.proofs.Prefixes.{prefix_self, prefix_trans}
+use Rattle.kv_log.specs.Shelves.{Shelved}
+use Rattle.kv_log.proofs.Prefixes.{prefix_self, prefix_trans}
 
 -- a feed that goes on to what its reader has seen by now
 pub fed_later : (config : Configuration) (before after : Known) (base now next : Shelved) (cursor : Following) → IsFed config before base now cursor → IsPrefix before.seen after.seen

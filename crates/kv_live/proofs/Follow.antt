@@ -8,7 +8,7 @@ use Rattle.kv_model.specs.Given.{Item}
 use Rattle.kv_model.proofs.GivenLaws.{given_goes_on}
 use Rattle.kv_live.specs.Feeding.{Feeding, given_by, next_of, IsRefreshed, IsNotRefreshed, HasLearned, WentOn, HandsNext, after_item, IsStep, Step, IsRun, last_of, items_of, HandsOut}
 use Rattle.kv_live.proofs.Going.{went_by_refresh}
-use Rattle.kv_live.proofs.Prefixes.{prefix_trans}
+use Rattle.kv_log.proofs.Prefixes.{prefix_trans}
 
 -- items that are the first of a list are the first of each list that begins with it
 still_first : (n : ℕ) (items xs ys : List Item) → IsPrefix xs ys → n ≤ length xs → items ≡ take n xs → (n ≤ length ys) × (items ≡ take n ys)

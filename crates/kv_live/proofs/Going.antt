@@ -3,7 +3,7 @@ use Rattle.std.proofs.Common.{◌≡◌, ◌⊎◌, ⊎_elim, List, inl, inr, re
 use Rattle.kv_model.specs.Acts.{Act, IsPrefix}
 use Rattle.kv_live.specs.Feeding.{Feeding, IsRefreshed, IsNotRefreshed, WentOn}
 use Rattle.kv_live.specs.Known.{Known}
-use Rattle.kv_live.proofs.Prefixes.{prefix_self, prefix_trans}
+use Rattle.kv_log.proofs.Prefixes.{prefix_self, prefix_trans}
 
 abbrev moved : Feeding → Known → List Act → Feeding
 moved feed reader acts = record feed { reader = reader; acts = acts }

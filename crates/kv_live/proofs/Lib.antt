@@ -1,11 +1,8 @@
-pub mod Adding
 pub mod Feeds
 pub mod Follow
 pub mod Keeping
 pub mod Going
 pub mod Once
 pub mod Owing
-pub mod Prefixes
-pub mod Publishing
 pub mod Sent
 pub mod Somewhere

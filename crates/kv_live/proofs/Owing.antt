@@ -9,7 +9,7 @@ use Rattle.kv_live.specs.Owed.{Owes, HasOnce}
 use Rattle.kv_live.proofs.Feeds.{ends}
 use Rattle.kv_live.proofs.Follow.{run_hands_out}
 use Rattle.kv_live.proofs.Once.{all_has_once}
-use Rattle.kv_live.proofs.Prefixes.{prefix_self, prefix_trans}
+use Rattle.kv_log.proofs.Prefixes.{prefix_self, prefix_trans}
 
 -- what a feed was told and went on to only grows
 abbrev pub HasGrown : Feeding → Feeding → Type 0

@@ -7,7 +7,7 @@ use Rattle.kv_model.specs.Acceptance.{accept, IsLawful}
 use Rattle.kv_model.specs.Acts.{Act, Wrote, Write}
 use Rattle.kv_model.specs.Configuration.{Configuration, configure}
 use Rattle.kv_model.specs.Requests.{Asked}
-use Rattle.kv_live.specs.Openings.{Opening}
+use Rattle.kv_log.specs.Openings.{Opening}
 use Rattle.kv_live.specs.Posted.{Posted}
 use Rattle.kv_model.specs.declared.call.Call.{Call}
 use Rattle.kv_model.specs.Answers.{Answer}

@@ -1,7 +1,6 @@
 pub mod Feeding
 pub mod Keeping
 pub mod Known
-pub mod Openings
 pub mod Owed
 pub mod Posted
 pub mod inside

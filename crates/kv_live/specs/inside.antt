@@ -1,4 +1,1 @@
-pub mod Deeds
 pub mod Fed
-pub mod Rules
-pub mod Shelves

@@ -4,13 +4,11 @@ ghost use Rattle.std.specs.Prelude.{◌≡◌, true, IfErr, OnErr, OnOk};
 ghost use Rattle.kv_model.specs.Acts.{IsPrefix};
 ghost use Rattle.kv_store.specs.Standing.{StandsFor};
 ghost use Rattle.kv_live.specs.Known.{IsUnread};
-ghost use Rattle.kv_live.specs.inside.Shelves.{IsOf};
+ghost use Rattle.kv_log.specs.Shelves.{IsOf};
 
-use crate::front::Front;
-use crate::history::LiveName;
 use crate::knowledge::Knowledge;
-use crate::shelf::Shelf;
 use kv_keys::KvError;
+use kv_log::{Front, LiveName, Shelf};
 use kv_store::Version;
 use std::marker::{Model, PhantomData};
 
@@ -25,7 +23,7 @@ pub struct Cached<N: LiveName> {
 impl<N: LiveName> Model for Cached<N> {
     ghost use Rattle.std.specs.Prelude.{List};
     ghost use Rattle.kv_model.specs.Acts.{Act};
-    ghost use Rattle.kv_live.specs.inside.Shelves.{IsOf};
+    ghost use Rattle.kv_log.specs.Shelves.{IsOf};
 
     ghost Value = { List Act };
 

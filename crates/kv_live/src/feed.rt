@@ -16,14 +16,12 @@ ghost use Rattle.kv_live.specs.inside.Fed.{acts_on, opened};
 ghost use Rattle.kv_live.specs.Feeding.{Feeding, HasSeenMore, HasLearned, IsRefreshed, IsNotRefreshed, IsStopped, lags, WentOn, HandsNext, given_by, next_of, after_item};
 ghost use Rattle.kv_live.specs.Known.{IsUnread};
 ghost use Rattle.kv_live.specs.Owed.{Owes, HasOnce};
-ghost use Rattle.kv_live.specs.inside.Shelves.{IsOf};
+ghost use Rattle.kv_log.specs.Shelves.{IsOf};
 
-use crate::bell::Woken;
-use crate::history::LiveName;
 use crate::reader::Reader;
 use crate::receipt::Receipt;
-use crate::shelf::Shelf;
 use kv_keys::{Filters, KvError};
+use kv_log::{LiveName, Shelf, Woken};
 use kv_model::{Event, Options, Stopped};
 use kv_store::Version;
 use kv_watch::{Cursor, Taken};

@@ -17,13 +17,12 @@ ghost use Rattle.kv_model.specs.Answers.{Revision, Sealed, Watching, Ended, Comp
 ghost use Rattle.kv_live.specs.Keeping.{IsAt, IsSomewhere, IsKeptStep, IsLeft, PublishesWrite, StaysOpen};
 ghost use Rattle.kv_model.specs.State.{State, answer_to, may_compact, next_number};
 
-use crate::deed::Deed;
-use crate::history::LiveName;
 use crate::publisher::Publisher;
 use crate::reader::Reader;
 use crate::receipt::Receipt;
 use kv_bucket::Bucket;
 use kv_keys::{Filters, KvError};
+use kv_log::{Deed, LiveName};
 use kv_model::{Options, Request, Stopped};
 use kv_store::Version;
 use kv_watch::Taken;

@@ -6,13 +6,11 @@ ghost use Rattle.kv_keys.specs.declared.error.KvError.TheVariants.{NoReader};
 ghost use Rattle.kv_model.specs.Acts.{IsPrefix, floor_of};
 ghost use Rattle.kv_store.specs.Standing.{StandsFor};
 ghost use Rattle.kv_live.specs.inside.Fed.{TellsLag, TellsLagOf, IsNotShown};
-ghost use Rattle.kv_live.specs.inside.Shelves.{IsOf};
+ghost use Rattle.kv_log.specs.Shelves.{IsOf};
 
-use crate::front::{Front, Glimpse};
-use crate::history::LiveName;
 use crate::receipt::Receipt;
-use crate::shelf::Shelf;
 use kv_keys::KvError;
+use kv_log::{Front, Glimpse, LiveName, Shelf};
 use kv_watch::Cursor;
 use std::marker::Model;
 

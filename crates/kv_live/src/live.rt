@@ -11,14 +11,13 @@ ghost use Rattle.kv_live.specs.Known.{IsUnread};
 ghost use Rattle.kv_live.specs.Posted.{IsOpenUnlessLost};
 ghost use Rattle.kv_live.specs.Keeping.{IsSomewhere, PublishesWrite, WritesSomewhere, RefusedSomewhere, CompactsSomewhere, UncompactedSomewhere, may_open};
 
-use crate::bell::Bell;
-use crate::history::{Blank, LiveName};
 use crate::keeper::Keeper;
 use crate::publisher::Publisher;
 use crate::reader::Reader;
 use crate::receipt::Receipt;
 use kv_bucket::Bucket;
 use kv_keys::KvError;
+use kv_log::{Bell, Blank, LiveName};
 use kv_model::{Config, Request};
 use std::alloc::Global;
 use std::marker::{Brand, Model};

@@ -6,19 +6,12 @@ ghost use Rattle.kv_model.specs.Acts.{writes_of};
 ghost use Rattle.kv_store.specs.Standing.{StandsFor};
 ghost use Rattle.kv_live.specs.Known.{IsUnread};
 ghost use Rattle.kv_live.specs.Posted.{IsOpenUnlessLost, Posts, PostsNothing, showing};
-ghost use Rattle.kv_live.specs.inside.Shelves.{IsOf};
+ghost use Rattle.kv_log.specs.Shelves.{IsOf};
 
-use crate::bell::Bell;
-use crate::copies::Copies;
-use crate::deed::Deed;
-use crate::front::Front;
-use crate::history::{Blank, Head, LiveName};
-use crate::last::Last;
 use crate::reader::Reader;
 use crate::receipt::Receipt;
-use crate::recent::Recent;
-use crate::shelf::Shelf;
 use kv_keys::KvError;
+use kv_log::{Bell, Blank, Copies, Deed, Front, Head, Last, LiveName, Recent, Shelf};
 use kv_store::Version;
 use std::alloc::Global;
 use std::marker::Model;
@@ -50,7 +43,7 @@ impl<N: LiveName> Model for Publisher<N> {
     ghost use Rattle.std.specs.Prelude.{◌≡◌, [], IfSome};
     ghost use Rattle.std.specs.Option.{is_some};
     ghost use Rattle.kv_live.specs.Posted.{IsOpenUnlessLost, Posted};
-    ghost use Rattle.kv_live.specs.inside.Shelves.{IsOf};
+    ghost use Rattle.kv_log.specs.Shelves.{IsOf};
 
     ghost Value = { Posted };
 

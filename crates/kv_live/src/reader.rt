@@ -7,17 +7,13 @@ ghost use Rattle.kv_model.specs.Acts.{IsPrefix, floor_of};
 ghost use Rattle.kv_store.specs.Standing.{StandsFor};
 ghost use Rattle.kv_live.specs.Known.{IsUnread};
 ghost use Rattle.kv_live.specs.inside.Fed.{TellsLag, TellsLagOf, IsNotShown};
-ghost use Rattle.kv_live.specs.inside.Shelves.{IsOf};
+ghost use Rattle.kv_log.specs.Shelves.{IsOf};
 
-use crate::bell::{Bell, Woken};
 use crate::cached::Cached;
-use crate::front::Front;
-use crate::history::LiveName;
 use crate::knowledge::Knowledge;
 use crate::receipt::Receipt;
-use crate::rule::{Gets, Published};
-use crate::shelf::Shelf;
 use kv_keys::KvError;
+use kv_log::{Bell, Front, Gets, LiveName, Published, Shelf, Woken};
 use kv_store::Version;
 use kv_watch::Cursor;
 use left_right::reader::Reader as Seat;
@@ -52,7 +48,7 @@ impl<N: LiveName> Drop for Reader<N> {
 impl<N: LiveName> Model for Reader<N> {
     ghost use Rattle.std.specs.Prelude.{◌≡◌, [], IsSome};
     ghost use Rattle.kv_live.specs.Known.{Known};
-    ghost use Rattle.kv_live.specs.inside.Shelves.{IsOf};
+    ghost use Rattle.kv_log.specs.Shelves.{IsOf};
 
     ghost Value = { Known };
 

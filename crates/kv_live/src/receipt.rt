@@ -3,8 +3,7 @@
 ghost use Rattle.std.specs.Prelude.{◌≡◌, length};
 ghost use Rattle.kv_model.specs.Acts.{writes_of};
 
-use crate::front::Front;
-use crate::history::LiveName;
+use kv_log::{Front, LiveName};
 use std::marker::Model;
 
 /// Tells that a write was accepted, to any number of readers of the same opening. Contracts see it as the acts that it

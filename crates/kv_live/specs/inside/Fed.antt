@@ -9,7 +9,7 @@ use Rattle.kv_watch.specs.Following.{Following, InReach}
 use Rattle.kv_store.specs.Stored.{Stored}
 use Rattle.kv_live.specs.Feeding.{Feeding, lags}
 use Rattle.kv_live.specs.Known.{Known}
-use Rattle.kv_live.specs.inside.Shelves.{Shelved}
+use Rattle.kv_log.specs.Shelves.{Shelved}
 
 -- the acts that a shelf's version stands for
 abbrev pub acts_on : Shelved → List Act

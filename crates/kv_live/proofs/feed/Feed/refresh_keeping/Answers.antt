@@ -2,7 +2,7 @@ use Rattle.std.proofs.Common.{◌≡◌, ◌∙◌, false, List, refl, sym, ap, 
 use Rattle.kv_model.specs.Acts.{Act, floor_of}
 use Rattle.kv_model.specs.Configuration.{Configuration}
 use Rattle.kv_live.specs.inside.Fed.{IsFed, acts_on, feeding_of}
-use Rattle.kv_live.specs.inside.Shelves.{Shelved}
+use Rattle.kv_log.specs.Shelves.{Shelved}
 use Rattle.kv_live.specs.Feeding.{Feeding, IsRefreshed, lags}
 use Rattle.kv_live.proofs.Feeds.{fed_later, refreshed}
 use Rattle.kv_live.proofs.feed.Feed.refresh_keeping.Goals as goal

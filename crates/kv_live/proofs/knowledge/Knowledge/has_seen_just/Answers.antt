@@ -1,5 +1,5 @@
 use Rattle.std.proofs.Common.{rules, sym, ◌∙◌}
-use Rattle.kv_live.proofs.Prefixes.{prefix_length, prefix_whole}
+use Rattle.kv_log.proofs.Prefixes.{prefix_length, prefix_whole}
 use Rattle.kv_live.proofs.knowledge.Knowledge.has_seen_just.Goals as goal
 use Rattle.kv_live.proofs.knowledge.Knowledge.has_seen_just.Goals.{then-covers, else-covers}
 

@@ -1,5 +1,5 @@
 use Rattle.std.proofs.Common.{rules}
-use Rattle.kv_live.proofs.Prefixes.{prefix_trans}
+use Rattle.kv_log.proofs.Prefixes.{prefix_trans}
 use Rattle.kv_live.proofs.reader.Reader.wait_for.Goals as goal
 
 pub loop-init : goal.loop-init

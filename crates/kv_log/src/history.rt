@@ -2,7 +2,7 @@
 //! exists in proofs alone, beside one word with its length.
 
 ghost use Rattle.std.specs.Prelude.{◌≡◌, []};
-ghost use Rattle.kv_live.specs.inside.Rules.{head_of};
+ghost use Rattle.kv_log.specs.Rules.{head_of};
 
 use crate::deed::Deed;
 use logbook::{Gain, Plain, Play, Rule, Seen, Start, Word};
@@ -14,7 +14,7 @@ pub struct Noted;
 impl Rule<Deed, u64> for Noted {
     ghost use Rattle.std.specs.Prelude.{[]};
     ghost use base.Fml.{ftrue};
-    ghost use Rattle.kv_live.specs.inside.Rules.{IsKept};
+    ghost use Rattle.kv_log.specs.Rules.{IsKept};
 
     ghost holds = { λ cells log. IsKept cells log };
 
@@ -42,7 +42,7 @@ impl Gain<Deed, u64> for Nothing {
 pub struct Adds;
 
 impl Play<Deed, u64> for Adds {
-    ghost use Rattle.kv_live.specs.inside.Rules.{Adding};
+    ghost use Rattle.kv_log.specs.Rules.{Adding};
 
     ghost then = { Adding };
 }
@@ -61,7 +61,7 @@ impl Plain<Deed, Deed, u64> for Adds {
 ///
 /// A function generic over it is called with std's `Brand`.
 pub trait LiveName {
-    ghost use Rattle.kv_live.specs.Openings.{Opening};
+    ghost use Rattle.kv_log.specs.Openings.{Opening};
 
     ghost opening: { Opening };
 }

@@ -1,8 +1,8 @@
 use Rattle.std.proofs.Common.{◌≤◌, ap, subst, arith, length, List}
 use Rattle.std.proofs.lemmas.Bool.Decides.{nat_tests}
 use Rattle.kv_model.specs.Acts.{Act, IsPrefix}
-use Rattle.kv_live.proofs.Prefixes.{prefix_shorter}
-use Rattle.kv_live.proofs.front.Front.covers.Goals as goal
+use Rattle.kv_log.proofs.Prefixes.{prefix_shorter}
+use Rattle.kv_log.proofs.front.Front.covers.Goals as goal
 
 pub returns-clause-yes : goal.returns-clause-yes
 returns-clause-yes g c is =

@@ -5,8 +5,8 @@ use Rattle.std.proofs.lemmas.Bool.Decides.{nat_tests}
 use Rattle.kv_model.specs.Acts.{Act, IsPrefix}
 use prog.Atomic.{either}
 use Rattle.logbook.specs.Pages.{Cell, cell, keeps, no_nib, step, Moves, Goes}
-use Rattle.kv_live.specs.inside.Rules.{IsKept, Adding}
-use Rattle.kv_live.proofs.Prefixes.{prefix_whole}
+use Rattle.kv_log.specs.Rules.{IsKept, Adding}
+use Rattle.kv_log.proofs.Prefixes.{prefix_whole}
 
 abbrev pub shown : List Act → List Act
 shown log = []

@@ -1,8 +1,8 @@
 use Rattle.std.proofs.Common.{rules, ◌≡◌, ◌++◌, ◌∷◌, [], ap, ◌∙◌, drop, fold}
 use Rattle.std.proofs.lemmas.Result.{MatchResult-at_ok}
-use Rattle.kv_live.specs.inside.Shelves.{Shelved}
-use Rattle.kv_live.proofs.Publishing.{fold_last}
-use Rattle.kv_live.proofs.copies.Copies.publish.Goals as goal
+use Rattle.kv_log.specs.Shelves.{Shelved}
+use Rattle.kv_log.proofs.Publishing.{fold_last}
+use Rattle.kv_log.proofs.copies.Copies.publish.Goals as goal
 
 pub publish_as-writer-requires : goal.publish_as-writer-requires
 publish_as-writer-requires g c next is views h at =

@@ -1,8 +1,8 @@
 -- The act that a deed is.
 use Rattle.kv_model.specs.Acts.{Act}
 use Rattle.kv_model.specs.Acts as acts
-use Rattle.kv_live.specs.declared.deed.Kind.{Kind}
-use Rattle.kv_live.specs.declared.deed.Kind.TheVariants as kinds
+use Rattle.kv_log.specs.declared.deed.Kind.{Kind}
+use Rattle.kv_log.specs.declared.deed.Kind.TheVariants as kinds
 
 abbrev pub act_of : Kind → Act
 act_of (kinds.Wrote write) = acts.Wrote write.value

@@ -1,6 +1,6 @@
 use Rattle.std.proofs.Common.{◌≡◌, length, sym, ◌∙◌, ap}
-use Rattle.kv_live.proofs.Adding.{adds_moves}
-use Rattle.kv_live.proofs.front.Front.add.Goals as goal
+use Rattle.kv_log.proofs.Adding.{adds_moves}
+use Rattle.kv_log.proofs.front.Front.add.Goals as goal
 
 pub compare_exchange-found-requires : goal.compare_exchange-found-requires
 compare_exchange-found-requires g c =

@@ -30,7 +30,7 @@ impl Drop for Shelf {
 
 impl Model for Shelf {
     ghost use Rattle.kv_store.specs.Standing.{StandsFor};
-    ghost use Rattle.kv_live.specs.inside.Shelves.{Shelved};
+    ghost use Rattle.kv_log.specs.Shelves.{Shelved};
 
     ghost Value = { Shelved };
 

@@ -2,7 +2,7 @@
 
 ghost use Rattle.std.specs.Prelude.{◌≡◌, ◌<◌, ◌^◌, ◌++◌, ◌∷◌, [], true, IfSome, IfErr, MatchResult, length};
 ghost use Rattle.kv_keys.specs.declared.error.KvError.TheVariants.{OutOfMemory, NoReader};
-ghost use Rattle.kv_live.specs.inside.Shelves.{IsOf};
+ghost use Rattle.kv_log.specs.Shelves.{IsOf};
 
 use crate::deed::Deed;
 use crate::front::Front;

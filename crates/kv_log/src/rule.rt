@@ -12,7 +12,7 @@ pub struct Published<N: LiveName> {
 }
 
 impl<N: LiveName> Protocol<Shelf, ()> for Published<N> {
-    ghost use Rattle.kv_live.specs.inside.Shelves.{IsOf};
+    ghost use Rattle.kv_log.specs.Shelves.{IsOf};
 
     ghost holds = { λ shelf views. IsOf N.opening shelf };
 
@@ -25,7 +25,7 @@ pub struct Gets<N: LiveName> {
 }
 
 impl<N: LiveName> Outcome<Shelf, ()> for Gets<N> {
-    ghost use Rattle.kv_live.specs.inside.Shelves.{IsOf};
+    ghost use Rattle.kv_log.specs.Shelves.{IsOf};
 
     ghost then = { λ v x y w. IsOf N.opening y };
 }

@@ -1,6 +1,6 @@
 //! What readers find once the store lets none of them enter.
 
-ghost use Rattle.kv_live.specs.inside.Shelves.{IsOf};
+ghost use Rattle.kv_log.specs.Shelves.{IsOf};
 
 use crate::history::LiveName;
 use crate::shelf::Shelf;

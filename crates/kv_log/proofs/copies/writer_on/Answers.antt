@@ -1,6 +1,6 @@
 use Rattle.std.proofs.Common.{rules}
-use Rattle.kv_live.specs.inside.Shelves.{IsOf}
-use Rattle.kv_live.proofs.copies.writer_on.Goals as goal
+use Rattle.kv_log.specs.Shelves.{IsOf}
+use Rattle.kv_log.proofs.copies.writer_on.Goals as goal
 
 pub new-requires-clause-rule : goal.new-requires-clause-rule
 new-requires-clause-rule g c =

@@ -22,7 +22,7 @@ pub struct Deed {
 
 impl Model for Deed {
     ghost use Rattle.kv_model.specs.Acts.{Act};
-    ghost use Rattle.kv_live.specs.inside.Deeds.{act_of};
+    ghost use Rattle.kv_log.specs.inside.Deeds.{act_of};
 
     ghost Value = { Act };
 

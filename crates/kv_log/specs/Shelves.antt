@@ -1,8 +1,8 @@
 -- What a contract sees of what is published.
 use Rattle.std.specs.Prelude.{◌≡◌}
 use Rattle.kv_store.specs.Stored.{Stored}
-use Rattle.kv_live.specs.declared.front.Glimpse.{Glimpse}
-use Rattle.kv_live.specs.Openings.{Opening}
+use Rattle.kv_log.specs.declared.front.Glimpse.{Glimpse}
+use Rattle.kv_log.specs.Openings.{Opening}
 
 -- a version, and what was seen of the history that it stands for
 pub record Shelved : Type 0 where

@@ -1,0 +1,4 @@
+pub mod Adding
+pub mod Prefixes
+pub mod Publishing
+pub mod Sent

@@ -1,0 +1,4 @@
+pub mod Openings
+pub mod Rules
+pub mod Shelves
+pub mod inside

@@ -1,0 +1,24 @@
+//! The log of what a bucket of threads publishes: the history of its acts, which exists in proofs alone, the two copies of
+//! the last version, in which readers enter without a lock, and the bell on which they sleep. It knows versions, and no
+//! bucket and no reader: those stand above it, in `kv_live`.
+#![tactic(auto)]
+
+mod bell;
+mod copies;
+mod deed;
+mod front;
+mod history;
+mod last;
+mod recent;
+mod rule;
+mod shelf;
+
+pub use bell::{Bell, Woken};
+pub use copies::Copies;
+pub use deed::Deed;
+pub use front::{Front, Glimpse};
+pub use history::{Blank, Head, LiveName, Sight};
+pub use last::Last;
+pub use recent::Recent;
+pub use rule::{Gets, Published};
+pub use shelf::Shelf;
