@@ -1,12 +1,12 @@
 //! Tests of buckets by worked rows. Each also passes where any one request for memory is refused: then the bucket is as
 //! it was, and the same call, made again, goes on.
 
+use crate::equal::equal;
 use kv_bucket::{
     Bucket, Call, Config, Filter, Filters, Key, KvError, Options, Reply, Request, Start, Status,
     Taken,
 };
 use std::alloc::Global;
-use std::fmt::Debug;
 use std::process::Abort;
 use std::test::Fail;
 
@@ -120,9 +120,4 @@ fn open(alloc: Global, name: &str, limits: Limits) -> Result<Bucket, KvError> {
         Err(KvError::OutOfMemory) => open_once(alloc, name, limits),
         bucket => bucket,
     }
-}
-
-// Ends the test where what was found is not what was wanted. A call of it is proved sooner than `assert_eq!` in its place.
-fn equal<T: PartialEq + Debug + Drop, R: Abort>(rt: &R, found: T, wanted: T) {
-    assert_eq!(rt; found, wanted);
 }

@@ -1,5 +1,16 @@
-//! Tests of buckets by worked rows, and nothing else. They use public calls alone.
+//! Tests of the bucket of one thread and of what it stands on: names, tries, versions, watches and buckets, each by worked
+//! rows, and nothing else. They use public calls alone.
 #![tactic(auto)]
 
 #[cfg(test)]
 mod buckets;
+#[cfg(test)]
+mod equal;
+#[cfg(test)]
+mod names;
+#[cfg(test)]
+mod tries;
+#[cfg(test)]
+mod versions;
+#[cfg(test)]
+mod watches;

@@ -1,11 +1,11 @@
 //! Tests of versions by worked rows. Each also passes where any one request for memory is refused: then what was named
 //! is as it was, and the same call, made again, goes on.
 
+use crate::equal::equal;
 use kv_keys::{Key, KvError};
 use kv_model::{Config, Op, Request, Start, Status, Write};
 use kv_store::Version;
 use std::alloc::Global;
-use std::fmt::Debug;
 use std::process::Abort;
 use std::test::Fail;
 
@@ -84,9 +84,4 @@ fn request(alloc: Global, text: &str, ask: Ask) -> Result<Request, KvError> {
     let value = value_of(alloc, ask)?;
     let key = Key::parse(alloc, text)?;
     Ok(request_of(key, value, ask))
-}
-
-// Ends the test where what was found is not what was wanted. A call of it is proved sooner than `assert_eq!` in its place.
-fn equal<T: PartialEq + Debug + Drop, R: Abort>(rt: &R, found: T, wanted: T) {
-    assert_eq!(rt; found, wanted);
 }

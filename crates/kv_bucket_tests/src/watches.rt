@@ -1,12 +1,12 @@
 //! Tests of watches by worked rows: writes, a watch, and what it is given. Each also passes where any one request for
 //! memory is refused: then nothing has changed, and the same call, made again, goes on.
 
+use crate::equal::equal;
 use kv_keys::{Filter, Filters, Key, KvError};
 use kv_model::{Config, Event, Op, Options, Request, Start};
 use kv_store::Version;
 use kv_watch::{Cursor, Taken};
 use std::alloc::Global;
-use std::fmt::Debug;
 use std::process::Abort;
 use std::test::Fail;
 
@@ -168,9 +168,4 @@ fn step(rt: &impl Abort, cursor: &mut Cursor, base: &Version, now: &Version) -> 
     equal(rt, next, taken);
     equal(rt, cursor.handed() == handed, taken.is_none());
     taken.map(number_of)
-}
-
-// Ends the test where what was found is not what was wanted. A call of it is proved sooner than `assert_eq!` in its place.
-fn equal<T: PartialEq + Debug + Drop, R: Abort>(rt: &R, found: T, wanted: T) {
-    assert_eq!(rt; found, wanted);
 }

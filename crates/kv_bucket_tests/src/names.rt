@@ -2,9 +2,9 @@
 //!
 //! A request for memory that is refused is made again: a second refusal in a row does not come.
 
+use crate::equal::equal;
 use kv_keys::{Filter, Filters, Key, KvError, Place, Short, fnv32, is_name};
 use std::alloc::{AllocError, Global};
-use std::fmt::Debug;
 use std::process::Abort;
 use std::test::Fail;
 
@@ -108,9 +108,4 @@ fn repeated(
     }
     push(&mut text, end)?;
     Ok(text)
-}
-
-// Ends the test where what was found is not what was wanted. A call of it is proved sooner than `assert_eq!` in its place.
-fn equal<T: PartialEq + Debug + Drop, R: Abort>(rt: &R, found: T, wanted: T) {
-    assert_eq!(rt; found, wanted);
 }

@@ -1,10 +1,10 @@
 //! Tests of a trie at the keys of a bucket. Each also passes where any one request for memory is refused: then the trie
 //! is as it was, and the same call, made again, goes on.
 
+use crate::equal::equal;
 use kv_keys::{Key, KvError, Place, Short};
 use kv_trie::{Node, Trie, Visit, Wants};
 use std::alloc::Global;
-use std::fmt::Debug;
 use std::process::Abort;
 use std::test::Fail;
 
@@ -104,9 +104,4 @@ fn are_same<K: Named>(rt: &impl Abort, trie: &Numbers<K>, other: &Numbers<K>) {
     assert!(rt; trie.same_form(other));
     equal(rt, trie.len(), other.len());
     equal(rt, walks::sum(trie), walks::sum(other));
-}
-
-// Ends the test where what was found is not what was wanted. A call of it is proved sooner than `assert_eq!` in its place.
-fn equal<T: PartialEq + Debug + Drop, R: Abort>(rt: &R, found: T, wanted: T) {
-    assert_eq!(rt; found, wanted);
 }

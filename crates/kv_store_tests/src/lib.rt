@@ -1,5 +1,0 @@
-//! Tests of versions by worked rows, and nothing else. They use public calls alone.
-#![tactic(auto)]
-
-#[cfg(test)]
-mod versions;
