@@ -1,9 +1,9 @@
 -- What a bucket that represents a state answers.
-use Rattle.std.proofs.Common.{◌≡◌, ℕ, ◌+◌, ◌-◌, Bool, true, false, not, cond, List, [], ◌∷◌, ◌++◌, Option, Some, None, Ok, filter, length, refl, sym, ap, ◌∙◌, subst, arith, length-append}
+use Rattle.std.proofs.Common.{◌≡◌, ℕ, ◌+◌, ◌-◌, ◌<◌, ◌≤◌, nat_lt, Bool, true, false, ◌&&◌, not, cond, List, [], ◌∷◌, ◌++◌, Option, Some, None, Result, Ok, Err, OnErr, filter, length, refl, sym, ap, ◌∙◌, subst, arith, length-append}
 use Rattle.std.specs.Prelude.{slice_set}
 use Rattle.std.specs.List.{slice_get, position, position_or_len}
 use Rattle.std.specs.Option.{option_len, option_map}
-use Rattle.std.proofs.lemmas.Bool.{eqb-true}
+use Rattle.std.proofs.lemmas.Bool.{eqb-true, le-ltb, lt-ltb}
 use Rattle.kv_keys.specs.declared.error.KvError.TheVariants.{NoSuchWatch}
 use Rattle.kv_model.specs.Acceptance.{accept}
 use Rattle.kv_model.specs.Acts.{Act, Wrote, Write, writes_of}
@@ -21,7 +21,7 @@ use Rattle.kv_model.specs.declared.call.Call.TheVariants as ask
 use Rattle.kv_model.specs.Answers.{Revision, Watching, Ended, Refused, answer_item}
 use Rattle.kv_model.specs.further.Events.{event_answered}
 use Rattle.kv_bucket.specs.Held.{Holding, Bucketed, Follows, Represents, has_number, held_at}
-use Rattle.kv_model.specs.State.{after_handed, State, Watch, watch_at, next_of, open_at, set_watch, opened, has_room, after_item, after_take, after_stop, after_write, answer_write, answer_take, answer_stop, after, answer_to}
+use Rattle.kv_model.specs.State.{after_handed, State, Watch, watch_at, next_of, open_at, set_watch, opened, open_count, has_room, after_item, after_take, after_stop, after_write, answer_write, answer_take, answer_stop, after, answer_to}
 use Rattle.kv_model.proofs.Finds.{find_at, find_none, find_some}
 use Rattle.kv_watch.proofs.Owing.{opening_on}
 use Rattle.kv_bucket.proofs.Later.{later}
@@ -172,6 +172,22 @@ pub watch_done : (state : State) (bucket : Bucketed) (filters : List (List ℕ))
 watch_done state bucket filters options held r room number follows =
     let given : held.number ≡ length state.watches + 1 = omega (arith, number, r.opened) in
     rw room (ap Watching given, represents_watch state bucket (opened filters options state) held r given refl follows)
+
+-- whether there is room for one watch more
+pub room_is : (state : State) (bucket : Bucketed) → Represents state bucket → length bucket.watches < 64 → nat_lt bucket.opened 4294967295 ≡ has_room state
+room_is state bucket r l =
+    let few : nat_lt (open_count state.watches) 64 ≡ true = lt-ltb (open_count state.watches) 64 (omega (arith, l, r.open_count)) in
+    ap (λ n. nat_lt n 4294967295) r.opened ∙ sym (ap (λ b. b && nat_lt (length state.watches) 4294967295) few)
+
+pub no_room_is : (state : State) (bucket : Bucketed) (n : ℕ) → Represents state bucket → n ≡ length bucket.watches → 64 ≤ n → nat_lt n 64 ≡ has_room state
+no_room_is state bucket n r is l =
+    let many : nat_lt (open_count state.watches) 64 ≡ false = le-ltb (open_count state.watches) 64 (omega (arith, is, l, r.open_count)) in
+    le-ltb n 64 l ∙ sym (ap (λ b. b && nat_lt (length state.watches) 4294967295) many)
+
+-- what holds of an error
+pub on_err : {T E P : Type 0} (result : Result T E) → P → OnErr result P
+on_err (Ok value) p = tt
+on_err (Err error) p = p
 
 -- a write that was accepted
 pub write_done : (state : State) (bucket : Bucketed) (request : Asked) (version : Stored) (revision : ℕ) → Represents state bucket → version.config ≡ bucket.version.config →

@@ -1,20 +1,24 @@
 -- What a feed keeps when it goes on.
-use Rattle.std.proofs.Common.{◌≡◌, ℕ, ◌+◌, ◌≤◌, ◌<◌, ◌⊎◌, ⊎_elim, Bool, true, false, ◌||◌, nat_lt, List, Option, Some, None, length, get_or, refl, ap, sym, subst, ◌∙◌, arith}
+use Rattle.std.proofs.Common.{◌≡◌, ℕ, ◌+◌, ◌≤◌, ◌<◌, ◌⊎◌, ⊎_elim, Bool, true, false, ◌||◌, nat_lt, List, Option, Some, None, Result, Ok, Err, inl, inr, length, get_or, refl, ap, sym, subst, ◌∙◌, arith}
 use Rattle.std.specs.List.{slice_get}
+use Rattle.std.specs.Prelude.{IfOk}
 use Rattle.std.specs.Option.{option_len, option_map}
 use Rattle.std.proofs.lemmas.Option.{slice_get_past, slice_get_cases}
 use Rattle.kv_model.specs.Acceptance.{IsLawful}
-use Rattle.kv_model.specs.Acts.{Act, IsPrefix, writes_of}
+use Rattle.kv_model.specs.Acts.{Act, IsPrefix, floor_of, writes_of}
 use Rattle.kv_model.specs.Configuration.{Configuration}
 use Rattle.kv_store.specs.Standing.{StandsFor}
+use Rattle.kv_store.specs.Stored.{Stored}
 use Rattle.std.proofs.lemmas.Bool.{lt-ltb, ltb-false}
 use Rattle.kv_bucket.proofs.Least.{not_less}
 use Rattle.kv_model.specs.declared.options.Options.{Options}
 use Rattle.kv_model.specs.Given.{Item, given, is_behind}
 use Rattle.kv_model.specs.further.Events.{event_of}
-use Rattle.kv_watch.specs.Following.{Following, InReach}
+use Rattle.kv_model.specs.declared.event.Event.{Event}
+use Rattle.kv_watch.specs.Following.{Following, InReach, given_to}
 use Rattle.kv_watch.proofs.Reaching.{in_reach_later}
-use Rattle.kv_live.specs.inside.Fed.{IsFed, acts_on, feeding_of}
+use Rattle.kv_keys.specs.declared.error.KvError.TheVariants.{Lagged}
+use Rattle.kv_live.specs.inside.Fed.{IsFed, TellsLag, TellsLagOf, IsNotShown, acts_on, feeding_of}
 use Rattle.kv_live.specs.Feeding.{Feeding, HasSeenMore, IsRefreshed, given_by, lags, next_of, after_item}
 use Rattle.kv_live.specs.Known.{Known}
 use Rattle.kv_log.specs.Shelves.{Shelved}
@@ -124,3 +128,50 @@ all_handed config reader base now cursor fed e =
     let within : cursor.handed ≤ length (given_by config.history feed) =
     subst (λ (xs : List Item). cursor.handed ≤ length xs) (ap (λ (c : Configuration). given c.history (acts_on base) (acts_on now) cursor.filters cursor.options) fed.same_config) fed.reach.place.taken in
     (ends (given_by config.history feed) cursor.handed within).0 (no_event (next_of config.history feed) e)
+
+-- a pass behind the item that was shown
+shown_len : (item : Option Item) → option_len (option_map event_of item) ≡ option_len item
+shown_len None = refl
+shown_len (Some x) = refl
+
+pub passed : (config : Configuration) (reader : Known) (base now : Shelved) (old new : Following) (peeked : Option Event) (version : Stored) → IsFed config reader base now old → new.filters ≡ old.filters → new.options ≡ old.options → version ≡ now.version
+    → peeked ≡ option_map event_of (next_of config.history (feeding_of reader base now old))
+    → ((n : ℕ) (began acts : List Act) (opening : Stored) → InReach began acts n opening version old → peeked ≡ option_map event_of (slice_get (given_to opening.config.history began acts old) n) → InReach began acts (n + option_len peeked) opening version new)
+    → IsFed config reader base now new × (feeding_of reader base now new ≡ after_item (feeding_of reader base now old) (next_of config.history (feeding_of reader base now old)))
+passed config reader base now old new peeked version fed filters options same shown step =
+    let began = acts_on base in
+    let acts = acts_on now in
+    let feed = feeding_of reader base now old in
+    let item = next_of config.history feed in
+    let there : InReach began acts old.handed base.version version old = subst (λ (v : Stored). InReach began acts old.handed base.version v old) (sym same) fed.reach in
+    let next : peeked ≡ option_map event_of (slice_get (given_to base.version.config.history began acts old) old.handed) =
+    shown ∙ ap (λ (c : Configuration). option_map event_of (slice_get (given_to c.history began acts old) old.handed)) (sym fed.same_config) in
+    let further = step old.handed began acts base.version there next in
+    let counts : new.handed ≡ old.handed + option_len peeked = further.place.handed in
+    let reach : InReach began acts new.handed base.version now.version new =
+    subst (λ (v : Stored). InReach began acts new.handed base.version v new) same (subst (λ (n : ℕ). InReach began acts n base.version version new) (sym counts) further) in
+    let all : new.handed ≡ old.handed + option_len item = counts ∙ (ap (λ (p : Option Event). old.handed + option_len p) shown ∙ ap (λ (n : ℕ). old.handed + n) (shown_len item)) in
+    let moved : feeding_of reader base now new ≡ record feed { handed = new.handed } =
+    ap (λ (fs : List (List ℕ)). let f : Feeding = record { reader = reader; began = began; acts = acts; filters = fs; options = new.options; handed = new.handed } in f) filters
+    ∙ ap (λ (o : Options). let f : Feeding = record { reader = reader; began = began; acts = acts; filters = old.filters; options = o; handed = new.handed } in f) options in (
+      record { same_config = fed.same_config; seen = fed.seen; reach = reach },
+      moved ∙ counted feed new.handed item all,
+    )
+
+-- ---- what is handed over to a feed
+
+pub at_floor : (follower : Option (Shelved × Following)) (current : Shelved) (cursor : Following) (acts : List Act) (floor : ℕ) (behind answer : Bool) → follower ≡ Some (current, cursor) → floor ≡ floor_of acts → behind ≡ answer
+    → TellsLag current cursor floor behind → TellsLagOf follower (floor_of acts) answer
+at_floor follower current cursor acts floor behind answer some same is tells =
+    subst (λ (f : Option (Shelved × Following)). TellsLagOf f (floor_of acts) answer) (sym some)
+    (subst (λ (n : ℕ). TellsLag current cursor n answer) same (subst (λ (b : Bool). TellsLag current cursor floor b) is tells))
+
+pub none_behind : (follower : Option (Shelved × Following)) (floor : ℕ) → follower ≡ None → TellsLagOf follower floor false
+none_behind follower floor none = subst (λ (f : Option (Shelved × Following)). TellsLagOf f floor false) (sym none) refl
+
+pub told_behind : (follower : Option (Shelved × Following)) (acts : List Act) (floor : ℕ) → floor ≡ floor_of acts → TellsLagOf follower (floor_of acts) true → IsNotShown follower acts (Lagged floor)
+told_behind follower acts floor same tells = inr (inl (ap Lagged same, tells))
+
+pub whatever_is_ok : {T E : Type 0} (r : Result T E) (P : Type 0) → P → IfOk r (λ _. P)
+whatever_is_ok (Ok x) P p = p
+whatever_is_ok (Err e) P p = tt

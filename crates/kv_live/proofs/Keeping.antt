@@ -1,12 +1,16 @@
 -- What an act and a quiet call make of what lies under the lock.
-use Rattle.std.proofs.Common.{◌≡◌, ℕ, ◌+◌, ◌-◌, ◌<◌, ◌≤◌, Bool, true, false, inl, inr, cond, List, [], ◌∷◌, ◌++◌, Option, Some, None, Result, Ok, Err, length, refl, sym, ap, ◌∙◌, subst, arith, length-append}
-use Rattle.std.specs.Prelude.{IfOk, OnOk, OnErr, MatchResult}
+use Rattle.std.proofs.Common.{◌≡◌, ℕ, ◌+◌, ◌-◌, ◌<◌, ◌≤◌, Bool, true, false, if◌then◌else◌, inl, inr, cond, List, [], ◌∷◌, ◌++◌, Option, Some, None, Result, Ok, Err, length, refl, sym, ap, ◌∙◌, subst, arith, length-append}
+use Rattle.std.specs.Prelude.{IfOk, IfErr, OnOk, OnErr, MatchResult}
 use Rattle.std.specs.List.{slice_get}
+use Rattle.kv_keys.specs.Outcome.{Refuses}
 use Rattle.kv_keys.specs.declared.error.KvError.{KvError}
+use Rattle.kv_keys.specs.declared.error.KvError.TheVariants.{BadFloor}
 use Rattle.kv_model.specs.Acceptance.{accept, LawfulFrom}
-use Rattle.kv_model.specs.Acts.{Act, Wrote, Compact, Write, writes_of, floor_of, is_compaction}
+use Rattle.kv_model.specs.Acts.{Act, Wrote, Seal, Compact, Write, writes_of, floor_of, is_compaction}
+use Rattle.kv_model.specs.Compaction.{is_bad_floor}
 use Rattle.kv_model.specs.Configuration.{Configuration}
-use Rattle.kv_model.specs.Requests.{Asked}
+use Rattle.kv_model.specs.Requests.{Asked, asked}
+use Rattle.kv_model.specs.declared.request.Request.{Request}
 use Rattle.kv_store.specs.Standing.{StandsFor}
 use Rattle.kv_store.specs.Stored.{Stored, write_at}
 use Rattle.kv_model.proofs.Numbered.{accepted_is_next, writes_of-wrote, counts_from_lawful}
@@ -17,7 +21,7 @@ use Rattle.kv_model.specs.declared.options.Options.{Options}
 use Rattle.kv_model.specs.Given.{Item}
 use Rattle.kv_model.specs.declared.call.Call.{Call}
 use Rattle.kv_model.specs.declared.call.Call.TheVariants as calls
-use Rattle.kv_model.specs.Answers.{Answer, Revision, Compacted}
+use Rattle.kv_model.specs.Answers.{Answer, Revision, Sealed, Compacted, Refused}
 use Rattle.kv_bucket.specs.Held.{Bucketed, Represents}
 use Rattle.kv_live.specs.Keeping.{Kept, kept_of, IsAt, state_of, IsSomewhere, IsKeptStep, PublishesWrite}
 use Rattle.kv_model.specs.State.{State, Watch, add_act, add_watch, opened, open_at, has_room, next_of, after, after_write, after_stop, after_item, after_take, after_compact, answer_to, answer_write, may_compact}
@@ -118,7 +122,7 @@ last_written acts w version stands =
     ∙ (write_at_counted version.config.history version.last (acts ++ Wrote w ∷ []) (counts_from_lawful version.config (acts ++ Wrote w ∷ []) stands.lawful) low
     ∙ (ap (λ ws. slice_get ws (version.last - 1)) all ∙ (ap (slice_get (writes_of acts ++ w ∷ [])) place ∙ get_last (writes_of acts) w)))
 
-somewhere_left : (config : Configuration) (was bucket : Bucketed) (before posted : Posted) (act : Act) → IsSomewhere config (kept_of was before) → PostsNothing before act posted → bucket ≡ was → IsSomewhere config (kept_of bucket posted)
+pub somewhere_left : (config : Configuration) (was bucket : Bucketed) (before posted : Posted) (act : Act) → IsSomewhere config (kept_of was before) → PostsNothing before act posted → bucket ≡ was → IsSomewhere config (kept_of bucket posted)
 somewhere_left config was bucket before posted act some (inl same) put =
     subst (IsSomewhere config) (ap (λ (b : Bucketed). kept_of b before) (sym put) ∙ ap (λ (p : Posted). kept_of bucket p) (sym same)) some
 somewhere_left config was bucket before posted act some (inr ended) put =
@@ -198,3 +202,110 @@ publishes config old request w version revision published some accepted stands l
     ap length (writes_of-wrote old.published w) ∙ length-append (writes_of old.published) (w ∷ []) in
     let number : w.revision ≡ length (writes_of old.published) + 1 = ap (λ (v : Write). v.revision) (sym (accepted_is_next old.bucket.version.config request old.published w accepted)) in
     (w, ((ap (λ (c : Configuration). accept c request old.published) (sym (same_config config old some)) ∙ accepted), number ∙ (sym all ∙ (sym stands.last ∙ sym last)), is))
+
+-- ---- what an act that is kept makes of what lies under the lock
+
+kept_put : (was bucket : Bucketed) (before posted : Posted) (act deed : Act) (version : Stored) → deed ≡ act → Posts before deed posted × (bucket ≡ record was { version = version }) → kept_after (kept_of was before) act version ≡ kept_of bucket posted
+kept_put was bucket before posted act deed version same kept = kept_same (kept_of was before) was bucket act version posted refl (kept.0.1 ∙ ap (posted_after (kept_of was before)) same) kept.1
+
+kept_step : (call : Call) (answer : Answer) (old now next new : Kept) → old ≡ now → next ≡ new → IsKeptStep old call answer next → IsKeptStep now call answer new
+kept_step call answer old now next new is put step = subst (λ (k : Kept). IsKeptStep k call answer new) is (subst (λ (k : Kept). IsKeptStep old call answer k) put step)
+
+pub seals_kept : (config : Configuration) (now : Kept) (was bucket : Bucketed) (before posted : Posted) (deed : Act) (seen version : Stored) → kept_of was before ≡ now → IsSomewhere config (kept_of was before) → seen ≡ was.version
+    → version ≡ record seen { sealed = true } → ((acts : List Act) → StandsFor acts seen → StandsFor (acts ++ Seal ∷ []) version) → deed ≡ Seal → Posts before deed posted × (bucket ≡ record was { version = version })
+    → IsSomewhere config (kept_of bucket posted) × IsKeptStep now calls.Seal Sealed (kept_of bucket posted)
+seals_kept config now was bucket before posted deed seen version is some value sealed stands same kept =
+    let old : Kept = kept_of was before in
+    let put : kept_after old Seal version ≡ kept_of bucket posted = kept_put was bucket before posted Seal deed version same kept in
+    let own : version.config ≡ was.version.config = ap (λ (v : Stored). v.config) sealed ∙ ap (λ (v : Stored). v.config) value in
+    let on : GoesOn old Seal version = goes_on old Seal version refl own (stands before.acts (subst (StandsFor before.acts) (sym value) (published_stands config old some))) in
+    let step : IsKeptStep old calls.Seal Sealed (kept_after old Seal version) = λ state at. (refl, at_act state old Seal version on at) in (
+      subst (IsSomewhere config) put (somewhere_act config old Seal version on some),
+      kept_step calls.Seal Sealed old now (kept_after old Seal version) (kept_of bucket posted) is put step,
+    )
+
+pub compacts_kept : (config : Configuration) (now : Kept) (was bucket : Bucketed) (before posted : Posted) (floor : ℕ) (deed : Act) (seen version : Stored) → kept_of was before ≡ now → IsSomewhere config (kept_of was before) → seen ≡ was.version
+    → version.config ≡ seen.config → ((acts : List Act) → StandsFor acts seen → (is_bad_floor floor acts ≡ false) × StandsFor (acts ++ Compact floor ∷ []) version)
+    → ((state : State) → Represents state was → may_compact floor state ≡ Ok floor) → deed ≡ Compact floor → Posts before deed posted × (bucket ≡ record was { version = version })
+    → IsSomewhere config (kept_of bucket posted) × IsKeptStep now (calls.Compact floor) (Compacted floor) (kept_of bucket posted)
+compacts_kept config now was bucket before posted floor deed seen version is some value same_config stands may same kept =
+    let old : Kept = kept_of was before in
+    let call : Call = calls.Compact floor in
+    let put : kept_after old (Compact floor) version ≡ kept_of bucket posted = kept_put was bucket before posted (Compact floor) deed version same kept in
+    let own : version.config ≡ was.version.config = same_config ∙ ap (λ (v : Stored). v.config) value in
+    let there : (state : State) → IsAt state old → may_compact floor state ≡ Ok floor = λ state at. may state at.represents in
+    let on : GoesOn old (Compact floor) version = goes_on_compacted old floor version there own (stands before.acts (subst (StandsFor before.acts) (sym value) (published_stands config old some))).1 in
+    let step : IsKeptStep old call (Compacted floor) (kept_after old (Compact floor) version) = λ state at. at_compact state old floor version on (there state at) at in (
+      subst (IsSomewhere config) put (somewhere_act config old (Compact floor) version on some),
+      kept_step call (Compacted floor) old now (kept_after old (Compact floor) version) (kept_of bucket posted) is put step,
+    )
+
+pub writes_kept : (config : Configuration) (now : Kept) (was bucket : Bucketed) (before posted : Posted) (request : Request) (found : Option Act) (deed : Act) (revision : ℕ) (seen version : Stored) → kept_of was before ≡ now → IsSomewhere config (kept_of was before)
+    → seen ≡ was.version → version.config ≡ seen.config
+    → ((acts : List Act) → StandsFor acts seen → (w : Write) × ((accept seen.config (asked request) acts ≡ Ok w) × StandsFor (acts ++ Wrote w ∷ []) version))
+    → ((acts : List Act) (w : Write) → StandsFor (acts ++ Wrote w ∷ []) version → found ≡ Some (Wrote w)) → found ≡ Some deed → revision ≡ version.last → Posts before deed posted × (bucket ≡ record was { version = version })
+    → IsSomewhere config (kept_of bucket posted) × (IsKeptStep now (calls.Write request) (Revision revision) (kept_of bucket posted) × PublishesWrite config (asked request) revision now.published posted.acts)
+writes_kept config now was bucket before posted request found deed revision seen version is some value same_config accepts last some_deed number kept =
+    let old : Kept = kept_of was before in
+    let call : Call = calls.Write request in
+    let ok : (acts : List Act) → StandsFor acts was.version → (w : Write) × ((accept was.version.config (asked request) acts ≡ Ok w) × StandsFor (acts ++ Wrote w ∷ []) version) =
+    subst (λ (v : Stored). (acts : List Act) → StandsFor acts v → (w : Write) × ((accept v.config (asked request) acts ≡ Ok w) × StandsFor (acts ++ Wrote w ∷ []) version)) value accepts in
+    let accepted = ok before.acts (published_stands config old some) in
+    let act : Act = Wrote accepted.0 in
+    let same : deed ≡ act = let both : Some deed ≡ Some act = sym some_deed ∙ last before.acts accepted.0 accepted.1.1 in cc both in
+    let put : kept_after old act version ≡ kept_of bucket posted = kept_put was bucket before posted act deed version same kept in
+    let own : version.config ≡ was.version.config = same_config ∙ ap (λ (v : Stored). v.config) value in
+    let on : GoesOn old act version = goes_on old act version refl own accepted.1.1 in
+    let step : IsKeptStep old call (Revision revision) (kept_after old act version) = λ state at. at_write state old (asked request) accepted.0 version revision at own ok accepted.1.0 accepted.1.1 number in
+    let shown : posted.acts ≡ before.acts ++ act ∷ [] = ap (λ (p : Posted). p.acts) (kept.0.1 ∙ ap (posted_after old) same) in (
+      subst (IsSomewhere config) put (somewhere_act config old act version on some),
+      (
+        kept_step call (Revision revision) old now (kept_after old act version) (kept_of bucket posted) is put step,
+        subst (λ (k : Kept). PublishesWrite config (asked request) revision k.published posted.acts) is
+            (publishes config old (asked request) accepted.0 version revision posted.acts some accepted.1.0 accepted.1.1 number shown),
+      ),
+    )
+
+-- ---- refusals
+
+refused_alike : (floor : ℕ) (error : KvError) (bad : Bool) (rest : Result ℕ KvError) → (if bad then Err BadFloor else rest) ≡ Ok floor → Refuses error (if bad then Err BadFloor else Ok floor) → Refuses error (if bad then Err BadFloor else rest)
+refused_alike floor error true rest may refuses = absurd (cc may)
+refused_alike floor error false rest may refuses = subst (λ (r : Result ℕ KvError). Refuses error r) (sym may) refuses
+
+-- what refuses a compaction of the version that the bucket allows is want of memory
+pub refused_later : (now : Kept) (was : Bucketed) (before : Posted) (floor : ℕ) (error : KvError) (seen : Stored) → kept_of was before ≡ now → seen ≡ was.version → ((state : State) → Represents state was → may_compact floor state ≡ Ok floor)
+    → ((acts : List Act) → StandsFor acts seen → Refuses error (if is_bad_floor floor acts then Err BadFloor else Ok floor)) → (state : State) → IsAt state now → Refuses error (may_compact floor state)
+refused_later now was before floor error seen is value may refuses state at =
+    let there : IsAt state (kept_of was before) = subst (IsAt state) (sym is) at in
+    refused_alike floor error (is_bad_floor floor state.acts) _ (may state there.represents) (refuses state.acts (subst (StandsFor state.acts) (sym value) there.represents.version))
+
+-- ---- the same of calls that accept nothing
+
+pub quiet_ok : {X : Type 0} (call : Call) (answer : X → Answer) (now : Kept) (was bucket : Bucketed) (before : Posted) (result : Result X KvError) → kept_of was before ≡ now → IsQuiet call
+    → IfOk result (λ x. IsStep was call (answer x) bucket) → IfOk result (λ x. IsKeptStep now call (answer x) (kept_of bucket before))
+quiet_ok call answer now was bucket before (Ok x) is quiet step = subst (λ (k : Kept). IsKeptStep k call (answer x) (kept_of bucket before)) is (step_quiet call (answer x) (kept_of was before) bucket quiet step)
+quiet_ok call answer now was bucket before (Err error) is quiet step = tt
+
+pub quiet_refused : {X : Type 0} (call : Call) (now : Kept) (was bucket : Bucketed) (before : Posted) (refusal : KvError) (result : Result X KvError) → kept_of was before ≡ now → IsQuiet call
+    → IfErr result (λ e. (e ≡ refusal) × IsStep was call (Refused e) bucket) → IfErr result (λ e. (e ≡ refusal) × IsKeptStep now call (Refused e) (kept_of bucket before))
+quiet_refused call now was bucket before refusal (Ok x) is quiet step = tt
+quiet_refused call now was bucket before refusal (Err error) is quiet step = (step.0, subst (λ (k : Kept). IsKeptStep k call (Refused error) (kept_of bucket before)) is (step_quiet call (Refused error) (kept_of was before) bucket quiet step.1))
+
+pub quiet_unchanged : {X : Type 0} (now : Kept) (was bucket : Bucketed) (before : Posted) (result : Result X KvError) → kept_of was before ≡ now → OnErr result (bucket ≡ was) → OnErr result (kept_of bucket before ≡ now)
+quiet_unchanged now was bucket before (Ok x) is same = tt
+quiet_unchanged now was bucket before (Err error) is same = ap (λ (b : Bucketed). kept_of b before) same ∙ is
+
+pub quiet_taken : {X : Type 0} (call : Call) (answer : X → Answer) (now : Kept) (was bucket : Bucketed) (before : Posted) (result : Result X KvError) → kept_of was before ≡ now → IsQuiet call
+    → MatchResult result (λ x. IsStep was call (answer x) bucket) (λ e. bucket ≡ was) → MatchResult result (λ x. IsKeptStep now call (answer x) (kept_of bucket before)) (λ e. kept_of bucket before ≡ now)
+quiet_taken call answer now was bucket before (Ok x) is quiet step = quiet_ok call answer now was bucket before (Ok x) is quiet step
+quiet_taken call answer now was bucket before (Err error) is quiet same = ap (λ (b : Bucketed). kept_of b before) same ∙ is
+
+pub answers_ok : {X : Type 0} (call : Call) (answer : X → Answer) (now : Kept) (was : Bucketed) (before : Posted) (result : Result X KvError) → kept_of was before ≡ now
+    → IfOk result (λ x. (state : State) → Represents state was → answer x ≡ answer_to state call) → IfOk result (λ x. (state : State) → IsAt state now → answer x ≡ answer_to state call)
+answers_ok call answer now was before (Ok x) is answers = λ state at. answers state (subst (IsAt state) (sym is) at).represents
+answers_ok call answer now was before (Err error) is answers = tt
+
+pub answers_refused : {X : Type 0} (call : Call) (now : Kept) (was : Bucketed) (before : Posted) (refusal : KvError) (result : Result X KvError) → kept_of was before ≡ now
+    → IfErr result (λ e. (e ≡ refusal) × ((state : State) → Represents state was → Refused e ≡ answer_to state call)) → IfErr result (λ e. (e ≡ refusal) × ((state : State) → IsAt state now → Refused e ≡ answer_to state call))
+answers_refused call now was before refusal (Ok x) is answers = tt
+answers_refused call now was before refusal (Err error) is answers = (answers.0, λ state at. answers.1 state (subst (IsAt state) (sym is) at).represents)

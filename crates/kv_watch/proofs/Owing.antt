@@ -1,6 +1,7 @@
 -- Whether a cursor has need of the version of its opening.
-use Rattle.std.proofs.Common.{◌≡◌, ℕ, ◌-◌, List, [], ◌∷◌, Option, Some, None, length, reverse, sym, ap, ◌∙◌}
+use Rattle.std.proofs.Common.{◌≡◌, ℕ, ◌-◌, Bool, true, nat_eq, List, [], ◌∷◌, Option, Some, None, length, reverse, refl, sym, ap, ◌∙◌, arith}
 use Rattle.std.specs.List.{slice_get}
+use Rattle.std.proofs.lemmas.Bool.{eqb-true}
 use Rattle.std.proofs.lemmas.List.{reverse-append}
 use Rattle.kv_model.specs.declared.event.Event.{Event}
 use Rattle.kv_model.specs.declared.event.Event.TheVariants as events
@@ -28,3 +29,8 @@ owes_none (events.Entry revision) cursor none = by_owed cursor.owed none
 pub opening_on : (kept : Option Stored) (base : Stored) (old new : Following) → (old.owed ≡ [] → new.owed ≡ []) → IsOpening kept base old → IsOpening kept base new
 opening_on (Some opening) base old new owes is = is
 opening_on None base old new owes is = owes is
+
+-- where the list of what is owed is empty nothing is owed
+pub owes_nothing : (items : List ℕ) (n : ℕ) (empty : Bool) → n ≡ length items → empty ≡ nat_eq n 0 → empty ≡ true → reverse items ≡ []
+owes_nothing [] n empty l e t = refl
+owes_nothing (r ∷ rs) n empty l e t = absurd (omega (arith, l, eqb-true n 0 (sym e ∙ t)))

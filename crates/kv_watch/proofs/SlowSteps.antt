@@ -1,9 +1,9 @@
 -- The steps of the slow walk over all writes, and that it lists what is given.
-use Rattle.std.proofs.Common.{◌≡◌, ℕ, ◌+◌, ◌<◌, ◌≤◌, Bool, true, false, cond, ◌&&◌, not, List, [], ◌∷◌, ◌++◌, Some, None, length, get_or, take, drop, map, filter, refl, sym, ap, ◌∙◌, arith, append_assoc, length-take}
+use Rattle.std.proofs.Common.{◌≡◌, ℕ, ◌+◌, ◌<◌, ◌≤◌, Bool, true, false, cond, ◌&&◌, not, List, [], ◌∷◌, ◌++◌, Some, None, length, get_or, take, drop, map, filter, refl, sym, ap, ◌∙◌, arith, append_assoc, append-nil, length-take}
 use Rattle.std.specs.Borrow.{Bor}
 use Rattle.std.specs.List.{last_or, cons_option}
 use Rattle.std.specs.Str.{bytes_eq}
-use Rattle.std.proofs.lemmas.List.{drop_more, take_more, map-append, take-map, drop-map, length-map}
+use Rattle.std.proofs.lemmas.List.{drop_more, drop_all, take_more, map-append, take-map, drop-map, length-map}
 use Rattle.std.proofs.lemmas.List.Elements.{filter-append}
 use Rattle.kv_keys.specs.Matching.{any_matches}
 use Rattle.kv_model.specs.Acts.{Act, Write, Wrote, writes_of, is_put, is_purge}
@@ -45,6 +45,22 @@ pub events_first : (test : Write → Bool) (place : ℕ) (writes : List (Bor Wri
 events_first test place writes w l e =
     ap (λ vs. events_where test (plain vs)) (drop_more writes place w l ∙ ap (λ v. v ∷ drop (place + 1) writes) (sym e))
     ∙ events_where-append test (w.now ∷ []) (plain (drop (place + 1) writes))
+
+-- what was gathered before a write, with the write and what comes behind it
+pub gathered : (test : Write → Bool) (place : ℕ) (writes : List (Bor Write)) (w : Bor Write) (start before after : List Event) → place < length writes → w ≡ get_or writes place w
+    → before ++ events_from test place writes ≡ start ++ events_from test 0 writes → after ≡ before ++ events_where test (w.now ∷ [])
+    → after ++ events_from test (place + 1) writes ≡ start ++ events_from test 0 writes
+gathered test place writes w start before after l e whole pushed =
+    ap (λ es. es ++ events_from test (place + 1) writes) pushed
+    ∙ append_assoc before (events_where test (w.now ∷ [])) (events_from test (place + 1) writes)
+    ∙ ap (λ es. before ++ es) (sym (events_first test place writes w l e))
+    ∙ whole
+
+-- behind the last write all is gathered
+pub gathered_all : (test : Write → Bool) (place : ℕ) (writes : List (Bor Write)) (start events : List Event) → length writes ≤ place
+    → events ++ events_from test place writes ≡ start ++ events_from test 0 writes → events ≡ start ++ events_from test 0 writes
+gathered_all test place writes start events l whole =
+    sym (append-nil events) ∙ ap (λ vs. events ++ events_where test (plain vs)) (sym (drop_all place writes l)) ∙ whole
 
 -- whether a watch begins with a write, and shows it
 abbrev pub begins_with : ℕ → List (List ℕ) → Options → List (Bor Write) → Write → Bool

@@ -8,7 +8,7 @@ pub returns-clause-published : goal.returns-clause-published
 returns-clause-published g c = search rules
 
 pub returns-clause-lost : goal.returns-clause-lost
-returns-clause-lost g c = search rules
+returns-clause-lost g c = search
 
 pub returns-clause-shown : goal.returns-clause-shown
 returns-clause-shown g c = search rules

@@ -1,4 +1,4 @@
-use Rattle.std.proofs.Common.{sym, refl, inl, inr, arith, ◌∙◌}
+use Rattle.std.proofs.Common.{sym, refl, inl, inr, arith, rules, ◌∙◌}
 use Rattle.clap.specs.Values.{kind_of}
 use Rattle.clap.specs.declared.error.kind.ErrorKind.TheVariants.{DisplayHelp, DisplayVersion}
 use Rattle.kv_keys.specs.declared.error.KvError.TheVariants.{OutOfMemory, WriteFault}
@@ -8,6 +8,9 @@ use Rattle.kv_run.proofs.running.refuse.Goals as goal
 
 pub returns-in-OutOfMemory-clause-stopped : goal.returns-in-OutOfMemory-clause-stopped
 returns-in-OutOfMemory-clause-stopped g c = λ one kinds has. (OutOfMemory, (c.fail.ensures.told, inr (refl, refl)))
+
+pub returns-in-DisplayHelp-clause-done : goal.returns-in-DisplayHelp-clause-done
+returns-in-DisplayHelp-clause-done g c = search rules
 
 pub returns-in-DisplayHelp-clause-stopped : goal.returns-in-DisplayHelp-clause-stopped
 returns-in-DisplayHelp-clause-stopped g c = λ one kinds has.

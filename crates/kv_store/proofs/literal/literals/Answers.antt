@@ -26,3 +26,6 @@ pub returns-clause-asked : goal.returns-clause-asked
 returns-clause-asked c =
     let end = YieldsList-end (YieldsList-from_str_split 44 c.args.filters.now (lit< tt) (cc) (cc) (cc)) c.loop-filter.yielded _ c.loop-filter.yielded_by _ _ c.in-None.is c.next.ensures.steps in
     subst (λ fs. AreAsked (any_matches fs) c.loop-filter.keys.items) end.0 c.loop-filter.invariant
+
+pub returns-in-None-2-clause-asked : goal.returns-in-None-2-clause-asked
+returns-in-None-2-clause-asked c = tt

@@ -1,4 +1,4 @@
-use Rattle.std.proofs.Common.{◌≡◌, ◌≤◌, ℕ, length, sym, subst, ap, ◌∙◌, arith}
+use Rattle.std.proofs.Common.{◌≡◌, ◌≤◌, ℕ, List, length, sym, subst, ap, ◌∙◌, arith}
 use Rattle.std.specs.Arc.{arc_value}
 use Rattle.std.specs.Prelude.{All}
 use Rattle.std.specs.Ordering.{nat_cmp}
@@ -7,29 +7,31 @@ use Rattle.kv_keys.specs.Places.{fnv32_of}
 use Rattle.kv_trie.specs.Form.{order}
 use Rattle.kv_model.specs.Acts.{Write}
 use Rattle.kv_store.specs.Places.{place_of_revision}
+use Rattle.kv_store.specs.Stored.{Kept}
 use Rattle.kv_store.proofs.Lookups.{All-put_pair, more_by_bytes, length-kept_entries, length-put_pair, written_more}
 use Rattle.kv_store.proofs.put.put_write.Goals as goal
-use Rattle.kv_store.proofs.put.put_write.Goals.{In_ok-put_both}
 
--- what is put of the revision, and of the key
-written : (c : In_ok-put_both) → arc_value c.in_ok-written.written ≡ (c.args.write.revision, c.args.write)
-written c = c.in_ok-written.ensures.ok ∙ ap (λ n. (n, c.args.write)) (c.new-number.ensures ∙ c.revision.ensures)
+-- what is put of the revision, and of the key, from what their parts are
+of_revision : (w : Write) (number n : ℕ) (e : ℕ × Write) → n ≡ w.revision → number ≡ n → e ≡ (number, w) → e ≡ (w.revision, w)
+of_revision w number n e a b f = f ∙ ap (λ r. (r, w)) (b ∙ a)
 
-of_key : (c : In_ok-put_both) → arc_value c.in_ok-of_key.of_key ≡ (c.args.key, record { revisions = c.args.revisions.items; last = c.args.write })
-of_key c =
-    let last : (arc_value c.in_ok-last.last).1 ≡ c.args.write = ap (λ p. p.1) (c.in_ok-last.ensures ∙ written c) in
-    let kept : c.new-2.result ≡ record { revisions = c.args.revisions.items; last = c.args.write } = c.new-2.ensures ∙ ap (λ w. record { revisions = c.args.revisions.items; last = w }) last in
-    c.in_ok-of_key.ensures.ok ∙ ap (λ k. (c.args.key, k)) kept
+of_key : (key revisions : List ℕ) (w : Write) (written last : ℕ × Write) (kept : Kept) (e : List ℕ × Kept) → written ≡ (w.revision, w) → last ≡ written → kept ≡ record { revisions = revisions; last = last.1 } → e ≡ (key, kept) → e ≡ (key, record { revisions = revisions; last = w })
+of_key key revisions w written last kept e a b d f =
+    f ∙ ap (λ k. (key, k)) (d ∙ ap (λ v. record { revisions = revisions; last = v }) (ap (λ p. p.1) (b ∙ a)))
 
 pub returns-clause-found : goal.returns-clause-found
 returns-clause-found c = λ q.
-    let is = of_key c in
-    rw is at (more_by_bytes (λ v. v.revisions) (arc_value c.in_ok-of_key.of_key).0 q (arc_value c.in_ok-of_key.of_key).1 c.args.by_key.now c.put_both.new.first (c.in_ok-put_both.ensures.first_map q))
+    let e = arc_value c.in_ok-of_key.of_key in
+    let written : arc_value c.in_ok-written.written ≡ (c.args.write.revision, c.args.write) = of_revision c.args.write _ _ _ c.revision.ensures c.new-number.ensures c.in_ok-written.ensures.ok in
+    let is : e ≡ (c.args.key, record { revisions = c.args.revisions.items; last = c.args.write }) = of_key _ _ _ _ _ _ _ written c.in_ok-last.ensures c.new-2.ensures c.in_ok-of_key.ensures.ok in
+    rw is at (more_by_bytes (λ v. v.revisions) e.0 q e.1 c.args.by_key.now c.put_both.new.first (c.in_ok-put_both.ensures.first_map q))
 
 pub returns-clause-last : goal.returns-clause-last
 returns-clause-last c = λ q.
-    let is = of_key c in
-    rw is at (more_by_bytes (λ v. v.last) (arc_value c.in_ok-of_key.of_key).0 q (arc_value c.in_ok-of_key.of_key).1 c.args.by_key.now c.put_both.new.first (c.in_ok-put_both.ensures.first_map q))
+    let e = arc_value c.in_ok-of_key.of_key in
+    let written : arc_value c.in_ok-written.written ≡ (c.args.write.revision, c.args.write) = of_revision c.args.write _ _ _ c.revision.ensures c.new-number.ensures c.in_ok-written.ensures.ok in
+    let is : e ≡ (c.args.key, record { revisions = c.args.revisions.items; last = c.args.write }) = of_key _ _ _ _ _ _ _ written c.in_ok-last.ensures c.new-2.ensures c.in_ok-of_key.ensures.ok in
+    rw is at (more_by_bytes (λ v. v.last) e.0 q e.1 c.args.by_key.now c.put_both.new.first (c.in_ok-put_both.ensures.first_map q))
 
 pub returns-clause-len : goal.returns-clause-len
 returns-clause-len c =
@@ -45,7 +47,7 @@ pub returns-clause-put : goal.returns-clause-put
 returns-clause-put c =
     let old = c.args.by_revision.now in
     let pair : ℕ × Write = (c.args.write.revision, c.args.write) in
-    let is = written c in
+    let is : arc_value c.in_ok-written.written ≡ pair = of_revision c.args.write _ _ _ c.revision.ensures c.new-number.ensures c.in_ok-written.ensures.ok in
     let map = rw is at c.in_ok-put_both.ensures.second_map in
     let pairs = rw is at c.in_ok-put_both.ensures.pairs.1 in
     record {

@@ -1,7 +1,14 @@
-use Rattle.std.proofs.Common.{◌≡◌, ◌-◌, sym, ap, ◌∙◌, arith}
+use Rattle.std.proofs.Common.{◌≡◌, ◌-◌, max, sym, ap, ◌∙◌, arith}
 use Rattle.kv_watch.specs.Following.{shown_behind}
 use Rattle.kv_watch.proofs.Walks.{live_here, live_next, live_skip, live_past, live_end}
 use Rattle.kv_watch.proofs.live.next_live.Goals as goal
+
+pub loop-place-init : goal.loop-place-init
+loop-place-init c = λ acts s.
+    let first : max c.args.seen c.args.now.now.floor ≡ c.max-place.result = ap (max c.args.seen) (sym c.floor.ensures.value) ∙ sym c.max-place.ensures in (
+      ap (λ k. shown_behind k acts c.args.filters.now c.args.options) first,
+      (omega (arith, first), omega (arith, first)),
+    )
 
 pub returns-in_default-clause-first : goal.returns-in_default-clause-first
 returns-in_default-clause-first c = λ acts s.

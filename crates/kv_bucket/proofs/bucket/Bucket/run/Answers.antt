@@ -16,7 +16,7 @@ loop-call-preserved c =
     take_more c.args.calls.now c.loop-call.call-index call c.loop-call-test.true ∙ ap (λ (x : Call). before ++ x ∷ []) (sym c.call-item.is) in
     subst (λ (cs : List Call). IsRun c.args.self.now cs c.args.replies.now.items c.push_reserved.new.self.items c.answer.new.self) (sym more)
     (run_push c.args.self.now c.loop-call.self c.answer.new.self before call c.args.replies.now.items c.loop-call.replies.items c.push_reserved.new.self.items c.in_ok-answer.field-0
-    c.loop-call.invariant c.in_ok-answer.ensures.ok (c.push_reserved.ensures.items ∙ ap (λ rs. rs ++ c.in_ok-answer.field-0 ∷ []) c.in_ok-reserve.ensures.items))
+    c.loop-call.invariant c.in_ok-answer.ensures.ok (c.push_reserved.ensures.items ∙ ap (λ rs. rs ++ c.in_ok-answer.field-0 ∷ []) c.reserve.ensures.items))
 
 pub returns-clause-told : goal.returns-clause-told
 returns-clause-told c =
@@ -36,4 +36,7 @@ returns-in_err-answer-clause-told_early c =
     let calls = take c.loop-call.call-index c.args.calls.now in
     tells_early c.from_residual-in_err-answer.result c.args.self.now c.answer.new.self c.args.calls.now c.args.replies.now.items c.reserve.new.self.items c.loop-call.call-index c.loop-call-test.true
     (subst (λ (bucket : Bucketed). IsRun c.args.self.now calls c.args.replies.now.items c.reserve.new.self.items bucket) (sym c.in_err-answer.ensures.unchanged)
-    (subst (λ (replies : List Reply). IsRun c.args.self.now calls c.args.replies.now.items replies c.loop-call.self) (sym c.in_ok-reserve.ensures.items) c.loop-call.invariant))
+    (subst (λ (replies : List Reply). IsRun c.args.self.now calls c.args.replies.now.items replies c.loop-call.self) (sym c.reserve.ensures.items) c.loop-call.invariant))
+
+pub returns-clause-told_early : goal.returns-clause-told_early
+returns-clause-told_early c = tt

@@ -1,5 +1,4 @@
-use Rattle.std.proofs.Common.{rules}
 use Rattle.kv_live.proofs.feed.Feed.next.Goals as goal
 
 pub returns : goal.returns
-returns g c = search rules
+returns g c = search

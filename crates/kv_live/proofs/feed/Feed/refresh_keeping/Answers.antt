@@ -4,7 +4,7 @@ use Rattle.kv_model.specs.Configuration.{Configuration}
 use Rattle.kv_live.specs.inside.Fed.{IsFed, acts_on, feeding_of}
 use Rattle.kv_log.specs.Shelves.{Shelved}
 use Rattle.kv_live.specs.Feeding.{Feeding, IsRefreshed, lags}
-use Rattle.kv_live.proofs.Feeds.{fed_later, refreshed}
+use Rattle.kv_live.proofs.Feeds.{fed_later, fed_seen, refreshed}
 use Rattle.kv_live.proofs.feed.Feed.refresh_keeping.Goals as goal
 
 pub invariant_of-self-2 : goal.invariant_of-self-2
@@ -47,3 +47,7 @@ returns-clause-ahead g c =
     subst (λ (shelf : Shelved). lags config.history (floor_of (acts_on shelf)) c.args.self.now ≡ false) (sym c.replace-left.ensures.after)
     (subst (λ (f : Feeding). lags config.history (floor_of (acts_on next)) f ≡ false) c.self.view_is
     (ap (λ (acts : List Act). lags config.history (floor_of acts) feed) ok.0 ∙ ahead))
+
+pub invariant_of-self : goal.invariant_of-self
+invariant_of-self g c =
+    (fed_seen g.N.LiveName.opening.config c.self.inside.reader c.shelf_ahead.new.self c.self.inside.held.base.value c.self.inside.held.current c.self.inside.cursor c.self.invariant.0 c.shelf_ahead.ensures.later, c.self.invariant.1)

@@ -1,5 +1,4 @@
-use Rattle.std.proofs.Common.{rules}
 use Rattle.kv_live.proofs.live.Live.compact.Goals as goal
 
 pub returns-clause-ok : goal.returns-clause-ok
-returns-clause-ok g c = search rules
+returns-clause-ok g c = search

@@ -1,4 +1,4 @@
-use Rattle.std.proofs.Common.{Some, sym, ap, ◌∙◌}
+use Rattle.std.proofs.Common.{◌≡◌, Some, sym, ap, ◌∙◌}
 use Rattle.std.specs.Option.{option_map}
 use Rattle.kv_store.specs.Stored.{last_at}
 use Rattle.kv_store.proofs.Lookups.{by_bytes}
@@ -6,10 +6,11 @@ use Rattle.kv_store.proofs.version.Version.last_write.Goals as goal
 
 pub returns-in-Some-clause-value : goal.returns-in-Some-clause-value
 returns-in-Some-clause-value c =
-    ap (λ w. Some w) c.last.ensures
-    ∙ ap (option_map (λ v. v.last)) c.in-Some.ensures
+    let stored : Some c.in-Some.kept.now.last ≡ last_at c.args.key.now c.args.self.now =
+    ap (option_map (λ v. v.last)) c.in-Some.ensures
     ∙ sym (by_bytes (λ v. v.last) c.args.key.now c.self.inside.by_key)
-    ∙ ap (last_at c.args.key.now) c.self.view_is
+    ∙ ap (last_at c.args.key.now) c.self.view_is in
+    cc
 
 pub returns-in-Some-clause-acts : goal.returns-in-Some-clause-acts
 returns-in-Some-clause-acts c = λ acts s. returns-in-Some-clause-value c ∙ s.last_of c.args.key.now

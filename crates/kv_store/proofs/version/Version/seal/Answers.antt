@@ -12,3 +12,6 @@ returns-clause-stands c =
     IfOk-weaker c.share.result (λ (v : Stored). v ≡ record before { sealed = true }) (λ v. (acts : List Act) → StandsFor acts before → StandsFor (acts ++ Seal ∷ []) v)
     (λ v e acts s. subst (StandsFor (acts ++ Seal ∷ [])) (sym e) (stands_for_seal acts before s))
     c.share.ensures.ok
+
+pub returns-clause-ok : goal.returns-clause-ok
+returns-clause-ok c = c.share.ensures.ok

@@ -1,9 +1,19 @@
-use Rattle.std.proofs.Common.{◌≡◌, [], reverse, refl, sym, subst, ◌+◌, arith}
+use Rattle.std.proofs.Common.{◌≡◌, [], reverse, refl, sym, ap, subst, ◌+◌, ◌∙◌, arith}
 use Rattle.kv_watch.specs.Following.{Following, InPlace, InReach}
 use Rattle.kv_watch.proofs.Owing.{owes_none}
+use Rattle.kv_watch.proofs.Passing.{same_filters, same_options}
 use Rattle.kv_watch.proofs.Placing.{passed_by, looked_by}
 use Rattle.kv_watch.proofs.Reaching.{reach_behind, reach_further}
 use Rattle.kv_watch.proofs.cursor.Cursor.pass.Goals as goal
+
+pub returns-in-Some-clause-filters : goal.returns-in-Some-clause-filters
+returns-in-Some-clause-filters c = ap (λ (cursor : Following). cursor.filters) c.step.ensures ∙ same_filters c.in-Some.event c.args.self.now
+
+pub returns-in-Some-clause-options : goal.returns-in-Some-clause-options
+returns-in-Some-clause-options c = ap (λ (cursor : Following). cursor.options) c.step.ensures ∙ same_options c.in-Some.event c.args.self.now
+
+pub returns-in-Some-clause-none : goal.returns-in-Some-clause-none
+returns-in-Some-clause-none c = λ none. let e = sym none ∙ c.in-Some.is in cc
 
 pub returns-in-Some-clause-in_place : goal.returns-in-Some-clause-in_place
 returns-in-Some-clause-in_place c = rw c.in-Some.is (λ n began acts base at e.
