@@ -19,7 +19,7 @@ use std::marker::PhantomData;
 use std::snapshot::Snapshot;
 use std::sync::Wait;
 use std::thread;
-use std::thread::{Promise, Threads};
+use std::thread::{Promise, PromisedHandle, Scope, Threads};
 
 /// What a worker was answered, in order, unless memory ran out before it wrote anything.
 pub(crate) type Worked<N> = Result<Vec<Result<(u64, Receipt<N>), KvError>>, KvError>;
@@ -89,6 +89,91 @@ fn run_watcher<N: LiveName, R: Wait, G: Gate>(
     Watched { feed, seen }
 }
 
+// A worker that was started, and what it promised.
+type WorkerThread<N> = PromisedHandle<Worked<N>, Script<N>>;
+
+// A watcher that was started, and what it promised.
+type WatcherThread<N> = PromisedHandle<Watched<N>, Followed<N>>;
+
+// Starts a worker for each script.
+fn start_workers<'s, N: LiveName + Send + Sync + 's, R: Wait + Sync, G: Gate, E>(
+    scope: &Scope<'s, E>,
+    rt: &'s R,
+    alloc: Global,
+    live: &'s Live<N>,
+    scripts: &'s [Vec<Request>],
+    gate: &'s G,
+) -> Result<Vec<WorkerThread<N>>, KvError>
+    requires { IsSync R.row × IsSync G.row × IsSync N.row × IsSend N.row }
+    ensures ok { IfOk result (λ workers. map (λ worker. worker.promise.0.value) workers.items ≡ scripts.now) }
+    ensures err { IfErr result (λ e. e ≡ OutOfMemory) }
+{
+    let mut workers = Vec::new(alloc);
+    for worker in 0..scripts.len() {
+        let script = &scripts[worker];
+        let promise = Script(Snapshot::of(script), PhantomData);
+        let Ok(started) = scope.spawn_with(
+            promise,
+            move || run_worker(rt, alloc, live, worker, script, gate),
+        ) else {
+            return Err(KvError::OutOfMemory);
+        };
+        workers.push(started)?;
+    }
+    Ok(workers)
+}
+
+// Starts a watcher for each feed.
+fn start_watchers<'s, N: LiveName + Send + Sync + 's, R: Wait + Sync, G: Gate, E>(
+    scope: &Scope<'s, E>,
+    rt: &'s R,
+    alloc: Global,
+    feeds: Vec<Feed<N>>,
+    gate: &'s G,
+) -> Result<Vec<WatcherThread<N>>, KvError>
+    requires { IsSync R.row × IsSync G.row × IsSync N.row × IsSend N.row }
+    ensures ok { IfOk result (λ watchers. map (λ watcher. watcher.promise.0.value) watchers.items ≡ feeds.items) }
+    ensures err { IfErr result (λ e. e ≡ OutOfMemory) }
+{
+    let mut watchers = Vec::new(alloc);
+    for feed in feeds {
+        let watcher = watchers.len();
+        let promise = Followed(Snapshot::of(&feed));
+        let Ok(started) = scope.spawn_with(
+            promise,
+            move || run_watcher(rt, alloc, watcher, feed, gate),
+        ) else {
+            return Err(KvError::OutOfMemory);
+        };
+        watchers.push(started)?;
+    }
+    Ok(watchers)
+}
+
+// Joins the workers, then ends the sleeps of the watchers, and joins these.
+fn join_all<N: LiveName, R: Threads>(
+    rt: &R,
+    workers: Vec<WorkerThread<N>>,
+    finish: Finish<'_, N>,
+    watchers: Vec<WatcherThread<N>>,
+) -> Result<(Vec<Worked<N>>, Vec<Watched<N>>), KvError>
+    ensures workers { IfOk result
+        (λ done. AllZip
+        (λ script worked. IfOk worked
+        (λ answers. AllZip (IsTold N.opening.config) (map asked script.items) answers.items))
+        (map (λ worker. worker.promise.0.value) workers.items) done.0.items) }
+    ensures watchers { IfOk result
+        (λ done. AllZip
+        (λ feed watched. IsFollowed N.opening.config.history feed watched.feed watched.seen.items)
+        (map (λ watcher. watcher.promise.0.value) watchers.items) done.1.items) }
+    ensures err { IfErr result (λ e. e ≡ OutOfMemory) }
+{
+    let worked = thread::join_promised(rt, workers)?;
+    drop(finish);
+    let watched = thread::join_promised(rt, watchers)?;
+    Ok((worked, watched))
+}
+
 /// Runs each script and follows each feed on a thread of its own, and joins them all, also where one could not be
 /// started.
 pub(crate) fn run_all<N: LiveName + Send + Sync, R: Threads + Wait + Sync, G: Gate>(
@@ -127,34 +212,9 @@ pub(crate) fn run_all<N: LiveName + Send + Sync, R: Threads + Wait + Sync, G: Ga
             ensures err { IfErr result (λ e. e ≡ OutOfMemory) }
         {
             let finish = Finish(live);
-            let mut workers = Vec::new(alloc);
-            for worker in 0..scripts.len() {
-                let script = &scripts[worker];
-                let promise = Script(Snapshot::of(script), PhantomData);
-                let Ok(started) = scope.spawn_with(
-                    promise,
-                    move || run_worker(rt, alloc, live, worker, script, gate),
-                ) else {
-                    return Err(KvError::OutOfMemory);
-                };
-                workers.push(started)?;
-            }
-            let mut watchers = Vec::new(alloc);
-            for feed in feeds {
-                let watcher = watchers.len();
-                let promise = Followed(Snapshot::of(&feed));
-                let Ok(started) = scope.spawn_with(
-                    promise,
-                    move || run_watcher(rt, alloc, watcher, feed, gate),
-                ) else {
-                    return Err(KvError::OutOfMemory);
-                };
-                watchers.push(started)?;
-            }
-            let worked = thread::join_promised(rt, workers)?;
-            drop(finish);
-            let watched = thread::join_promised(rt, watchers)?;
-            Ok((worked, watched))
+            let workers = start_workers(scope, rt, alloc, live, scripts, gate)?;
+            let watchers = start_watchers(scope, rt, alloc, feeds, gate)?;
+            join_all(rt, workers, finish, watchers)
         },
     )
 }
