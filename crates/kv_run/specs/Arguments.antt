@@ -42,15 +42,20 @@ form_option = record (new_rule (codes "text")) { long = Some (codes "text"); act
 abbrev pub versioned : App → App
 versioned app = on_top (λ shape. record shape { has_version = true }) app
 
--- the program, and its options
-abbrev pub program_app : App
-program_app =
-    with_rule (with_rule (with_rule (with_rule (with_rule (with_rule (with_rule (versioned (new_app (codes "kvbucket")))
-    (text_option (codes "bucket") (codes "kv")))
+-- with an option for each number of a configuration
+abbrev pub with_limits : App → App
+with_limits app =
+    with_rule (with_rule (with_rule (with_rule app
     (number_option (codes "history") (codes "1")))
     (number_option (codes "value-limit") (codes "1048576")))
     (number_option (codes "write-limit") (codes "1000000")))
-    (number_option (codes "revision-limit") (codes "4294967295")))
+    (number_option (codes "revision-limit") (codes "4294967295"))
+
+-- the program, and its options
+abbrev pub program_app : App
+program_app =
+    with_rule (with_rule (with_limits (with_rule (versioned (new_app (codes "kvbucket")))
+    (text_option (codes "bucket") (codes "kv"))))
     race_option)
     form_option
 

@@ -3,12 +3,13 @@
 ghost use Rattle.std.specs.Prelude.{◌≡◌, false, IfOk, IfErr, MatchResult, [], map, string_bytes};
 ghost use Rattle.clap.specs.Kinds.{HasKind};
 ghost use Rattle.clap.specs.Simple.{app_of};
-ghost use Rattle.clap.specs.Walk.{rule_of};
+ghost use Rattle.clap.specs.Matches.{found_of};
+ghost use Rattle.clap.specs.Walk.{rows_of, rule_of};
 ghost use Rattle.kv_keys.specs.declared.error.KvError.TheVariants.{OutOfMemory};
-ghost use Rattle.kv_run.specs.Arguments.{faults_of, form_asked, form_option, number_option, program_app, race_option, text_option, wanted_of};
+ghost use Rattle.kv_run.specs.Arguments.{faults_of, form_asked, form_option, number_in, number_option, program_app, race_option, text_option, wanted_of, with_limits};
 
 use crate::help::VERSION;
-use clap::{Arg, ArgAction, Command, Error, value_parser};
+use clap::{Arg, ArgAction, ArgMatches, Command, Error, value_parser};
 use kv_keys::KvError;
 use kv_model::Config;
 use kv_script::Form;
@@ -76,19 +77,34 @@ fn form_asked(as_text: bool) -> Form
     if as_text { Form::Text } else { Form::Base64 }
 }
 
+/// The program with the options for the numbers of a configuration.
+fn with_limits<'a>(alloc: Global, command: Command<'a>) -> Result<Command<'a>, AllocError>
+    ensures { IfOk result (λ more. app_of more ≡ with_limits (app_of command.entry)) }
+{
+    command
+        .arg(number(alloc, "history", "1"))?
+        .arg(number(alloc, "value-limit", "1048576"))?
+        .arg(number(alloc, "write-limit", "1000000"))?
+        .arg(number(alloc, "revision-limit", "4294967295"))
+}
+
 /// The program, with its options. Its help and its version are texts of their own, so clap's are not asked for.
 fn command<'a>(alloc: Global) -> Result<Command<'a>, AllocError>
     ensures { IfOk result (λ command. app_of command ≡ program_app) }
 {
-    Command::new(alloc, "kvbucket")
+    let named = Command::new(alloc, "kvbucket")
         .version(VERSION)
-        .arg(text(alloc, "bucket", "NAME", "kv"))?
-        .arg(number(alloc, "history", "1"))?
-        .arg(number(alloc, "value-limit", "1048576"))?
-        .arg(number(alloc, "write-limit", "1000000"))?
-        .arg(number(alloc, "revision-limit", "4294967295"))?
+        .arg(text(alloc, "bucket", "NAME", "kv"))?;
+    with_limits(alloc, named)?
         .arg(race(alloc))?
         .arg(form(alloc))
+}
+
+/// The number that is given for an option, or else its default.
+fn number_given(matches: &ArgMatches<'_>, name: &str, default: u64) -> u64
+    ensures { result ≡ number_in name.now default (rows_of (found_of matches.now)) }
+{
+    matches.get_one::<u64>(name).unwrap_or(default)
 }
 
 impl<'a> Model for Arguments<'a> {
@@ -120,12 +136,10 @@ impl<'a> Arguments<'a> {
         let matches = command(alloc)?.try_get_matches_from(words)?;
         Ok(Arguments {
             bucket: matches.get_str("bucket").unwrap_or("kv"),
-            history: matches.get_one::<u64>("history").unwrap_or(1),
-            value_limit: matches.get_one::<u64>("value-limit").unwrap_or(1_048_576),
-            write_limit: matches.get_one::<u64>("write-limit").unwrap_or(1_000_000),
-            revision_limit: matches
-                .get_one::<u64>("revision-limit")
-                .unwrap_or(4_294_967_295),
+            history: number_given(&matches, "history", 1),
+            value_limit: number_given(&matches, "value-limit", 1_048_576),
+            write_limit: number_given(&matches, "write-limit", 1_000_000),
+            revision_limit: number_given(&matches, "revision-limit", 4_294_967_295),
             race: matches.get_one::<u64>("race"),
             form: form_asked(matches.get_one::<bool>("text").unwrap_or(false)),
         })

@@ -69,7 +69,7 @@ impl Version {
         ensures full { (acts : List Act) → StandsFor acts self.now → result ≡ is_full self.now.config acts }
         ensures room { result ≡ false → self.now.last < self.now.config.revision_limit }
     {
-        self.stored() >= self.write_limit || self.last >= self.revision_limit
+        self.stored() >= self.parts.write_limit || self.parts.last >= self.parts.revision_limit
     }
 
     // Why the key does not allow the request.
@@ -94,10 +94,10 @@ impl Version {
         ensures refused { IfErr result (λ e. (acts : List Act) → StandsFor acts self.now →
             Refuses e (accept self.now.config (asked request.now) acts)) }
     {
-        if request.value().len() as u64 > self.value_limit {
+        if request.value().len() as u64 > self.parts.value_limit {
             return Err(KvError::ValueTooLarge);
         }
-        if self.sealed {
+        if self.parts.sealed {
             return Err(KvError::Sealed);
         }
         if self.is_full() {

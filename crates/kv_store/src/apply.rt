@@ -15,6 +15,7 @@ use crate::version::Version;
 use kv_keys::{Key, KvError};
 use kv_model::{Request, Write};
 use std::alloc::Global;
+use std::sync::Arc;
 
 impl Version {
     pub(crate) fn kept_before(&self, key: &Key) -> &[u64]
@@ -37,20 +38,11 @@ impl Version {
     {
         let revision = write.revision();
         let before = self.kept_before(write.key());
-        let kept = next_kept(alloc, self.history, write.op(), revision, before)?;
-        let entries = (self.values + kept.len() as u64).saturating_sub(before.len() as u64);
+        let kept = next_kept(alloc, self.parts.history, write.op(), revision, before)?;
+        let entries = (self.parts.values + kept.len() as u64).saturating_sub(before.len() as u64);
         let key = write.key().copy(alloc)?;
-        put_write(
-            alloc,
-            &mut self.by_key,
-            &mut self.by_revision,
-            key,
-            kept,
-            write,
-        )?;
-        self.last = revision;
-        self.values = entries;
-        Ok(())
+        let parts = Arc::make_mut(&mut self.parts)?;
+        put_write(alloc, parts, key, kept, write, entries)
     }
 
     /// The next version, with the write that is asked for, or why it is refused, the first reason that fits: its value
@@ -68,7 +60,7 @@ impl Version {
             Refuses e (accept self.now.config (asked request.now) acts)) }
     {
         self.accept(request)?;
-        let write = request.write(alloc, self.last + 1)?;
+        let write = request.write(alloc, self.parts.last + 1)?;
         let mut next = self.snapshot()?;
         next.add(alloc, write)?;
         Ok(next)

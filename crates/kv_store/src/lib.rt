@@ -12,6 +12,7 @@ mod left;
 mod listed;
 mod literal;
 mod next;
+mod parts;
 mod put;
 mod reads;
 mod rev;

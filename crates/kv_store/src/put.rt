@@ -8,39 +8,57 @@ ghost use Rattle.kv_store.specs.inside.Fields.{kept_entries, last_entries};
 ghost use Rattle.kv_store.specs.inside.Putting.{HasPut};
 
 use crate::kept::Kept;
+use crate::parts::Parts;
 use crate::rev::Rev;
 use kv_keys::{Key, KvError};
 use kv_model::Write;
-use kv_trie::{Trie, put_both};
+use kv_trie::put_both;
 use std::alloc::Global;
 use std::sync::Arc;
 
-/// Puts the write into the revision trie, and into the key trie the kept revisions of its key and the write as its last
-/// one, or changes neither. The two tries share the write.
+/// Puts the write into the trie of revisions, and into that of keys the revisions that are kept of its key and the write
+/// as its last one; it is the last of all then, and there are so many entries. Or it changes nothing. The two tries
+/// share the write.
 pub fn put_write(
     alloc: Global,
-    by_key: &mut Trie<Key, Kept>,
-    by_revision: &mut Trie<Rev, Write>,
+    parts: &mut Parts,
     key: Key,
     revisions: Vec<u64>,
     write: Write,
+    values: u64,
 ) -> Result<(), KvError>
-    requires keys { length by_key.old < 2 ^ 32 - 1 }
-    requires writes { length by_revision.old < 2 ^ 32 - 1 }
+    requires keys { length parts.old.by_key < 2 ^ 32 - 1 }
+    requires writes { length parts.old.by_revision < 2 ^ 32 - 1 }
     requires small { write.revision < 2 ^ 32 }
-    ensures found { OnOk result ((q : List ℕ) → lookup (λ k. bytes_eq q k) (kept_entries by_key.new) ≡
-        (if bytes_eq key q then Some revisions.items else lookup (λ k. bytes_eq q k) (kept_entries by_key.old))) }
-    ensures last { OnOk result ((q : List ℕ) → lookup (λ k. bytes_eq q k) (last_entries by_key.new) ≡
-        (if bytes_eq key q then Some write else lookup (λ k. bytes_eq q k) (last_entries by_key.old))) }
-    ensures len { OnOk result (length (kept_entries by_key.new) ≤ length (kept_entries by_key.old) + 1) }
-    ensures put { OnOk result (HasPut write by_revision.old by_revision.new) }
-    ensures unchanged { OnErr result ((by_key.new ≡ by_key.old) × (by_revision.new ≡ by_revision.old)) }
+    ensures found { OnOk result ((q : List ℕ) → lookup (λ k. bytes_eq q k) (kept_entries parts.new.by_key) ≡
+        (if bytes_eq key q then Some revisions.items else
+        lookup (λ k. bytes_eq q k) (kept_entries parts.old.by_key))) }
+    ensures last { OnOk result ((q : List ℕ) → lookup (λ k. bytes_eq q k) (last_entries parts.new.by_key) ≡
+        (if bytes_eq key q then Some write else lookup (λ k. bytes_eq q k) (last_entries parts.old.by_key))) }
+    ensures len { OnOk result (length (kept_entries parts.new.by_key) ≤ length (kept_entries parts.old.by_key) + 1) }
+    ensures put { OnOk result (HasPut write parts.old.by_revision parts.new.by_revision) }
+    ensures same { OnOk result (parts.new ≡ record parts.old {
+      by_key = parts.new.by_key;
+      by_revision = parts.new.by_revision;
+      last = write.revision;
+      values = values;
+    }) }
+    ensures unchanged { OnErr result (parts.new ≡ parts.old) }
     ensures err { IfErr result (λ e. e ≡ OutOfMemory) }
 {
-    let number = Rev::new(write.revision() as u32);
+    let revision = write.revision();
+    let number = Rev::new(revision as u32);
     let written = Arc::new(alloc, (number, write))?;
     let last = Arc::try_clone(&written)?;
     let of_key = Arc::new(alloc, (key, Kept::new(revisions, last)))?;
-    put_both(alloc, by_key, of_key, by_revision, written)?;
+    put_both(
+        alloc,
+        &mut parts.by_key,
+        of_key,
+        &mut parts.by_revision,
+        written,
+    )?;
+    parts.last = revision;
+    parts.values = values;
     Ok(())
 }

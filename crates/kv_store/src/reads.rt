@@ -39,7 +39,7 @@ impl Version {
         ensures acts { (acts : List Act) → StandsFor acts self.now →
             result ≡ length (stored_writes self.now.config.history acts) }
     {
-        self.by_revision.len()
+        self.parts.by_revision.len()
     }
 
     /// The history bound, the last revision, whether writes have ended, and how many writes are stored and how many
@@ -55,11 +55,11 @@ impl Version {
         ensures acts { (acts : List Act) → StandsFor acts self.now → result ≡ status_of self.now.config.history acts }
     {
         Status {
-            history: self.history,
-            last: self.last,
-            sealed: self.sealed,
+            history: self.parts.history,
+            last: self.parts.last,
+            sealed: self.parts.sealed,
             stored: self.stored(),
-            values: self.values,
+            values: self.parts.values,
         }
     }
 

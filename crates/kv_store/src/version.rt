@@ -14,6 +14,7 @@ ghost use Rattle.kv_store.specs.Standing.{StandsFor};
 ghost use Rattle.kv_store.specs.Stored.{kept_at, last_at, write_at};
 
 use crate::kept::Kept;
+use crate::parts::Parts;
 use crate::rev::Rev;
 use arrayvec::ArrayString;
 use kv_keys::{Key, KvError};
@@ -21,40 +22,19 @@ use kv_model::{Config, Write};
 use kv_trie::Trie;
 use std::alloc::Global;
 use std::marker::Model;
+use std::sync::Arc;
 
 /// A version of a bucket. `apply`, `seal` and `compact` make another one, which shares what both have, and leave this
 /// one as it is; `write` and `compact_in_place` change this one, and no other.
 ///
 /// Contracts see what it stores, and say which lists of accepted acts that stands for.
 pub struct Version {
-    pub(crate) name: ArrayString<64>,
-    pub(crate) history: u64,
-    pub(crate) value_limit: u64,
-    pub(crate) write_limit: u64,
-    pub(crate) revision_limit: u64,
-    pub(crate) by_key: Trie<Key, Kept>,
-    pub(crate) by_revision: Trie<Rev, Write>,
-    pub(crate) last: u64,
-    pub(crate) values: u64,
-    pub(crate) floor: u64,
-    pub(crate) sealed: bool,
+    pub(crate) parts: Arc<Parts>,
 }
 
 impl Drop for Version {
     fn drop(self) {
-        let Self {
-            name: _,
-            history: _,
-            value_limit: _,
-            write_limit: _,
-            revision_limit: _,
-            by_key: _,
-            by_revision: _,
-            last: _,
-            values: _,
-            floor: _,
-            sealed: _,
-        } = self;
+        let Self { parts: _ } = self;
     }
 }
 
@@ -63,21 +43,22 @@ impl Model for Version {
 
     ghost Value = { Stored };
 
+    ghost use Rattle.std.specs.Arc.{arc_value};
     ghost use Rattle.kv_store.specs.inside.Bounds.{IsBounded};
     ghost use Rattle.kv_store.specs.inside.Fields.{stored_of};
 
-    ghost view = { stored_of };
+    ghost view = { λ v. stored_of (arc_value v.parts) };
 
-    ghost invariant = { λ v. IsBounded (stored_of v) };
+    ghost invariant = { λ v. IsBounded (stored_of (arc_value v.parts)) };
 }
 
 impl Version {
     ghost use Rattle.kv_store.specs.inside.Bounds.{IsBounded};
-    ghost use Rattle.kv_store.specs.inside.Fields.{kept_entries, last_entries};
+    ghost use Rattle.kv_store.specs.inside.Fields.{kept_entries, last_entries, stored_of};
 
     /// The version of a new bucket: no write, not sealed. The name is checked before the numbers, and both before any
     /// request for memory.
-    pub fn empty(_alloc: Global, config: &Config) -> Result<Version, KvError>
+    pub fn empty(alloc: Global, config: &Config) -> Result<Version, KvError>
         ensures ok { IfOk result (λ version. (version.config ≡ config.now) × StandsFor [] version) }
         ensures refused { IfErr result (λ e. Refuses e (configure config.now)) }
     {
@@ -85,7 +66,7 @@ impl Version {
         let Ok(name) = ArrayString::from(config.bucket.as_str()) else {
             unreachable!()
         };
-        Ok(Version {
+        let parts = Parts {
             name,
             history: config.history,
             value_limit: config.value_limit,
@@ -97,58 +78,19 @@ impl Version {
             values: 0,
             floor: 0,
             sealed: false,
-        })
+        };
+        Version::of(alloc, parts)
     }
 
-    // The version of the same bucket with these parts.
-    pub(crate) fn with_parts(
-        &self,
-        by_key: Trie<Key, Kept>,
-        by_revision: Trie<Rev, Write>,
-        values: u64,
-        floor: u64,
-        sealed: bool,
-    ) -> Version
-        requires { IsBounded (record self.now {
-          by_key = kept_entries by_key;
-          last_by_key = last_entries by_key;
-          by_revision = by_revision;
-          values = values;
-          floor = floor;
-          sealed = sealed;
-        }) }
-        ensures { result ≡ record self.now {
-          by_key = kept_entries by_key;
-          last_by_key = last_entries by_key;
-          by_revision = by_revision;
-          values = values;
-          floor = floor;
-          sealed = sealed;
-        } }
-    {
-        Version {
-            name: self.name,
-            history: self.history,
-            value_limit: self.value_limit,
-            write_limit: self.write_limit,
-            revision_limit: self.revision_limit,
-            by_key,
-            by_revision,
-            last: self.last,
-            values,
-            floor,
-            sealed,
-        }
-    }
-
-    // The same version, or one that is sealed.
-    fn share(&self, sealed: bool) -> Result<Version, KvError>
-        ensures ok { IfOk result (λ version. version ≡ record self.now { sealed = sealed }) }
+    // The version that has these parts.
+    pub(crate) fn of(alloc: Global, parts: Parts) -> Result<Version, KvError>
+        requires { IsBounded (stored_of parts) }
+        ensures ok { IfOk result (λ version. version ≡ stored_of parts) }
         ensures err { IfErr result (λ e. e ≡ OutOfMemory) }
     {
-        let by_key = self.by_key.snapshot()?;
-        let by_revision = self.by_revision.snapshot()?;
-        Ok(self.with_parts(by_key, by_revision, self.values, self.floor, sealed))
+        Ok(Version {
+            parts: Arc::new(alloc, parts)?,
+        })
     }
 
     /// An equal version, which shares everything, at once at every size. It is refused only where something is shared
@@ -158,24 +100,28 @@ impl Version {
         ensures stands { IfOk result (λ version. (acts : List Act) → StandsFor acts self.now → StandsFor acts version) }
         ensures err { IfErr result (λ e. e ≡ OutOfMemory) }
     {
-        self.share(self.sealed)
+        Ok(Version {
+            parts: Arc::try_clone(&self.parts)?,
+        })
     }
 
     /// The sealed version, which refuses writes. A version that is sealed already is so again.
-    pub fn seal(&self, _alloc: Global) -> Result<Version, KvError>
+    pub fn seal(&self, alloc: Global) -> Result<Version, KvError>
         ensures ok { IfOk result (λ version. version ≡ record self.now { sealed = true }) }
         ensures stands { IfOk result
             (λ version. (acts : List Act) → StandsFor acts self.now → StandsFor (acts ++ Seal ∷ []) version) }
         ensures err { IfErr result (λ e. e ≡ OutOfMemory) }
     {
-        self.share(true)
+        let mut parts = self.parts.again()?;
+        parts.sealed = true;
+        Version::of(alloc, parts)
     }
 
     /// The bucket's name.
     pub fn bucket(&self) -> &str
         ensures { result.now ≡ self.now.config.bucket }
     {
-        self.name.as_str()
+        self.parts.name.as_str()
     }
 
     /// The last revision, 0 where nothing was written.
@@ -183,7 +129,7 @@ impl Version {
         ensures value { result ≡ self.now.last }
         ensures acts { (acts : List Act) → StandsFor acts self.now → result ≡ length (writes_of acts) }
     {
-        self.last
+        self.parts.last
     }
 
     /// The floor of the last compaction, 0 where there was none.
@@ -191,7 +137,7 @@ impl Version {
         ensures value { result ≡ self.now.floor }
         ensures acts { (acts : List Act) → StandsFor acts self.now → result ≡ floor_of acts }
     {
-        self.floor
+        self.parts.floor
     }
 
     /// Whether writes have ended.
@@ -199,7 +145,7 @@ impl Version {
         ensures value { result ≡ self.now.sealed }
         ensures acts { (acts : List Act) → StandsFor acts self.now → result ≡ is_sealed acts }
     {
-        self.sealed
+        self.parts.sealed
     }
 
     /// Of each key what is stored of it: the revisions that are kept of it, in order, and its last write.
@@ -212,7 +158,7 @@ impl Version {
         ensures last { (acts : List Act) → StandsFor acts self.now → (key : List ℕ) →
             lookup (λ k. bytes_eq key k) (last_entries result.now) ≡ last_write key acts }
     {
-        &self.by_key
+        &self.parts.by_key
     }
 
     /// Of each revision the write that is stored of it.
@@ -221,14 +167,14 @@ impl Version {
         ensures acts { (acts : List Act) → StandsFor acts self.now → (revision : ℕ) →
             lookup (λ r. revision == r) result.now ≡ write_at_of self.now.config.history revision acts }
     {
-        &self.by_revision
+        &self.parts.by_revision
     }
 
     /// The revisions that are kept of the key, in order. It takes no memory.
     pub fn kept_at(&self, key: &Key) -> Option<&[u64]>
         ensures { option_copied result ≡ kept_at key.now self.now }
     {
-        match self.by_key.get(key) {
+        match self.parts.by_key.get(key) {
             Some(kept) => Some(kept.revisions()),
             None => None,
         }
@@ -240,7 +186,7 @@ impl Version {
         ensures value { option_copied result ≡ last_at key.now self.now }
         ensures acts { (acts : List Act) → StandsFor acts self.now → option_copied result ≡ last_write key.now acts }
     {
-        match self.by_key.get(key) {
+        match self.parts.by_key.get(key) {
             Some(kept) => Some(kept.last()),
             None => None,
         }
@@ -252,9 +198,9 @@ impl Version {
         ensures acts { (acts : List Act) → StandsFor acts self.now →
             option_copied result ≡ write_at_of self.now.config.history revision acts }
     {
-        if revision > self.last {
+        if revision > self.parts.last {
             return None;
         }
-        self.by_revision.get(&Rev::new(revision as u32))
+        self.parts.by_revision.get(&Rev::new(revision as u32))
     }
 }

@@ -26,7 +26,7 @@ impl Version {
         ensures unchanged { OnErr result (self.new ≡ self.old) }
     {
         self.accept(request)?;
-        let write = request.write(alloc, self.last + 1)?;
+        let write = request.write(alloc, self.parts.last + 1)?;
         self.add(alloc, write)?;
         Ok(())
     }

@@ -1,8 +1,8 @@
--- What a version's fields store.
+-- What a version's parts store.
 use Rattle.std.specs.Prelude.{ℕ, List, map}
 use Rattle.kv_model.specs.Acts.{Write}
 use Rattle.kv_store.specs.Stored.{Kept, Stored}
-use Rattle.kv_store.specs.declared.version.Version.TheInside.{Inside}
+use Rattle.kv_store.specs.declared.parts.Parts.{Parts}
 
 -- the revisions in the entries of the key trie
 abbrev pub kept_entries : List (List ℕ × Kept) → List (List ℕ × List ℕ)
@@ -12,7 +12,7 @@ kept_entries entries = map (λ e. (e.0, e.1.revisions)) entries
 abbrev pub last_entries : List (List ℕ × Kept) → List (List ℕ × Write)
 last_entries entries = map (λ e. (e.0, e.1.last)) entries
 
-abbrev pub stored_of : Inside → Stored
+abbrev pub stored_of : Parts → Stored
 stored_of v = record {
   config = record {
     bucket = v.name.bytes;

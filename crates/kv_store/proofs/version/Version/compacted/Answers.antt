@@ -1,16 +1,27 @@
-use Rattle.std.proofs.Common.{refl, arith}
+use Rattle.std.proofs.Common.{rules, refl, sym, subst, arith, ◌≡◌}
+use Rattle.std.proofs.lemmas.Result.{IfOk-weaker}
+use Rattle.kv_store.specs.Stored.{Stored}
+use Rattle.kv_store.specs.inside.Compacted.{IsCompacted}
+use Rattle.kv_store.specs.inside.Fields.{stored_of}
 use Rattle.kv_store.proofs.version.Version.compacted.Goals as goal
 
 pub returns-clause-ok : goal.returns-clause-ok
 returns-clause-ok c =
-    rw (c.with_parts.ensures, ← c.self.view_is) (record {
+    let left : IsCompacted c.args.floor c.args.self.now (stored_of c.with.result) =
+    rw (c.with.ensures, c.deref-parts.ensures, ← c.self.view_is) (record {
       config = refl;
       last = refl;
-      kept = c.in_ok-by_key.ensures.kept;
-      last_of = c.in_ok-by_key.ensures.last;
-      written = c.in_ok-by_revision.ensures.written;
+      kept = rw c.deref-parts.ensures at c.in_ok-by_key.ensures.kept;
+      last_of = rw c.deref-parts.ensures at c.in_ok-by_key.ensures.last;
+      written = rw c.deref-parts.ensures at c.in_ok-by_revision.ensures.written;
       apart = c.in_ok-kept_count.ensures.apart;
-      values = λ small. omega (arith, small, c.in_ok-kept_count.ensures.count);
+      values = λ small. omega (arith, small, c.in_ok-kept_count.ensures.count, rw c.deref-parts.ensures at c.min-values.ensures);
       floor = refl;
       sealed = refl;
-    })
+    }) in
+    IfOk-weaker c.of.result (λ (v : Stored). v ≡ stored_of c.with.result) (IsCompacted c.args.floor c.args.self.now)
+    (λ v e. subst (IsCompacted c.args.floor c.args.self.now) (sym e) left)
+    c.of.ensures.ok
+
+pub of-requires : goal.of-requires
+of-requires c = search rules

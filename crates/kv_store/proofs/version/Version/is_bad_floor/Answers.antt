@@ -2,5 +2,5 @@ use borrow.Author.Tests.{tests}
 use Rattle.std.proofs.Common.{rules}
 use Rattle.kv_store.proofs.version.Version.is_bad_floor.Goals as goal
 
-pub returns-else-self-floor : goal.returns-else-self-floor
-returns-else-self-floor c = search (rules, tests)
+pub returns-else-deref-floor : goal.returns-else-deref-floor
+returns-else-deref-floor c = search (rules, tests)
