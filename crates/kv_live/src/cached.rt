@@ -11,6 +11,7 @@ use kv_keys::KvError;
 use kv_log::{Front, LiveName, Shelf};
 use kv_store::Version;
 use std::marker::{Model, PhantomData};
+use std::mem;
 
 /// A version of the opening N that a thread keeps for many reads, and refreshes by its reader. Contracts see it as the
 /// acts that the version stands for.
@@ -58,13 +59,13 @@ impl<N: LiveName> Cached<N> {
         knowledge.has_seen_just(self.shelf.glimpse()) && knowledge.has_seen_all_told()
     }
 
-    // Goes on to what is published, which the reader of this knowledge takes in. Where it was there already nothing is
-    // copied.
+    // Goes on to what is published, which the reader of this knowledge takes in, and answers what it left. Where it was
+    // there already nothing is copied.
     pub(crate) fn go_on(
         &mut self,
         knowledge: &mut Knowledge<N>,
         shelf: &Shelf,
-    ) -> Result<(), KvError>
+    ) -> Result<Option<Shelf>, KvError>
         requires { IsOf N.opening shelf.now }
         ensures later { IsPrefix knowledge.old.seen knowledge.new.seen }
         ensures told { knowledge.new.told ≡ knowledge.old.told }
@@ -73,10 +74,11 @@ impl<N: LiveName> Cached<N> {
         ensures err { IfErr result IsUnread }
     {
         knowledge.see(shelf)?;
+        let mut left = None;
         if !knowledge.has_seen_just(self.shelf.glimpse()) {
-            self.shelf = shelf.again()?;
+            left = Some(mem::replace(&mut self.shelf, shelf.again()?));
         }
         knowledge.rest_on(shelf);
-        Ok(())
+        Ok(left)
     }
 }

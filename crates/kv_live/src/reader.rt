@@ -116,11 +116,13 @@ impl<N: LiveName> Reader<N> {
         if cached.is_all_of(&self.knowledge) && !self.bell.has_more(self.knowledge.taken_in()) {
             return Ok(());
         }
-        self.go_on(cached)
+        self.go_on(cached)?;
+        Ok(())
     }
 
-    // Enters, and has what was cached go on to what is there.
-    fn go_on(&mut self, cached: &mut Cached<N>) -> Result<(), KvError>
+    // Enters, has what was cached go on to what is there, and answers what that left: who lets it go does so outside,
+    // where no publish waits for it.
+    fn go_on(&mut self, cached: &mut Cached<N>) -> Result<Option<Shelf>, KvError>
         ensures later { IsPrefix self.old.seen self.new.seen }
         ensures told { self.new.told ≡ self.old.told }
         ensures ok { OnOk result ((cached.new ≡ self.new.seen) × IsPrefix self.old.told self.new.seen) }
