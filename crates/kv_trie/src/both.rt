@@ -1,11 +1,9 @@
 //! One change of two maps.
 
-ghost use Rattle.std.specs.Prelude.{◌≡◌, ◌<◌, ◌-◌, ◌^◌, length, if◌then◌else◌, Some, IfErr, OnErr, OnOk};
+ghost use Rattle.std.specs.Prelude.{◌≡◌, ◌<◌, ◌-◌, ◌^◌, length, IfErr, OnOk};
 ghost use Rattle.std.specs.Arc.{arc_value};
-ghost use Rattle.std.specs.BTreeMap.{is_at};
-ghost use Rattle.std.specs.Map.{lookup};
 ghost use Rattle.kv_keys.specs.declared.error.KvError.TheVariants.{OutOfMemory};
-ghost use Rattle.kv_trie.specs.Form.{order, put_pair};
+ghost use Rattle.kv_trie.specs.Put.{IsMapWith};
 
 use crate::companion::{Alone, Companion};
 use crate::node::Pair;
@@ -17,23 +15,23 @@ use std::sync::Arc;
 
 // A trie, and the pair that is put into it with a change of another one, or not at all.
 #[derive(Drop)]
-struct Waiting<K: Place, V> {
+struct Second<K: Place, V> {
     alloc: Global,
     trie: Trie<K, V>,
     pair: Option<Arc<Pair<K, V>>>,
 }
 
-impl<K: Place + Drop, V: Drop> Companion for Waiting<K, V> {
+impl<K: Place + Drop, V: Drop> Companion for Second<K, V> {
     ghost use Rattle.std.specs.Prelude.{◌≡◌, ◌<◌, ◌-◌, ◌^◌, length, IsSome, Some};
     ghost use Rattle.std.specs.Arc.{arc_value};
     ghost use Rattle.std.specs.declared.alloc.Global.{Global};
     ghost use Rattle.std.specs.declared.sync.Arc.{Arc};
-    ghost use Rattle.kv_trie.specs.Form.{order, put_pair};
+    ghost use Rattle.kv_trie.specs.Put.{IsMapWith};
 
-    ghost ready = { λ waiting. IsSome waiting.pair × (length waiting.trie < 2 ^ 32 - 1) };
+    ghost ready = { λ second. IsSome second.pair × (length second.trie < 2 ^ 32 - 1) };
 
     ghost done = { λ old new. (pair : Arc (K × V) Global) → old.pair ≡ Some pair →
-        new.trie ≡ put_pair (order K.cmp K.place_of 11) (arc_value pair) old.trie };
+        IsMapWith K.cmp K.place_of (arc_value pair) old.trie new.trie };
 
     ghost kept = { λ old new. new.trie ≡ old.trie };
 
@@ -57,23 +55,17 @@ pub fn put_both<K1: Place + Drop, V1: Drop, K2: Place + Drop, V2: Drop>(
 ) -> Result<(), KvError>
     requires first { length first.old < 2 ^ 32 - 1 }
     requires second { length second.old < 2 ^ 32 - 1 }
-    ensures err { IfErr result (λ error. error ≡ OutOfMemory) }
-    ensures pairs { OnOk result ((first.new ≡ put_pair (order K1.cmp K1.place_of 11) (arc_value first_pair) first.old)
-        × (second.new ≡ put_pair (order K2.cmp K2.place_of 11) (arc_value second_pair) second.old)) }
-    ensures first_map { OnOk result ((q : K1) → lookup (is_at (K1.cmp q)) first.new ≡
-        (if is_at (K1.cmp (arc_value first_pair).0) q then Some (arc_value first_pair).1
-        else lookup (is_at (K1.cmp q)) first.old)) }
-    ensures second_map { OnOk result ((q : K2) → lookup (is_at (K2.cmp q)) second.new ≡
-        (if is_at (K2.cmp (arc_value second_pair).0) q then Some (arc_value second_pair).1
-        else lookup (is_at (K2.cmp q)) second.old)) }
-    ensures unchanged { OnErr result ((first.new ≡ first.old) × (second.new ≡ second.old)) }
+    ensures both { OnOk result ((IsMapWith K1.cmp K1.place_of (arc_value first_pair) first.old first.new)
+        × (IsMapWith K2.cmp K2.place_of (arc_value second_pair) second.old second.new)) }
+    ensures neither { IfErr result (λ error.
+        (error ≡ OutOfMemory) × (first.new ≡ first.old) × (second.new ≡ second.old)) }
 {
-    let mut waiting = Waiting {
+    let mut companion = Second {
         alloc,
         trie: mem::replace(second, Trie::new()),
         pair: Some(second_pair),
     };
-    let put = first.put_with(alloc, first_pair, &mut waiting);
-    *second = waiting.trie;
+    let put = first.put_with(alloc, first_pair, &mut companion);
+    *second = companion.trie;
     put
 }

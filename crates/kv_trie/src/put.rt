@@ -1,7 +1,10 @@
 //! One more pair in a node, in place where nobody else has it.
 
-ghost use Rattle.std.specs.Prelude.{◌≡◌, ◌≤◌, ◌<◌, ◌-◌, ◌⊎◌, [], ◌∷◌, Some, IfErr, IfOk, OnErr, OnOk};
+ghost use Rattle.std.specs.Prelude.{◌≡◌, ◌≤◌, ◌<◌, ◌-◌, ◌⊎◌, [], ◌∷◌, Some, is_some, IfErr, IfOk, OnErr, OnOk};
 ghost use Rattle.std.specs.Arc.{arc_value};
+ghost use Rattle.std.specs.BTreeMap.{is_at};
+ghost use Rattle.std.specs.Map.{lookup};
+ghost use Rattle.std.specs.declared.cmp.Ordering.TheVariants.{Equal};
 ghost use Rattle.kv_keys.specs.declared.error.KvError.TheVariants.{OutOfMemory};
 ghost use Rattle.kv_trie.specs.inside.Change.{IsFormWith, AreFormsWith};
 ghost use Rattle.kv_trie.specs.Form.{IsNode, AreForms, leaf, row, more, none, node_pairs, pairs_in, put_pair};
@@ -46,8 +49,7 @@ fn list_of_two<K: Place + Drop, V: Drop, C: Companion>(
     Ok(Node::List(list))
 }
 
-// The node of a pair and another one, or of the other alone where their keys are equal; and lets the companion happen,
-// or does neither.
+// The node of a pair and another one, whose keys are not equal; and lets the companion happen, or does neither.
 #[cycle(put)]
 fn put_beside<K: Place + Drop, V: Drop, C: Companion>(
     alloc: Global,
@@ -59,16 +61,13 @@ fn put_beside<K: Place + Drop, V: Drop, C: Companion>(
 ) -> Result<Node<K, V>, KvError>
     requires levels { left ≤ 11 }
     requires place { place ≡ K.place_of (arc_value pair).0 }
+    requires apart { K.cmp (arc_value pair).0 (arc_value old.now).0 ≡ Equal → ⊥ }
     requires ready { C.ready companion.old }
     ensures form { IfOk result (IsFormWith K.cmp K.place_of left (arc_value pair) (arc_value old.now ∷ [])) }
     ensures companion { (OnOk result (C.done companion.old companion.new))
         × (OnErr result ((companion.new ≡ companion.old) ⊎ C.kept companion.old companion.new))
         × (IfErr result (λ error. error ≡ OutOfMemory)) }
 {
-    if pair.0.cmp(&old.0).is_eq() {
-        companion.commit()?;
-        return Ok(Node::Leaf(pair));
-    }
     let other = Arc::try_clone(old)?;
     if left == 0 {
         return list_of_two(alloc, other, pair, companion);
@@ -79,7 +78,7 @@ fn put_beside<K: Place + Drop, V: Drop, C: Companion>(
     Ok(Node::Branch(branch))
 }
 
-// Puts the pair below one of the children.
+// Puts the pair below one of the children. It answers whether there was one with an equal key.
 #[cycle(put)]
 fn put_below<K: Place + Drop, V: Drop, C: Companion>(
     alloc: Global,
@@ -88,7 +87,7 @@ fn put_below<K: Place + Drop, V: Drop, C: Companion>(
     place: u32,
     pair: Arc<Pair<K, V>>,
     companion: &mut C,
-) -> Result<(), KvError>
+) -> Result<bool, KvError>
     requires levels { left ≤ 11 }
     requires some { 0 < left }
     requires forms { AreForms K.cmp K.place_of (left - 1) 0 (child_slots children.old) }
@@ -96,6 +95,8 @@ fn put_below<K: Place + Drop, V: Drop, C: Companion>(
     requires ready { C.ready companion.old }
     ensures branch { OnOk result (AreFormsWith K.cmp K.place_of left (arc_value pair)
         (pairs_in (child_slots children.old)) (child_slots children.new)) }
+    ensures found { IfOk result (λ found. found
+        ≡ is_some (lookup (is_at (K.cmp (arc_value pair).0)) (pairs_in (child_slots children.old)))) }
     ensures unchanged { OnErr result (child_slots children.new ≡ child_slots children.old) }
     ensures companion { (OnOk result (C.done companion.old companion.new))
         × (OnErr result ((companion.new ≡ companion.old) ⊎ C.kept companion.old companion.new))
@@ -105,7 +106,8 @@ fn put_below<K: Place + Drop, V: Drop, C: Companion>(
     put(alloc, &mut children[at], left - 1, place, pair, companion)
 }
 
-// Puts the pair below a branch. Where others have the branch too, it is a copy that is changed, and they keep theirs.
+// Puts the pair below a branch. Where others have the branch too, it is a copy that is changed, and they keep theirs. It
+// answers whether there was one with an equal key.
 #[cycle(put)]
 fn put_in_branch<K: Place + Drop, V: Drop, C: Companion>(
     alloc: Global,
@@ -114,7 +116,7 @@ fn put_in_branch<K: Place + Drop, V: Drop, C: Companion>(
     place: u32,
     pair: Arc<Pair<K, V>>,
     companion: &mut C,
-) -> Result<(), KvError>
+) -> Result<bool, KvError>
     requires levels { left ≤ 11 }
     requires some { 0 < left }
     requires forms { AreForms K.cmp K.place_of (left - 1) 0 (child_slots (arc_value children.old)) }
@@ -122,6 +124,8 @@ fn put_in_branch<K: Place + Drop, V: Drop, C: Companion>(
     requires ready { C.ready companion.old }
     ensures branch { OnOk result (AreFormsWith K.cmp K.place_of left (arc_value pair)
         (pairs_in (child_slots (arc_value children.old))) (child_slots (arc_value children.new))) }
+    ensures found { IfOk result (λ found. found
+        ≡ is_some (lookup (is_at (K.cmp (arc_value pair).0)) (pairs_in (child_slots (arc_value children.old))))) }
     ensures unchanged { OnErr result (child_slots (arc_value children.new) ≡ child_slots (arc_value children.old)) }
     ensures companion { (OnOk result (C.done companion.old companion.new))
         × (OnErr result ((companion.new ≡ companion.old) ⊎ C.kept companion.old companion.new))
@@ -133,7 +137,8 @@ fn put_in_branch<K: Place + Drop, V: Drop, C: Companion>(
 }
 
 // Puts the pair into a node in place of any with an equal key, and lets the companion happen, or does neither. Where
-// others have the node too, it is a copy that is changed, and they keep theirs.
+// others have the node too, it is a copy that is changed, and they keep theirs. It answers whether there was one with an
+// equal key, so that nobody has to look before.
 #[cycle(put)]
 pub fn put<K: Place + Drop, V: Drop, C: Companion>(
     alloc: Global,
@@ -142,13 +147,15 @@ pub fn put<K: Place + Drop, V: Drop, C: Companion>(
     place: u32,
     pair: Arc<Pair<K, V>>,
     companion: &mut C,
-) -> Result<(), KvError>
+) -> Result<bool, KvError>
     requires levels { left ≤ 11 }
     requires form { IsNode K.cmp K.place_of left (shape_of node.old) }
     requires place { place ≡ K.place_of (arc_value pair).0 }
     requires ready { C.ready companion.old }
     ensures form { OnOk result (IsFormWith K.cmp K.place_of left (arc_value pair) (node_pairs (shape_of node.old))
         node.new) }
+    ensures found { IfOk result (λ found. found
+        ≡ is_some (lookup (is_at (K.cmp (arc_value pair).0)) (node_pairs (shape_of node.old)))) }
     ensures done { OnOk result (C.done companion.old companion.new) }
     ensures unchanged { OnErr result (shape_of node.new ≡ shape_of node.old) }
     ensures kept { OnErr result ((companion.new ≡ companion.old) ⊎ C.kept companion.old companion.new) }
@@ -158,12 +165,18 @@ pub fn put<K: Place + Drop, V: Drop, C: Companion>(
         Node::Empty => {
             companion.commit()?;
             *node = Node::Leaf(pair);
-            Ok(())
+            Ok(false)
         }
         Node::Leaf(old) => {
-            let new = put_beside(alloc, old, left, place, pair, companion)?;
-            *node = new;
-            Ok(())
+            let found = pair.0.cmp(&old.0).is_eq();
+            if found {
+                companion.commit()?;
+                *node = Node::Leaf(pair);
+            } else {
+                let new = put_beside(alloc, old, left, place, pair, companion)?;
+                *node = new;
+            }
+            Ok(found)
         }
         Node::Branch(children) => put_in_branch(alloc, children, left, place, pair, companion),
         Node::List(pairs) => put_in_shared(pairs, pair, companion),

@@ -24,14 +24,14 @@ returns-clause-found c = λ q.
     let e = arc_value c.in_ok-of_key.of_key in
     let written : arc_value c.in_ok-written.written ≡ (c.args.write.revision, c.args.write) = of_revision c.args.write _ _ _ c.revision-revision.ensures c.new-number.ensures c.in_ok-written.ensures.ok in
     let is : e ≡ (c.args.key, record { revisions = c.args.revisions.items; last = c.args.write }) = of_key _ _ _ _ _ _ _ written c.in_ok-last.ensures c.new-2.ensures c.in_ok-of_key.ensures.ok in
-    rw is at (more_by_bytes (λ v. v.revisions) e.0 q e.1 c.args.parts.now.by_key c.put_both.new.first (c.in_ok-put_both.ensures.first_map q))
+    rw is at (more_by_bytes (λ v. v.revisions) e.0 q e.1 c.args.parts.now.by_key c.put_both.new.first (c.in_ok-put_both.ensures.both.0.1 q))
 
 pub returns-clause-last : goal.returns-clause-last
 returns-clause-last c = λ q.
     let e = arc_value c.in_ok-of_key.of_key in
     let written : arc_value c.in_ok-written.written ≡ (c.args.write.revision, c.args.write) = of_revision c.args.write _ _ _ c.revision-revision.ensures c.new-number.ensures c.in_ok-written.ensures.ok in
     let is : e ≡ (c.args.key, record { revisions = c.args.revisions.items; last = c.args.write }) = of_key _ _ _ _ _ _ _ written c.in_ok-last.ensures c.new-2.ensures c.in_ok-of_key.ensures.ok in
-    rw is at (more_by_bytes (λ v. v.last) e.0 q e.1 c.args.parts.now.by_key c.put_both.new.first (c.in_ok-put_both.ensures.first_map q))
+    rw is at (more_by_bytes (λ v. v.last) e.0 q e.1 c.args.parts.now.by_key c.put_both.new.first (c.in_ok-put_both.ensures.both.0.1 q))
 
 pub returns-clause-len : goal.returns-clause-len
 returns-clause-len c =
@@ -39,7 +39,7 @@ returns-clause-len c =
       arith,
       length-kept_entries c.put_both.new.first,
       length-kept_entries c.args.parts.now.by_key,
-      ap length c.in_ok-put_both.ensures.pairs.0,
+      ap length c.in_ok-put_both.ensures.both.0.0,
       length-put_pair (order (slice_cmp nat_cmp) fnv32_of 11) (arc_value c.in_ok-of_key.of_key) c.args.parts.now.by_key,
     )
 
@@ -48,8 +48,8 @@ returns-clause-put c =
     let old = c.args.parts.now.by_revision in
     let pair : ℕ × Write = (c.args.write.revision, c.args.write) in
     let is : arc_value c.in_ok-written.written ≡ pair = of_revision c.args.write _ _ _ c.revision-revision.ensures c.new-number.ensures c.in_ok-written.ensures.ok in
-    let map = rw is at c.in_ok-put_both.ensures.second_map in
-    let pairs = rw is at c.in_ok-put_both.ensures.pairs.1 in
+    let map = rw is at c.in_ok-put_both.ensures.both.1.1 in
+    let pairs = rw is at c.in_ok-put_both.ensures.both.1.0 in
     record {
       found = λ r. written_more c.args.write.revision r c.args.write old c.put_both.new.second (map r);
       len = omega (arith, ap length pairs, length-put_pair (order nat_cmp place_of_revision 11) pair old);

@@ -1,7 +1,9 @@
 use Rattle.std.proofs.Common.{map, sym, ap, ◌∙◌, arith}
 use Rattle.std.proofs.lemmas.List.{length-map, map-set}
+use Rattle.std.proofs.lemmas.Option.{slice_get-get_or}
 use Rattle.std.specs.Arc.{arc_value}
 use Rattle.std.specs.List.{insert}
+use Rattle.std.specs.Option.{is_some, option_map}
 use Rattle.kv_trie.proofs.Clones.{map-insert}
 use Rattle.kv_trie.proofs.list.put_in_list.Goals as goal
 
@@ -9,6 +11,12 @@ pub returns-in_ok-commit-in-Ok-clause-pairs : goal.returns-in_ok-commit-in-Ok-cl
 returns-in_ok-commit-in-Ok-clause-pairs g c =
     let place = rw (c.deref.ensures.value, c.deref-2.ensures) at c.in-Ok.ensures.found in
     map-set arc_value c.args.pairs.now.items c.in-Ok.at c.args.pair ∙ sym (place.put (arc_value c.args.pair).1)
+
+pub returns-in_ok-commit-in-Ok-clause-found : goal.returns-in_ok-commit-in-Ok-clause-found
+returns-in_ok-commit-in-Ok-clause-found g c =
+    let place = rw (c.deref.ensures.value, c.deref-2.ensures) at c.in-Ok.ensures.found in
+    let there = slice_get-get_or (map arc_value c.args.pairs.now.items) c.in-Ok.at (arc_value c.args.pair) place.within in
+    λ order. sym (ap is_some (place.found ∙ ap (option_map (λ p. p.1)) there))
 
 pub returns-in-Ok-insert-clause-pairs : goal.returns-in-Ok-insert-clause-pairs
 returns-in-Ok-insert-clause-pairs g c =

@@ -16,6 +16,11 @@ returns-clause-pairs g c =
     let ok : IsOk c.make_mut.result = rw c.in_ok-own.was refl in
     rw (c.make_mut.follows.holds c.put_in_list.new.pairs ok, ← same) c.put_in_list.ensures.pairs
 
+pub returns-clause-found : goal.returns-clause-found
+returns-clause-found g c =
+    let same = kept_list (arc_value c.args.list.now) c.in_ok-own.own.now c.in_ok-own.ensures.value in
+    rw (← same) c.put_in_list.ensures.found
+
 pub returns-clause-unchanged : goal.returns-clause-unchanged
 returns-clause-unchanged g c =
     let same = kept_list (arc_value c.args.list.now) c.in_ok-own.own.now c.in_ok-own.ensures.value in

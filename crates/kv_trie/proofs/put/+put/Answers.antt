@@ -2,7 +2,6 @@ use Rattle.std.proofs.Common.{rules, ◌≡◌, ◌-◌, ◌<◌, length, Some, 
 use Rattle.std.proofs.lemmas.Result.{on_ok_weaker, on_err_weaker}
 use Rattle.std.specs.Arc.{arc_value}
 use Rattle.std.specs.Result.{IsOk, OnOk, OnErr}
-use Rattle.std.specs.declared.cmp.Ordering.TheVariants.{Equal}
 use Rattle.std.proofs.Math.ListN.{set}
 use Rattle.std.proofs.Math.Seq.{map-set_same}
 use Rattle.kv_trie.specs.declared.node.Node.TheVariants.{Branch, List as Row}
@@ -10,11 +9,11 @@ use Rattle.kv_trie.specs.declared.node.Node.TheViews.{the_lemmas}
 use Rattle.kv_trie.specs.inside.Change.{IsFormWith, AreFormsWith}
 use Rattle.kv_trie.specs.Form.{AreForms, branch, row, order, node_pairs, pairs_in, index_of}
 use Rattle.kv_trie.specs.Stored.{shape_of, slots_from, child_slots}
-use Rattle.kv_trie.proofs.Branches.{is_branch, child_is, child_form, slots_with}
-use Rattle.kv_trie.proofs.Changes.{form_with, forms_with, leaf_for, two_with, list_with, equal_from_is_eq, apart_from_is_eq, alone_forms}
+use Rattle.kv_trie.proofs.Branches.{is_branch, child_is, child_form, lookup-children, slots_with}
+use Rattle.kv_trie.proofs.Changes.{form_with, forms_with, leaf_for, two_with, list_with, equal_from_is_eq, alone_forms}
 use Rattle.kv_trie.proofs.Clones.{kept_children}
 use Rattle.kv_trie.proofs.Form.{length-put_pair}
-use Rattle.kv_trie.proofs.Stored.{shape_of-Branch, shape_of-List}
+use Rattle.kv_trie.proofs.Stored.{shape_of-Branch, shape_of-Leaf, shape_of-List}
 use Rattle.kv_trie.proofs.put.+put.Goals as goal
 
 pub put-returns-in-Branch-clause-form : goal.put-returns-in-Branch-clause-form
@@ -36,6 +35,13 @@ put-returns-in-List-clause-form g t c =
     on_ok_weaker c.put_in_shared.result (λ made. list_with g.K.Ord.cmp g.K.Place.place_of g.met.K.Ord.total c.args.left (arc_value c.args.pair) c.in-List.pairs c.in-List.is c.requires.form (rw made at (shape_of-List c.put_in_shared.new.list))) (rw c.in-List.pairs-is at c.put_in_shared.ensures.pairs)
     in
     search (rules, the_lemmas)
+
+pub put-returns-in_ok-commit-in-Leaf-clause-form : goal.put-returns-in_ok-commit-in-Leaf-clause-form
+put-returns-in_ok-commit-in-Leaf-clause-form g t c =
+    let old = c.in-Leaf.old in
+    let olds = ap (λ n. node_pairs (shape_of n)) c.in-Leaf.is ∙ ap node_pairs (shape_of-Leaf old) in
+    let compared = rw (c.deref.ensures, c.deref-in-Leaf.ensures, c.in-Leaf.old-is) at c.cmp.ensures in
+    rw olds (leaf_for g.K.Ord.cmp g.K.Place.place_of g.met.K.Place.respects_equal c.args.left c.args.pair (arc_value old) (sym compared ∙ equal_from_is_eq c.cmp.result (sym c.if-found.ensures)))
 
 pub put_below-put-requires : goal.put_below-put-requires
 put_below-put-requires g t c κs within =
@@ -66,6 +72,14 @@ put_below-returns-clause-unchanged g t c =
     in
     search (rules, the_lemmas)
 
+pub put_below-returns-clause-found : goal.put_below-returns-clause-found
+put_below-returns-clause-found g t c =
+    let below = c.args.left - 1 in
+    let i : c.index-at.result < length c.args.children.now = omega (arith, c.index-at.ensures.small) in
+    let at = c.index-at.ensures.value ∙ ap (index_of below) c.requires.place in
+    let looked = lookup-children g.K.Ord.cmp g.K.Place.place_of g.met.K.Place.respects_equal c.args.left c.args.children.now c.requires.forms (arc_value c.args.pair).0 c.index-at.result c.index-children-at.result at i c.index-children-at.is in
+    rw looked (rw (← c.index-children-at.is) at c.put.ensures.found)
+
 pub put_in_branch-returns-in_err-own-clause-unchanged : goal.put_in_branch-returns-in_err-own-clause-unchanged
 put_in_branch-returns-in_err-own-clause-unchanged g t c =
     let same = kept_children (arc_value c.unshare.new.branch) (arc_value c.make_mut.follows.lender-at-none) (rw c.in_err-own.was at c.make_mut.follows.holds-at-none) ∙ c.unshare.ensures in
@@ -82,16 +96,16 @@ put_in_branch-returns-clause-branch g t c =
     let ok : IsOk c.make_mut.result = rw c.in_ok-own.was refl in
     rw (c.make_mut.follows.holds c.put_below.new.children ok, ← same) c.put_below.ensures.branch
 
+pub put_in_branch-returns-clause-found : goal.put_in_branch-returns-clause-found
+put_in_branch-returns-clause-found g t c =
+    let same = kept_children (arc_value c.unshare.new.branch) c.in_ok-own.own.now c.in_ok-own.ensures.value ∙ c.unshare.ensures in
+    rw (← same) c.put_below.ensures.found
+
 pub put_in_branch-returns-clause-unchanged : goal.put_in_branch-returns-clause-unchanged
 put_in_branch-returns-clause-unchanged g t c =
     let same = kept_children (arc_value c.unshare.new.branch) c.in_ok-own.own.now c.in_ok-own.ensures.value ∙ c.unshare.ensures in
     let ok : IsOk c.make_mut.result = rw c.in_ok-own.was refl in
     rw (c.make_mut.follows.holds c.put_below.new.children ok, ← same) c.put_below.ensures.unchanged
-
-pub put_beside-returns-then-is_eq-clause-form : goal.put_beside-returns-then-is_eq-clause-form
-put_beside-returns-then-is_eq-clause-form g t c =
-    let compared = rw (c.deref.ensures, c.deref-2.ensures) at c.cmp.ensures in
-    leaf_for g.K.Ord.cmp g.K.Place.place_of g.met.K.Place.respects_equal c.args.left c.args.pair (arc_value c.args.old.now) (sym compared ∙ equal_from_is_eq c.cmp.result (sym c.if-is_eq.ensures))
 
 pub put_beside-put_in_branch-requires : goal.put_beside-put_in_branch-requires
 put_beside-put_in_branch-requires g t c κs within =
@@ -99,7 +113,7 @@ put_beside-put_in_branch-requires g t c κs within =
     let place = g.K.Place.place_of in
     let below = c.args.left - 1 in
     let old = arc_value c.args.old.now in
-    let at = c.index-at.ensures.value ∙ ap (index_of below) (rw c.deref-3.ensures at c.place.ensures) in
+    let at = c.index-at.ensures.value ∙ ap (index_of below) (rw c.deref.ensures at c.place.ensures) in
     let s : AreForms cmp place below 0 (child_slots (arc_value c.in_ok-branch.branch)) = rw (c.in_ok-branch.ensures.ok, c.alone.ensures, c.in_ok-other.ensures) (alone_forms cmp place below c.index-at.result old at) in
     (omega (arith, c.decreases), (within.0, (within.1.0, (within.1.1, (omega arith, (c.requires.levels, (omega arith, (s, (c.requires.place, c.requires.ready)))))))))
 
@@ -110,10 +124,8 @@ put_beside-returns-clause-form g t c =
     let left = c.args.left in
     let pair = arc_value c.args.pair in
     let old = arc_value c.args.old.now in
-    let compared = rw (c.deref.ensures, c.deref-2.ensures) at c.cmp.ensures in
-    let apart : cmp pair.0 old.0 ≡ Equal → ⊥ = λ e. apart_from_is_eq c.cmp.result (sym c.if-is_eq.ensures) (compared ∙ e) in
     let with = rw (c.in_ok-branch.ensures.ok, c.alone.ensures, c.in_ok-other.ensures) at c.in_ok-put_in_branch.ensures.branch in
-    form_with cmp place (omega arith) (two_with cmp place left pair old apart) (record { slots = _; shape = shape_of-Branch c.put_in_branch.new.children; with = with })
+    form_with cmp place (omega arith) (two_with cmp place left pair old c.requires.apart) (record { slots = _; shape = shape_of-Branch c.put_in_branch.new.children; with = with })
 
 pub put-returns-in-Branch-clause-unchanged : goal.put-returns-in-Branch-clause-unchanged
 put-returns-in-Branch-clause-unchanged g t c =
