@@ -45,6 +45,16 @@ impl Version {
         put_write(alloc, parts, key, kept, write, entries)
     }
 
+    // An equal version, whose parts nobody else has: they are changed where they lie. A snapshot would add an owner to
+    // parts that all readers count on, and take it off again as soon as its own are copied.
+    fn with_own_parts(&self, alloc: Global) -> Result<Version, KvError>
+        ensures ok { IfOk result (λ version. version ≡ self.now) }
+        ensures err { IfErr result (λ e. e ≡ OutOfMemory) }
+    {
+        let parts = self.parts.again()?;
+        Version::of(alloc, parts)
+    }
+
     /// The next version, with the write that is asked for, or why it is refused, the first reason that fits: its value
     /// is longer than the value limit, the bucket is sealed, the journal is full, the key to be created has a value or
     /// the revision that is asked for is not the key's last (NATS ADR-8); and only then want of memory.
@@ -61,7 +71,7 @@ impl Version {
     {
         self.accept(request)?;
         let write = request.write(alloc, self.parts.last + 1)?;
-        let mut next = self.snapshot()?;
+        let mut next = self.with_own_parts(alloc)?;
         next.add(alloc, write)?;
         Ok(next)
     }
