@@ -1,21 +1,19 @@
 -- What an act and a quiet call make of what lies under the lock.
-use Rattle.std.proofs.Common.{◌≡◌, ℕ, ◌+◌, ◌-◌, ◌<◌, ◌≤◌, Bool, true, false, if◌then◌else◌, inl, inr, cond, List, [], ◌∷◌, ◌++◌, Option, Some, None, Result, Ok, Err, length, refl, sym, ap, ◌∙◌, subst, arith, length-append}
+use Rattle.std.proofs.Common.{◌≡◌, ℕ, ◌+◌, Bool, true, false, if◌then◌else◌, inl, inr, cond, List, [], ◌∷◌, ◌++◌, Option, Some, None, Result, Ok, Err, length, refl, sym, ap, ◌∙◌, subst, length-append}
 use Rattle.std.specs.Prelude.{IfOk, IfErr, OnOk, OnErr, MatchResult}
-use Rattle.std.specs.List.{slice_get}
 use Rattle.kv_keys.specs.Outcome.{Refuses}
 use Rattle.kv_keys.specs.declared.error.KvError.{KvError}
 use Rattle.kv_keys.specs.declared.error.KvError.TheVariants.{BadFloor}
-use Rattle.kv_model.specs.Acceptance.{accept, LawfulFrom}
-use Rattle.kv_model.specs.Acts.{Act, Wrote, Seal, Compact, Write, writes_of, floor_of, is_compaction}
+use Rattle.kv_model.specs.Acceptance.{accept}
+use Rattle.kv_model.specs.Acts.{Act, Wrote, Seal, Compact, Write, writes_of, is_compaction}
 use Rattle.kv_model.specs.Compaction.{is_bad_floor}
 use Rattle.kv_model.specs.Configuration.{Configuration}
-use Rattle.kv_model.specs.Requests.{Asked, asked}
+use Rattle.kv_model.specs.Requests.{Asked, asked, write_for}
 use Rattle.kv_model.specs.declared.request.Request.{Request}
 use Rattle.kv_store.specs.Standing.{StandsFor}
-use Rattle.kv_store.specs.Stored.{Stored, write_at}
-use Rattle.kv_model.proofs.Numbered.{accepted_is_next, writes_of-wrote, counts_from_lawful}
-use Rattle.kv_model.proofs.Found.{write_at_counted}
-use Rattle.kv_model.proofs.Storing.{floor_of-wrote, floor_of-compact, floor_within}
+use Rattle.kv_store.specs.Stored.{Stored}
+use Rattle.kv_model.proofs.Numbered.{accepted_is_next, writes_of-wrote}
+use Rattle.kv_model.proofs.Storing.{floor_of-compact}
 use Rattle.kv_live.specs.Posted.{Posted, Posts, PostsNothing, showing, without}
 use Rattle.kv_model.specs.declared.options.Options.{Options}
 use Rattle.kv_model.specs.Given.{Item}
@@ -100,27 +98,6 @@ at_write state old request w version revision at same ok accepted stands last =
       (write_done state old.bucket request version revision at.represents same ok last).0,
       subst (λ r. IsAt (after_write state r) new) (sym is) (at_act state old (Wrote w) version (goes_on old (Wrote w) version refl same stands) at),
     )
-
--- the last write of a version
-get_last : {X : Type 0} (xs : List X) (x : X) → slice_get (xs ++ x ∷ []) (length xs) ≡ Some x
-get_last [] x = refl
-get_last (y ∷ xs) x = get_last xs x
-
--- a front of lawful acts is lawful
-lawful_front : (config : Configuration) (before acts more : List Act) → LawfulFrom config before (acts ++ more) → LawfulFrom config before acts
-lawful_front config before [] more h = tt
-lawful_front config before (act ∷ acts) more h = (h.0, lawful_front config (before ++ act ∷ []) acts more h.1)
-
-pub last_written : (acts : List Act) (w : Write) (version : Stored) → StandsFor (acts ++ Wrote w ∷ []) version → write_at version.last version ≡ Some w
-last_written acts w version stands =
-    let all : writes_of (acts ++ Wrote w ∷ []) ≡ writes_of acts ++ w ∷ [] = writes_of-wrote acts w in
-    let total : version.last ≡ length (writes_of acts) + 1 = stands.last ∙ (ap length all ∙ length-append (writes_of acts) (w ∷ [])) in
-    let place : version.last - 1 ≡ length (writes_of acts) = omega arith in
-    let floor_before : floor_of acts ≤ length (writes_of acts) = floor_within version.config acts (lawful_front version.config [] acts (Wrote w ∷ []) stands.lawful) in
-    let low : floor_of (acts ++ Wrote w ∷ []) < version.last = omega (arith, total, floor_of-wrote acts w, floor_before) in
-    stands.written version.last
-    ∙ (write_at_counted version.config.history version.last (acts ++ Wrote w ∷ []) (counts_from_lawful version.config (acts ++ Wrote w ∷ []) stands.lawful) low
-    ∙ (ap (λ ws. slice_get ws (version.last - 1)) all ∙ (ap (slice_get (writes_of acts ++ w ∷ [])) place ∙ get_last (writes_of acts) w)))
 
 pub somewhere_left : (config : Configuration) (was bucket : Bucketed) (before posted : Posted) (act : Act) → IsSomewhere config (kept_of was before) → PostsNothing before act posted → bucket ≡ was → IsSomewhere config (kept_of bucket posted)
 somewhere_left config was bucket before posted act some (inl same) put =
@@ -240,19 +217,34 @@ compacts_kept config now was bucket before posted floor deed seen version is som
       kept_step call (Compacted floor) old now (kept_after old (Compact floor) version) (kept_of bucket posted) is put step,
     )
 
-pub writes_kept : (config : Configuration) (now : Kept) (was bucket : Bucketed) (before posted : Posted) (request : Request) (found : Option Act) (deed : Act) (revision : ℕ) (seen version : Stored) → kept_of was before ≡ now → IsSomewhere config (kept_of was before)
+-- the write that is accepted is the one for the request at the revision of the version that has it
+accepted_for : (config : Configuration) (request : Asked) (acts : List Act) (w : Write) (version : Stored) (revision : ℕ) → accept config request acts ≡ Ok w → StandsFor (acts ++ Wrote w ∷ []) version → revision ≡ version.last → Wrote (write_for request revision) ≡ Wrote w
+accepted_for config request acts w version revision accepted stands number =
+    let counted : revision ≡ length (writes_of acts) + 1 =
+    number ∙ (stands.last ∙ (ap length (writes_of-wrote acts w) ∙ length-append (writes_of acts) (w ∷ []))) in
+    ap (λ (r : ℕ). Wrote (write_for request r)) counted ∙ ap Wrote (accepted_is_next config request acts w accepted)
+
+pub wrote_stands : (config : Configuration) (was : Bucketed) (before : Posted) (request : Request) (deed : Act) (revision : ℕ) (seen version : Stored) → IsSomewhere config (kept_of was before) → seen ≡ was.version
+    → ((acts : List Act) → StandsFor acts seen → (w : Write) × ((accept seen.config (asked request) acts ≡ Ok w) × StandsFor (acts ++ Wrote w ∷ []) version))
+    → deed ≡ Wrote (write_for (asked request) revision) → revision ≡ version.last → StandsFor (before.acts ++ deed ∷ []) version
+wrote_stands config was before request deed revision seen version some value accepts told number =
+    let accepted = accepts before.acts (subst (StandsFor before.acts) (sym value) (published_stands config (kept_of was before) some)) in
+    let same = told ∙ accepted_for seen.config (asked request) before.acts accepted.0 version revision accepted.1.0 accepted.1.1 number in
+    subst (λ (act : Act). StandsFor (before.acts ++ act ∷ []) version) (sym same) accepted.1.1
+
+pub writes_kept : (config : Configuration) (now : Kept) (was bucket : Bucketed) (before posted : Posted) (request : Request) (deed : Act) (revision : ℕ) (seen version : Stored) → kept_of was before ≡ now → IsSomewhere config (kept_of was before)
     → seen ≡ was.version → version.config ≡ seen.config
     → ((acts : List Act) → StandsFor acts seen → (w : Write) × ((accept seen.config (asked request) acts ≡ Ok w) × StandsFor (acts ++ Wrote w ∷ []) version))
-    → ((acts : List Act) (w : Write) → StandsFor (acts ++ Wrote w ∷ []) version → found ≡ Some (Wrote w)) → found ≡ Some deed → revision ≡ version.last → Posts before deed posted × (bucket ≡ record was { version = version })
+    → deed ≡ Wrote (write_for (asked request) revision) → revision ≡ version.last → Posts before deed posted × (bucket ≡ record was { version = version })
     → IsSomewhere config (kept_of bucket posted) × (IsKeptStep now (calls.Write request) (Revision revision) (kept_of bucket posted) × PublishesWrite config (asked request) revision now.published posted.acts)
-writes_kept config now was bucket before posted request found deed revision seen version is some value same_config accepts last some_deed number kept =
+writes_kept config now was bucket before posted request deed revision seen version is some value same_config accepts told number kept =
     let old : Kept = kept_of was before in
     let call : Call = calls.Write request in
     let ok : (acts : List Act) → StandsFor acts was.version → (w : Write) × ((accept was.version.config (asked request) acts ≡ Ok w) × StandsFor (acts ++ Wrote w ∷ []) version) =
     subst (λ (v : Stored). (acts : List Act) → StandsFor acts v → (w : Write) × ((accept v.config (asked request) acts ≡ Ok w) × StandsFor (acts ++ Wrote w ∷ []) version)) value accepts in
     let accepted = ok before.acts (published_stands config old some) in
     let act : Act = Wrote accepted.0 in
-    let same : deed ≡ act = let both : Some deed ≡ Some act = sym some_deed ∙ last before.acts accepted.0 accepted.1.1 in cc both in
+    let same : deed ≡ act = told ∙ accepted_for was.version.config (asked request) before.acts accepted.0 version revision accepted.1.0 accepted.1.1 number in
     let put : kept_after old act version ≡ kept_of bucket posted = kept_put was bucket before posted act deed version same kept in
     let own : version.config ≡ was.version.config = same_config ∙ ap (λ (v : Stored). v.config) value in
     let on : GoesOn old act version = goes_on old act version refl own accepted.1.1 in

@@ -6,7 +6,7 @@ use denote.RattleType.{RattleType}
 use denote.Param.Send.{IsSend, IsSync, sendable}
 use Rattle.std.proofs.Crossing.{crosses}
 use Rattle.kv_store.proofs.Sent.{version_send}
-use Rattle.kv_log.proofs.Sent.{shelf_send, shelf_sync, recent_send, bell_send, bell_sync, copies_send}
+use Rattle.kv_log.proofs.Sent.{shelf_send, shelf_sync, bell_send, bell_sync, copies_send}
 use Rattle.kv_watch.proofs.cursor.Cursor.TheSendSync as cursor
 use Rattle.kv_log.specs.declared.history.LiveName as live_name
 use Rattle.kv_live.specs.contracts.cached.Cached as Cached
@@ -51,7 +51,7 @@ module _ (N : RattleType) (g : live_name.Ghosts N.Denot) (s : IsSend N) (y : IsS
   receipt_sync = search (sendable, front.the_sync) depth 20
 
   publisher_send : IsSend (Publisher.the_row N g)
-  publisher_send = let h = shelf_send in let c = copies_send N g s y in let b = bell_send N g s y in let r = recent_send in search (sendable, crosses, front.the_send) depth 20
+  publisher_send = let h = shelf_send in let c = copies_send N g s y in let b = bell_send N g s y in search (sendable, crosses, front.the_send) depth 20
 
   keeper_send : IsSend (Keeper.the_row N g)
   keeper_send = let b = bucket_send in let p = publisher_send in search (sendable, crosses) depth 20

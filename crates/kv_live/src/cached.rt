@@ -1,6 +1,6 @@
 //! A version that a thread keeps for many reads.
 
-ghost use Rattle.std.specs.Prelude.{◌≡◌, true, IfErr, OnErr, OnOk};
+ghost use Rattle.std.specs.Prelude.{◌≡◌, true, IfErr, IfOk, IfSome, OnErr, OnOk};
 ghost use Rattle.kv_model.specs.Acts.{IsPrefix};
 ghost use Rattle.kv_store.specs.Standing.{StandsFor};
 ghost use Rattle.kv_live.specs.Known.{IsUnread};
@@ -70,6 +70,7 @@ impl<N: LiveName> Cached<N> {
         ensures later { IsPrefix knowledge.old.seen knowledge.new.seen }
         ensures told { knowledge.new.told ≡ knowledge.old.told }
         ensures ok { OnOk result ((self.new ≡ knowledge.new.seen) × IsPrefix knowledge.old.told knowledge.new.seen) }
+        ensures left { IfOk result (λ left. IfSome left (λ shelf. shelf.glimpse.sight.log ≡ self.old)) }
         ensures unchanged { OnErr result (self.new ≡ self.old) }
         ensures err { IfErr result IsUnread }
     {

@@ -47,16 +47,6 @@ impl<N: LiveName> Model for Keeper<N> {
     ghost invariant = { λ k. IsSomewhere N.opening.config (kept_of k.bucket k.publisher) };
 }
 
-// The act that a version ends with, where that is a write.
-fn last_deed(next: &Version) -> Option<Deed>
-    ensures { (acts : List Act) (w : AWrite) → StandsFor (acts ++ Wrote w ∷ []) next.now → result ≡ Some (Wrote w) }
-{
-    match next.write_at(next.revision()) {
-        Some(write) => Some(Deed::wrote(write)),
-        None => None,
-    }
-}
-
 // Publishes an act, and only then puts the version after it in place.
 fn keep<N: LiveName, R: Wait>(
     rt: &R,
@@ -113,9 +103,7 @@ impl<N: LiveName> Keeper<N> {
         let Keeper { bucket, publisher } = self;
         let next = bucket.version().apply(bucket.alloc(), request)?;
         let revision = next.revision();
-        let Some(deed) = last_deed(&next) else {
-            unreachable!()
-        };
+        let deed = Deed::wrote(request, revision);
         keep(rt, bucket, publisher, deed, next)?;
         Ok(revision)
     }

@@ -11,7 +11,7 @@ ghost use Rattle.kv_log.specs.Shelves.{IsOf};
 use crate::reader::Reader;
 use crate::receipt::Receipt;
 use kv_keys::KvError;
-use kv_log::{Bell, Blank, Copies, Deed, Front, Head, Last, LiveName, Recent, Shelf};
+use kv_log::{Bell, Blank, Copies, Deed, Front, Head, Last, LiveName, Shelf};
 use kv_store::Version;
 use std::alloc::Global;
 use std::marker::Model;
@@ -35,8 +35,6 @@ pub struct Publisher<N: LiveName> {
     noted: Front<N>,
     /// `None` once an act could not be published that the history has. That never comes.
     copies: Option<Copies<N>>,
-    /// The versions that were published last.
-    recent: Recent,
 }
 
 impl<N: LiveName> Model for Publisher<N> {
@@ -153,7 +151,6 @@ impl<N: LiveName> Publisher<N> {
             noted: front.again(),
             front,
             copies: Some(copies),
-            recent: Recent::new(),
         })
     }
 
@@ -174,10 +171,8 @@ impl<N: LiveName> Publisher<N> {
             front,
             noted,
             copies: place,
-            recent,
             ..
         } = self;
-        recent.add(next);
         let (copies, shown) = show::<N, R>(rt, bell, front, noted, copies, deed, next);
         put(rt, place, copies);
         shown
@@ -270,7 +265,6 @@ impl<N: LiveName> Publisher<N> {
             front: _,
             noted: _,
             copies,
-            recent: _,
         } = self;
         (bell, copies)
     }

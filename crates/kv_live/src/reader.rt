@@ -126,6 +126,7 @@ impl<N: LiveName> Reader<N> {
         ensures later { IsPrefix self.old.seen self.new.seen }
         ensures told { self.new.told ≡ self.old.told }
         ensures ok { OnOk result ((cached.new ≡ self.new.seen) × IsPrefix self.old.told self.new.seen) }
+        ensures left { IfOk result (λ left. IfSome left (λ shelf. shelf.glimpse.sight.log ≡ cached.old)) }
         ensures unchanged { OnErr result (cached.new ≡ cached.old) }
         ensures err { IfErr result IsUnread }
     {

@@ -11,7 +11,6 @@ use Rattle.kv_log.specs.contracts.bell.Bell as Bell
 use Rattle.kv_log.specs.contracts.bell.Board as Board
 use Rattle.kv_log.specs.contracts.copies.Copies as Copies
 use Rattle.kv_log.specs.contracts.last.Last as Last
-use Rattle.kv_log.specs.contracts.recent.Recent as Recent
 use Rattle.kv_log.specs.contracts.shelf.Shelf as Shelf
 use Rattle.kv_log.proofs.front.Glimpse.TheSendSync as glimpse
 use Rattle.kv_log.proofs.history.Head.TheSendSync as head
@@ -22,9 +21,6 @@ shelf_send = let v = version_send in search (sendable, glimpse.the_field_send) d
 
 pub shelf_sync : IsSync Shelf.the_row
 shelf_sync = let v = version_sync in search (sendable, glimpse.the_field_sync) depth 20
-
-pub recent_send : IsSend (Recent.the_field).row
-recent_send = let v = version_send in search (sendable, crosses) depth 20
 
 module _ (N : RattleType) (g : live_name.Ghosts N.Denot) (s : IsSend N) (y : IsSync N) where
   last_send : IsSend (Last.the_field N g).row

@@ -2,14 +2,15 @@
 
 ghost use Rattle.std.specs.Prelude.{◌≡◌};
 ghost use Rattle.kv_model.specs.Acts.{Wrote, Seal, Compact};
+ghost use Rattle.kv_model.specs.Requests.{asked, write_for};
 
-use kv_model::Write;
+use kv_model::Request;
 use std::marker::Model;
 use std::snapshot::Snapshot;
 
 #[derive(Drop)]
 enum Kind {
-    Wrote(Snapshot<Write>),
+    Wrote(Snapshot<Request>, u64),
     Seal,
     Compact(u64),
 }
@@ -30,12 +31,12 @@ impl Model for Deed {
 }
 
 impl Deed {
-    /// This write.
-    pub fn wrote(write: &Write) -> Deed
-        ensures { result ≡ Wrote write.now }
+    /// The write for the request, at the revision.
+    pub fn wrote(request: &Request, revision: u64) -> Deed
+        ensures { result ≡ Wrote (write_for (asked request.now) revision) }
     {
         Deed {
-            kind: Kind::Wrote(Snapshot::of(write)),
+            kind: Kind::Wrote(Snapshot::of(request), revision),
         }
     }
 
@@ -45,6 +46,7 @@ impl Deed {
     {
         Deed { kind: Kind::Seal }
     }
+
     /// A compaction to the floor.
     pub fn compact(floor: u64) -> Deed
         ensures { result ≡ Compact floor }

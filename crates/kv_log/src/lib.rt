@@ -9,7 +9,6 @@ mod deed;
 mod front;
 mod history;
 mod last;
-mod recent;
 mod rule;
 mod shelf;
 
@@ -19,6 +18,5 @@ pub use deed::Deed;
 pub use front::{Front, Glimpse};
 pub use history::{Blank, Head, LiveName, Sight};
 pub use last::Last;
-pub use recent::Recent;
 pub use rule::{Gets, Published};
 pub use shelf::Shelf;

@@ -7,7 +7,7 @@ use Rattle.kv_keys.specs.declared.error.KvError.TheVariants.{ValueTooLarge, Seal
 use Rattle.kv_model.specs.Acts.{Act, Wrote, Seal, Compact, Write, writes_of, is_sealed, is_put}
 use Rattle.kv_model.specs.Compaction.{stored_writes, is_bad_floor}
 use Rattle.kv_model.specs.Configuration.{Configuration}
-use Rattle.kv_model.specs.Requests.{Asked, put, create, update, delete, purge, key_of, value_of, op_of}
+use Rattle.kv_model.specs.Requests.{Asked, put, create, update, delete, purge, key_of, value_of, write_for}
 use Rattle.kv_model.specs.Retained.{last_write, last_revision}
 
 -- a key has a value where its last write is a put
@@ -40,12 +40,7 @@ objection (purge key last) acts = unless_last_or_none last key acts
 
 -- the write that is appended: its revision is one more than the number of writes before it
 abbrev pub next_write : Asked → List Act → Write
-next_write asked acts = record {
-  key = key_of asked;
-  op = op_of asked;
-  value = value_of asked;
-  revision = length (writes_of acts) + 1;
-}
+next_write asked acts = write_for asked (length (writes_of acts) + 1)
 
 abbrev pub unless : Option KvError → Write → Result Write KvError
 unless None w = Ok w

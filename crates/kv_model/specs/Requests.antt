@@ -1,5 +1,6 @@
 -- What a request asks for.
 use Rattle.std.specs.Prelude.{ℕ, List, [], Option}
+use Rattle.kv_model.specs.Acts.{Write}
 use Rattle.kv_model.specs.declared.write.Op.{Op}
 use Rattle.kv_model.specs.declared.write.Op.TheVariants as ops
 use Rattle.kv_model.specs.declared.request.Request.{Request}
@@ -43,3 +44,7 @@ op_of (create key value) = ops.Put
 op_of (update key value last) = ops.Put
 op_of (delete key last) = ops.Delete
 op_of (purge key last) = ops.Purge
+
+-- the write for a request, at a revision
+abbrev pub write_for : Asked → ℕ → Write
+write_for asked revision = record { key = key_of asked; op = op_of asked; value = value_of asked; revision = revision }

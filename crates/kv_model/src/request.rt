@@ -3,7 +3,7 @@
 ghost use Rattle.std.specs.Prelude.{◌≡◌, IfErr, IfOk, IsTrue};
 ghost use Rattle.kv_keys.specs.Grammar.{is_key};
 ghost use Rattle.kv_keys.specs.declared.error.KvError.TheVariants.{OutOfMemory};
-ghost use Rattle.kv_model.specs.Requests.{asked, key_of, op_of, value_of};
+ghost use Rattle.kv_model.specs.Requests.{asked, key_of, op_of, value_of, write_for};
 
 use crate::write::{Op, Write};
 use kv_keys::{Key, KvError};
@@ -66,13 +66,7 @@ impl Request {
 
     /// The write that is asked for, at a revision, with its own copies of the key and the value.
     pub fn write(&self, alloc: Global, revision: u64) -> Result<Write, KvError>
-        ensures ok { IfOk result
-            (λ w. w ≡ record {
-              key = key_of (asked self.now);
-              op = op_of (asked self.now);
-              value = value_of (asked self.now);
-              revision = revision;
-            }) }
+        ensures ok { IfOk result (λ w. w ≡ write_for (asked self.now) revision) }
         ensures key { IfOk result (λ w. IsTrue (is_key w.key)) }
         ensures err { IfErr result (λ e. e ≡ OutOfMemory) }
     {
