@@ -1,2 +1,2 @@
 pub mod Change
-pub mod Parts
+pub mod Rest

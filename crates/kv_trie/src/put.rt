@@ -15,7 +15,7 @@ use crate::copy::unshare;
 use crate::index::index;
 use crate::list::put_in_shared;
 use crate::node::{Node, Pair};
-use crate::parts::no_children;
+use crate::rest::no_children;
 use kv_keys::{KvError, Place};
 use std::alloc::Global;
 use std::sync::Arc;

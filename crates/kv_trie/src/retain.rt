@@ -13,7 +13,7 @@ ghost use Rattle.kv_trie.specs.Trie.{IsRoot, root_pairs};
 
 use crate::list::take_only;
 use crate::node::{Node, Pair};
-use crate::parts::take_rest;
+use crate::rest::take_rest;
 use crate::wants::Wants;
 use kv_keys::Place;
 use std::alloc::{AllocError, Global};

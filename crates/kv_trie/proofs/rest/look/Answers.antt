@@ -4,8 +4,8 @@ use Rattle.std.specs.Option.{is_some}
 use Rattle.kv_trie.specs.Stored.{shape_of}
 use Rattle.kv_trie.proofs.Looking.{only_missing, only_leaf, many, stands}
 use Rattle.kv_trie.proofs.Stored.{shape_of-Empty, shape_of-Leaf, shape_of-Branch, shape_of-List}
-use Rattle.kv_trie.proofs.parts.look.Goals as goal
-use Rattle.kv_trie.proofs.parts.look.Goals.{in-Empty, in-Leaf+else-is_some}
+use Rattle.kv_trie.proofs.rest.look.Goals as goal
+use Rattle.kv_trie.proofs.rest.look.Goals.{in-Empty, in-Leaf+else-is_some}
 
 pub returns-then-is_some : goal.returns-then-is_some
 returns-then-is_some g c =
