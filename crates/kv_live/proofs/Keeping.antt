@@ -171,14 +171,16 @@ somewhere_taken call answer config old bucket (Err e) quiet some h = somewhere_q
 
 -- ---- what a write publishes
 
+-- the revision of a version that has one write more is one more than there were writes before it
+counts_on : (acts : List Act) (w : Write) (version : Stored) (revision : ℕ) → StandsFor (acts ++ Wrote w ∷ []) version → revision ≡ version.last → revision ≡ length (writes_of acts) + 1
+counts_on acts w version revision stands last = last ∙ (stands.last ∙ (ap length (writes_of-wrote acts w) ∙ length-append (writes_of acts) (w ∷ [])))
+
 pub publishes : (config : Configuration) (old : Kept) (request : Asked) (w : Write) (version : Stored) (revision : ℕ) (published : List Act) → IsSomewhere config old
     → accept old.bucket.version.config request old.published ≡ Ok w → StandsFor (old.published ++ Wrote w ∷ []) version → revision ≡ version.last → published ≡ old.published ++ Wrote w ∷ []
     → PublishesWrite config request revision old.published published
 publishes config old request w version revision published some accepted stands last is =
-    let all : length (writes_of (old.published ++ Wrote w ∷ [])) ≡ length (writes_of old.published) + 1 =
-    ap length (writes_of-wrote old.published w) ∙ length-append (writes_of old.published) (w ∷ []) in
     let number : w.revision ≡ length (writes_of old.published) + 1 = ap (λ (v : Write). v.revision) (sym (accepted_is_next old.bucket.version.config request old.published w accepted)) in
-    (w, ((ap (λ (c : Configuration). accept c request old.published) (sym (same_config config old some)) ∙ accepted), number ∙ (sym all ∙ (sym stands.last ∙ sym last)), is))
+    (w, ((ap (λ (c : Configuration). accept c request old.published) (sym (same_config config old some)) ∙ accepted), number ∙ sym (counts_on old.published w version revision stands last), is))
 
 -- ---- what an act that is kept makes of what lies under the lock
 
@@ -220,9 +222,7 @@ compacts_kept config now was bucket before posted floor deed seen version is som
 -- the write that is accepted is the one for the request at the revision of the version that has it
 accepted_for : (config : Configuration) (request : Asked) (acts : List Act) (w : Write) (version : Stored) (revision : ℕ) → accept config request acts ≡ Ok w → StandsFor (acts ++ Wrote w ∷ []) version → revision ≡ version.last → Wrote (write_for request revision) ≡ Wrote w
 accepted_for config request acts w version revision accepted stands number =
-    let counted : revision ≡ length (writes_of acts) + 1 =
-    number ∙ (stands.last ∙ (ap length (writes_of-wrote acts w) ∙ length-append (writes_of acts) (w ∷ []))) in
-    ap (λ (r : ℕ). Wrote (write_for request r)) counted ∙ ap Wrote (accepted_is_next config request acts w accepted)
+    ap (λ (r : ℕ). Wrote (write_for request r)) (counts_on acts w version revision stands number) ∙ ap Wrote (accepted_is_next config request acts w accepted)
 
 pub wrote_stands : (config : Configuration) (was : Bucketed) (before : Posted) (request : Request) (deed : Act) (revision : ℕ) (seen version : Stored) → IsSomewhere config (kept_of was before) → seen ≡ was.version
     → ((acts : List Act) → StandsFor acts seen → (w : Write) × ((accept seen.config (asked request) acts ≡ Ok w) × StandsFor (acts ++ Wrote w ∷ []) version))
