@@ -3,3 +3,4 @@ pub mod Matching
 pub mod Outcome
 pub mod Places
 pub mod Refusals
+pub mod inside

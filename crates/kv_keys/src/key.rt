@@ -6,6 +6,7 @@ ghost use Rattle.kv_keys.specs.Grammar.{is_key};
 use crate::error::KvError;
 use crate::grammar;
 use crate::place::{Place, fnv32};
+use crate::text::Text;
 use std::alloc::Global;
 use std::cmp::Ordering;
 use std::marker::Model;
@@ -15,24 +16,26 @@ use std::marker::Model;
 /// Contracts see a key as its bytes. Equality and order are those of the bytes.
 #[derive(Debug, Drop)]
 pub struct Key {
-    text: String,
+    text: Text,
 }
 
 impl Model for Key {
-    ghost use Rattle.std.specs.Prelude.{ℕ, List, IsTrue, string_bytes};
+    ghost use Rattle.std.specs.Prelude.{ℕ, List, IsTrue};
     ghost use Rattle.kv_keys.specs.Grammar.{is_key};
+    ghost use Rattle.kv_keys.specs.inside.Text.{bytes_of};
 
     ghost Value = { List ℕ };
 
-    ghost view = { λ key. string_bytes key.text };
+    ghost view = { λ key. bytes_of key.text };
 
-    ghost invariant = { λ key. IsTrue (is_key (string_bytes key.text)) };
+    ghost invariant = { λ key. IsTrue (is_key (bytes_of key.text)) };
 }
 
 impl Key {
     ghost use Rattle.kv_keys.specs.declared.error.KvError.TheVariants.{OutOfMemory, BadKey};
 
-    /// Reads a key, with one request for memory. A text that is no key is refused before that.
+    /// Reads a key. It asks for memory once where the key has more than 24 bytes, and else not at all. A text that is no
+    /// key is refused before that.
     pub fn parse(alloc: Global, text: &str) -> Result<Key, KvError>
         ensures ok { IfOk result (λ key. (key ≡ text.now) × IsTrue (is_key text.now)) }
         ensures err { IfErr result (λ e. e ≡ (if is_key text.now then OutOfMemory else BadKey)) }
@@ -40,7 +43,7 @@ impl Key {
         if !grammar::is_key(text) {
             return Err(KvError::BadKey);
         }
-        let text = String::from_str(alloc, text)?;
+        let text = Text::of(alloc, text)?;
         Ok(Key { text })
     }
 
@@ -52,13 +55,13 @@ impl Key {
         self.text.as_str()
     }
 
-    /// An equal key, in memory of its own.
+    /// An equal key, which has nothing in common with this one. It asks for memory as `parse` does.
     pub fn copy(&self, alloc: Global) -> Result<Key, KvError>
         ensures ok { IfOk result (λ key. key ≡ self.now) }
         ensures key { IsTrue (is_key self.now) }
         ensures err { IfErr result (λ e. e ≡ OutOfMemory) }
     {
-        let text = String::from_str(alloc, self.as_str())?;
+        let text = Text::of(alloc, self.as_str())?;
         Ok(Key { text })
     }
 }
@@ -73,7 +76,7 @@ impl PartialEq for Key {
     ghost laws = { partial_equiv_from_equiv nat_list_eq_equiv };
 
     fn eq(&self, other: &Key) -> bool {
-        self.text == other.text
+        self.as_str() == other.as_str()
     }
 }
 
@@ -111,7 +114,7 @@ impl Ord for Key {
     ghost matches_eq = { λ x y. texts_ties x y };
 
     fn cmp(&self, other: &Key) -> Ordering {
-        self.text.cmp(&other.text)
+        self.as_str().cmp(other.as_str())
     }
 }
 
@@ -124,7 +127,7 @@ impl Place for Key {
 
     /// The hash FNV-1a of the key's bytes.
     fn place(&self) -> u32 {
-        fnv32(self.text.as_bytes())
+        fnv32(self.as_str().as_bytes())
     }
 
     ghost respects_equal = { λ a b same. ap fnv32_of (slice_cmp-IsAntisymmetric nat_cmp-IsAntisymmetric a b same) };

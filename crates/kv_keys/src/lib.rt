@@ -9,6 +9,7 @@ mod key;
 mod matching;
 mod place;
 mod short;
+mod text;
 
 pub use error::KvError;
 pub use filter::Filter;

@@ -71,7 +71,6 @@ impl Request {
         ensures err { IfErr result (λ e. e ≡ OutOfMemory) }
     {
         let key = self.key().copy(alloc)?;
-        let value = Vec::from_slice(alloc, self.value())?;
-        Ok(Write::new(key, self.op(), value, revision))
+        Write::new(alloc, key, self.op(), self.value(), revision)
     }
 }

@@ -1,10 +1,16 @@
 //! Accepted writes.
 
-ghost use Rattle.std.specs.Prelude.{◌≡◌};
+ghost use Rattle.std.specs.Prelude.{◌≡◌, IfErr, IfOk};
+ghost use Rattle.kv_keys.specs.declared.error.KvError.TheVariants.{OutOfMemory};
 ghost use Rattle.kv_model.specs.Acts.{is_put, is_purge};
 
-use kv_keys::Key;
+use kv_keys::{Key, KvError};
+use smallvec::SmallVec;
+use std::alloc::Global;
 use std::marker::Model;
+
+/// How many bytes of a value lie in the write itself.
+const MOST_INSIDE: usize = 24;
 
 /// What a write does to its key.
 #[derive(Clone, Copy, Debug, PartialEq, Eq)]
@@ -41,11 +47,11 @@ impl Op {
     }
 }
 
-/// An accepted write.
+/// An accepted write. A value of at most 24 bytes lies in it, so who reads a short one looks nowhere else.
 pub struct Write {
     key: Key,
     op: Op,
-    value: Vec<u8>,
+    value: SmallVec<u8, MOST_INSIDE>,
     revision: u64,
 }
 
@@ -69,16 +75,25 @@ impl Model for Write {
 }
 
 impl Write {
-    /// A write by its parts.
-    pub fn new(key: Key, op: Op, value: Vec<u8>, revision: u64) -> Write
-        ensures { result ≡ record { key = key; op = op; value = value.items; revision = revision } }
+    /// A write by its parts, with its own copy of the value. It asks for memory only where that has more than 24 bytes.
+    pub fn new(
+        alloc: Global,
+        key: Key,
+        op: Op,
+        value: &[u8],
+        revision: u64,
+    ) -> Result<Write, KvError>
+        ensures ok { IfOk result
+            (λ write. write ≡ record { key = key; op = op; value = value.now; revision = revision }) }
+        ensures err { IfErr result (λ e. e ≡ OutOfMemory) }
     {
-        Write {
+        let value = SmallVec::from_slice(alloc, value)?;
+        Ok(Write {
             key,
             op,
             value,
             revision,
-        }
+        })
     }
 
     /// The key that was written.
@@ -99,7 +114,7 @@ impl Write {
     pub fn value(&self) -> &[u8]
         ensures { result.now ≡ self.now.value }
     {
-        &self.value
+        self.value.as_slice()
     }
 
     /// The sequence number of the write, from 1.

@@ -149,16 +149,13 @@ fn key(alloc: Global, text: &str) -> Result<Key, KvError> {
     }
 }
 
-fn bytes(alloc: Global, value: &[u8]) -> Result<Vec<u8>, AllocError> {
-    match Vec::from_slice(alloc, value) {
-        Err(AllocError) => Vec::from_slice(alloc, value),
-        bytes => bytes,
-    }
-}
-
 fn put(alloc: Global, value: &[u8], revision: u64) -> Result<Write, KvError> {
-    let key = key(alloc, "a.b")?;
-    Ok(Write::new(key, Op::Put, bytes(alloc, value)?, revision))
+    match Write::new(alloc, key(alloc, "a.b")?, Op::Put, value, revision) {
+        Err(KvError::OutOfMemory) => {
+            Write::new(alloc, key(alloc, "a.b")?, Op::Put, value, revision)
+        }
+        write => write,
+    }
 }
 
 fn taken_once(alloc: Global, out: &mut Vec<u8>, key: &Key, taken: Taken) -> Result<(), AllocError> {

@@ -5,21 +5,26 @@ ghost use Rattle.std.specs.Arc.{arc_value};
 
 use crate::rev::Rev;
 use kv_model::Write;
+use smallvec::SmallVec;
 use std::marker::Model;
 use std::sync::Arc;
+
+/// Revisions of a key. Five lie in what is stored of the key, and more in memory of their own.
+pub type Revisions = SmallVec<u64, 5>;
 
 /// What is stored of a key: the revisions that are kept of it, in order, and its last write. The entry of that write is
 /// the one that the trie of revisions has, so who asks for the last write of a key looks into one trie.
 pub struct Kept {
-    revisions: Vec<u64>,
+    // It lies before the revisions, and so beside the key: a look-up of the last write looks at both.
     last: Arc<(Rev, Write)>,
+    revisions: Revisions,
 }
 
 impl Drop for Kept {
     fn drop(self) {
         let Self {
-            revisions: _,
             last: _,
+            revisions: _,
         } = self;
     }
 }
@@ -35,17 +40,17 @@ impl Model for Kept {
 
 impl Kept {
     /// These revisions and this write.
-    pub(crate) fn new(revisions: Vec<u64>, last: Arc<(Rev, Write)>) -> Kept
+    pub(crate) fn new(revisions: Revisions, last: Arc<(Rev, Write)>) -> Kept
         ensures { result ≡ record { revisions = revisions.items; last = (arc_value last).1 } }
     {
-        Kept { revisions, last }
+        Kept { last, revisions }
     }
 
     /// The revisions that are kept, in order.
     pub fn revisions(&self) -> &[u64]
         ensures { result.now ≡ self.now.revisions }
     {
-        &self.revisions
+        self.revisions.as_slice()
     }
 
     /// The last write.

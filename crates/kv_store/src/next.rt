@@ -4,6 +4,7 @@ ghost use Rattle.std.specs.Prelude.{◌≡◌, ◌<◌, ◌∷◌, [], ◌++◌,
 ghost use Rattle.kv_store.specs.inside.Next.{next_kept};
 ghost use Rattle.kv_model.specs.Retained.{last_n};
 
+use crate::kept::Revisions;
 use kv_model::Op;
 use std::alloc::{AllocError, Global};
 
@@ -13,12 +14,12 @@ fn last_with(
     history: u64,
     before: &[u64],
     revision: u64,
-) -> Result<Vec<u64>, AllocError>
+) -> Result<Revisions, AllocError>
     requires { 0 < history }
     ensures { IfOk result (λ kept. kept.items ≡ last_n history (before.now ++ revision ∷ [])) }
 {
     let surplus = (before.len() + 1).saturating_sub(history as usize);
-    let mut kept = Vec::with_capacity(alloc, before.len() + 1 - surplus)?;
+    let mut kept = Revisions::with_capacity(alloc, before.len() + 1 - surplus)?;
     kept.extend_from_slice(&before[surplus..])?;
     kept.push(revision)?;
     Ok(kept)
@@ -32,7 +33,7 @@ pub fn next_kept(
     op: Op,
     revision: u64,
     before: &[u64],
-) -> Result<Vec<u64>, AllocError>
+) -> Result<Revisions, AllocError>
     requires { 0 < history }
     ensures { IfOk result (λ kept. kept.items ≡ next_kept history op revision before.now) }
 {

@@ -7,7 +7,7 @@ ghost use Rattle.kv_keys.specs.declared.error.KvError.TheVariants.{OutOfMemory};
 ghost use Rattle.kv_store.specs.inside.Fields.{kept_entries, last_entries};
 ghost use Rattle.kv_store.specs.inside.Putting.{HasPut};
 
-use crate::kept::Kept;
+use crate::kept::{Kept, Revisions};
 use crate::parts::Parts;
 use crate::rev::Rev;
 use kv_keys::{Key, KvError};
@@ -23,7 +23,7 @@ pub fn put_write(
     alloc: Global,
     parts: &mut Parts,
     key: Key,
-    revisions: Vec<u64>,
+    revisions: Revisions,
     write: Write,
     values: u64,
 ) -> Result<(), KvError>

@@ -17,8 +17,8 @@ pub trait Wanted {
     fn wants(&self, key: &Key) -> bool
         ensures { result ≡ wants_key self.now key.now };
 
-    /// The keys that are asked for, each once, where each is asked for by its name; `None` tells nothing of them. It
-    /// makes each key with one request for memory.
+    /// The keys that are asked for, each once, where each is asked for by its name; `None` tells nothing of them. They
+    /// are made by the call.
     fn literals(&self, alloc: Global) -> Result<Option<Vec<Key>>, KvError>
         ensures asked { IfOk result (λ keys. IfSome keys (λ keys. AreAsked (wants_key self.now) keys.items)) }
         ensures err { IfErr result (λ error. error ≡ OutOfMemory) };

@@ -19,6 +19,9 @@ const ORDERED: &[(&str, &str)] = &[
     ("B", "a"),
     ("a-b", "a.b"),
     ("a.z", "aa"),
+    ("services.billing.port.v1", "services.billing.port.v12"),
+    ("services.billing.port.v11", "services.billing.port.v2"),
+    ("services.billing.port.v11", "services.billing.port.v12"),
 ];
 
 #[test]
@@ -52,6 +55,8 @@ fn is_copied<T: Parsed>(rt: &impl Abort, alloc: Global, text: &str) -> Result<()
 #[test]
 fn copies(rt: HostRuntime) -> Result<(), Fail> {
     is_copied::<Key>(&rt, rt.alloc(), "a.b")?;
+    is_copied::<Key>(&rt, rt.alloc(), "services.billing.port.v1")?;
+    is_copied::<Key>(&rt, rt.alloc(), "services.billing.port.v12")?;
     is_copied::<Filter>(&rt, rt.alloc(), "a.*")?;
     is_copied::<Filters>(&rt, rt.alloc(), "a.*,b")?;
     Ok(())

@@ -141,3 +141,48 @@ fn keys_that_share_a_place(rt: HostRuntime) -> Result<(), Fail> {
     holds(&rt, rt.alloc(), keeping(2), PLACES, &facts)?;
     Ok(())
 }
+
+// Keys and values of 24 bytes and of 25, and six revisions of a key: of each as many as lie in their entry, and one more.
+const LENGTHS: &[Row] = &[
+    (
+        "services.billing.port.v1",
+        Ask::Put("0123456789abcdefghijklmn"),
+        Ok(1),
+    ),
+    (
+        "services.billing.port.v12",
+        Ask::Put("0123456789abcdefghijklmno"),
+        Ok(2),
+    ),
+    ("services.billing.port.v1", Ask::Put("3"), Ok(3)),
+    ("services.billing.port.v1", Ask::Put("4"), Ok(4)),
+    ("services.billing.port.v1", Ask::Put("5"), Ok(5)),
+    ("services.billing.port.v1", Ask::Put("6"), Ok(6)),
+    ("services.billing.port.v1", Ask::Put("7"), Ok(7)),
+];
+
+const LONG: &[Fact] = &[
+    Fact::Value(
+        "services.billing.port.v1",
+        Some(1),
+        Some(b"0123456789abcdefghijklmn"),
+    ),
+    Fact::Value("services.billing.port.v1", None, Some(b"7")),
+    Fact::Value(
+        "services.billing.port.v12",
+        None,
+        Some(b"0123456789abcdefghijklmno"),
+    ),
+    Fact::Kept("services.billing.port.v1", Some(&[1, 3, 4, 5, 6, 7])),
+    Fact::Kept("services.billing.port.v12", Some(&[2])),
+    Fact::Keys(
+        "services.>",
+        "services.billing.port.v12 services.billing.port.v1 ",
+    ),
+];
+
+#[test]
+fn short_and_long(rt: HostRuntime) -> Result<(), Fail> {
+    holds(&rt, rt.alloc(), keeping(6), LENGTHS, LONG)?;
+    Ok(())
+}
