@@ -2,7 +2,7 @@
 
 ghost use Rattle.std.specs.Prelude.{◌≡◌};
 
-use crate::lives::{Reads, Writes, fill, spread_load};
+use crate::lives::{Reads, Writes, fill, opened, spread_load};
 use crate::maps::{Locked, Table, filled, texts};
 use crate::sides::{Copies, Gets, Puts, get_all};
 use kv_gauge::clock::{each, since};
@@ -10,7 +10,6 @@ use kv_gauge::fault::{Answer, Fault, check};
 use kv_gauge::keys::VALUE;
 use kv_gauge::plan::Plan;
 use kv_gauge::series::{Name, Series};
-use kv_gauge::subject::config;
 use kv_live::{Live, LiveName, Opened, Reader, Request};
 use std::alloc::Global;
 use std::collections::{BTreeMap, HashMap};
@@ -180,7 +179,7 @@ fn map_figures<T: Table, R: Wait + Clock + Print>(
 
 /// Measures a get, a put and a copy of each.
 pub fn run<R: Wait + Clock + Print>(rt: &R, alloc: Global, plan: Plan) -> Result<(), Fault> {
-    let opened = Live::open(alloc, &config(alloc)?, 1)?;
+    let opened = opened(alloc, 1)?;
     opened_figures::<Brand, R>(rt, alloc, plan, opened)?;
     map_figures::<HashMap<String, Vec<u8>>, R>(rt, alloc, plan)?;
     map_figures::<BTreeMap<String, Vec<u8>>, R>(rt, alloc, plan)

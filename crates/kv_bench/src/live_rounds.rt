@@ -3,12 +3,11 @@
 ghost use Rattle.std.specs.Prelude.{◌≡◌};
 
 use crate::jobs::{Job, perform_all};
-use crate::lives::{Follows, Load, Reads, Writes, fill, spread_load};
+use crate::lives::{Follows, Load, Reads, Writes, fill, opened, spread_load};
 use crate::round::{ASKED, Done, Round, Task};
 use crate::told::{Over, Told, most, numbers};
 use kv_gauge::fault::Fault;
 use kv_gauge::plan::Plan;
-use kv_gauge::subject::config;
 use kv_gauge::watching::UPDATES;
 use kv_live::{Filters, KvError, Live, LiveName, Opened, Reader};
 use std::alloc::Global;
@@ -151,6 +150,6 @@ pub fn run<R: Threads + Wait + Sync + Clock + CpuClock + Print>(
     plan: Plan,
     task: Task,
 ) -> Result<(), Fault> {
-    let opened = Live::open(alloc, &config(alloc)?, most(task))?;
+    let opened = opened(alloc, most(task))?;
     opened_figures::<Brand, R>(rt, alloc, plan, task, opened)
 }

@@ -4,9 +4,17 @@ use crate::sides::{Copies, Gets, Puts, Takes};
 use kv_gauge::fault::Fault;
 use kv_gauge::keys::{key, put, puts, spread};
 use kv_gauge::plan::Plan;
-use kv_live::{Cached, Feed, Key, Live, LiveName, Reader, Request, Taken};
+use kv_gauge::subject::config;
+use kv_live::{Cached, Feed, Key, Live, LiveName, Opened, Reader, Request, Taken};
 use std::alloc::Global;
 use std::sync::Wait;
+
+/// A bucket that threads share, opened for so many readers.
+pub fn opened(alloc: Global, readers: usize) -> Result<Opened, Fault> {
+    let config = config(alloc)?;
+    let opened = Live::open(alloc, &config, readers)?;
+    Ok(opened)
+}
 
 /// The keys that are read, and the requests that are written.
 #[derive(Drop)]

@@ -30,7 +30,7 @@ enum What {
 }
 
 // Deletes are last, since they change what the others read.
-const ALL: [What; 14] = [
+const ALL: &'static [What] = &[
     What::Get,
     What::PutThere,
     What::Snapshot,
@@ -181,7 +181,7 @@ fn figures<R: Clock + Print>(
 ) -> Result<(), Fault> {
     let asked = spread(alloc, plan.keys, plan.asked())?;
     for what in ALL {
-        figure(rt, alloc, bucket, plan, asked.as_slice(), what)?;
+        figure(rt, alloc, bucket, plan, asked.as_slice(), *what)?;
     }
     Ok(())
 }

@@ -26,11 +26,16 @@ pub fn key(alloc: Global, number: usize) -> Result<Key, Fault> {
     Ok(key)
 }
 
+fn add_key(alloc: Global, keys: &mut Vec<Key>, number: usize) -> Result<(), Fault> {
+    keys.push(key(alloc, number)?)?;
+    Ok(())
+}
+
 /// The keys of the numbers from one on, up to another.
 pub fn keys(alloc: Global, from: usize, to: usize) -> Result<Vec<Key>, Fault> {
     let mut keys = Vec::new(alloc);
     for number in from..to {
-        keys.push(key(alloc, number)?)?;
+        add_key(alloc, &mut keys, number)?;
     }
     Ok(keys)
 }
@@ -49,7 +54,7 @@ pub fn place(turn: usize, count: usize) -> usize
 pub fn spread(alloc: Global, count: usize, asked: usize) -> Result<Vec<Key>, Fault> {
     let mut keys = Vec::new(alloc);
     for turn in 0..asked {
-        keys.push(key(alloc, place(turn, count))?)?;
+        add_key(alloc, &mut keys, place(turn, count))?;
     }
     Ok(keys)
 }
@@ -67,28 +72,43 @@ pub fn delete(alloc: Global, key: &Key) -> Result<Request, Fault> {
     Ok(Request::Delete { key, last: None })
 }
 
+fn add_put(alloc: Global, requests: &mut Vec<Request>, key: &Key) -> Result<(), Fault> {
+    requests.push(put(alloc, key)?)?;
+    Ok(())
+}
+
 /// A put to each key.
 pub fn puts(alloc: Global, keys: &[Key]) -> Result<Vec<Request>, Fault> {
     let mut requests = Vec::new(alloc);
     for key in keys {
-        requests.push(put(alloc, key)?)?;
+        add_put(alloc, &mut requests, key)?;
     }
     Ok(requests)
+}
+
+fn add_delete(alloc: Global, requests: &mut Vec<Request>, key: &Key) -> Result<(), Fault> {
+    requests.push(delete(alloc, key)?)?;
+    Ok(())
 }
 
 /// A delete of each key.
 pub fn deletes(alloc: Global, keys: &[Key]) -> Result<Vec<Request>, Fault> {
     let mut requests = Vec::new(alloc);
     for key in keys {
-        requests.push(delete(alloc, key)?)?;
+        add_delete(alloc, &mut requests, key)?;
     }
     Ok(requests)
+}
+
+fn add_filter(alloc: Global, filters: &mut Vec<Filter>, text: &str) -> Result<(), Fault> {
+    filters.push(Filter::parse(alloc, text)?)?;
+    Ok(())
 }
 
 /// The filter of a text, alone.
 pub fn one_filter(alloc: Global, text: &str) -> Result<Vec<Filter>, Fault> {
     let mut filters = Vec::new(alloc);
-    filters.push(Filter::parse(alloc, text)?)?;
+    add_filter(alloc, &mut filters, text)?;
     Ok(filters)
 }
 
@@ -96,7 +116,7 @@ pub fn one_filter(alloc: Global, text: &str) -> Result<Vec<Filter>, Fault> {
 pub fn filters_of(alloc: Global, keys: &[Key]) -> Result<Vec<Filter>, Fault> {
     let mut filters = Vec::new(alloc);
     for key in keys {
-        filters.push(Filter::parse(alloc, key.as_str())?)?;
+        add_filter(alloc, &mut filters, key.as_str())?;
     }
     Ok(filters)
 }

@@ -1,32 +1,53 @@
 //! Which requests a version accepts.
 
 ghost use Rattle.std.specs.Prelude.{◌≡◌, ℕ, ◌<◌, List, false, if◌then◌else◌, IfErr, OnOk};
+ghost use Rattle.std.specs.Option.{option_copied, option_map_or};
 ghost use Rattle.kv_keys.specs.Outcome.{Refuses};
 ghost use Rattle.kv_keys.specs.declared.error.KvError.TheVariants.{KeyExists};
 ghost use Rattle.kv_model.specs.Acceptance.{accept, has_value, is_full, next_write, objection, unless_last, unless_last_or_none};
-ghost use Rattle.kv_model.specs.Acts.{Act};
-ghost use Rattle.kv_model.specs.Requests.{asked};
-ghost use Rattle.kv_model.specs.Retained.{last_revision};
+ghost use Rattle.kv_model.specs.Acts.{Act, is_put};
+ghost use Rattle.kv_model.specs.Requests.{asked, key_of};
+ghost use Rattle.kv_model.specs.Retained.{last_revision, last_write};
 ghost use Rattle.kv_store.specs.Standing.{StandsFor};
 
 use crate::version::Version;
 use kv_keys::{Key, KvError};
-use kv_model::Request;
+use kv_model::{Request, Write};
 
-fn unless_value(has_value: bool) -> Option<KvError>
-    ensures { result ≡ (if has_value then Some KeyExists else None) }
+fn revision_of(last: Option<&Write>) -> u64
+    ensures { result ≡ option_map_or (λ w. w.revision) (option_copied last.entry) 0 }
 {
-    if has_value {
+    match last {
+        Some(write) => write.revision(),
+        None => 0,
+    }
+}
+
+fn is_value(last: Option<&Write>) -> bool
+    ensures { result ≡ option_map_or (λ w. is_put w.op) (option_copied last.entry) false }
+{
+    match last {
+        Some(write) => write.op().is_put(),
+        None => false,
+    }
+}
+
+fn unless_value(last: Option<&Write>) -> Option<KvError>
+    ensures { (key : List ℕ) (acts : List Act) → option_copied last.entry ≡ last_write key acts →
+        result ≡ (if has_value key acts then Some KeyExists else None) }
+{
+    if is_value(last) {
         Some(KvError::KeyExists)
     } else {
         None
     }
 }
 
-fn unless_last(revision: u64, last: u64) -> Option<KvError>
-    ensures { (key : List ℕ) (acts : List Act) → last ≡ last_revision key acts →
+fn unless_last(revision: u64, last: Option<&Write>) -> Option<KvError>
+    ensures { (key : List ℕ) (acts : List Act) → option_copied last.entry ≡ last_write key acts →
         result ≡ unless_last revision key acts }
 {
+    let last = revision_of(last);
     if revision == last {
         None
     } else {
@@ -34,8 +55,8 @@ fn unless_last(revision: u64, last: u64) -> Option<KvError>
     }
 }
 
-fn unless_last_or_none(revision: Option<u64>, last: u64) -> Option<KvError>
-    ensures { (key : List ℕ) (acts : List Act) → last ≡ last_revision key acts →
+fn unless_last_or_none(revision: Option<u64>, last: Option<&Write>) -> Option<KvError>
+    ensures { (key : List ℕ) (acts : List Act) → option_copied last.entry ≡ last_write key acts →
         result ≡ unless_last_or_none revision key acts }
 {
     match revision {
@@ -44,24 +65,26 @@ fn unless_last_or_none(revision: Option<u64>, last: u64) -> Option<KvError>
     }
 }
 
+// Why the key, which has this last write, does not allow the request.
+fn objection(request: &Request, last: Option<&Write>) -> Option<KvError>
+    ensures { (acts : List Act) → option_copied last.entry ≡ last_write (key_of (asked request.now)) acts →
+        result ≡ objection (asked request.now) acts }
+{
+    match request {
+        Request::Put { .. } => None,
+        Request::Create { .. } => unless_value(last),
+        Request::Update { last: revision, .. } => unless_last(*revision, last),
+        Request::Delete { last: revision, .. } => unless_last_or_none(*revision, last),
+        Request::Purge { last: revision, .. } => unless_last_or_none(*revision, last),
+    }
+}
+
 impl Version {
     /// The last revision of the key, 0 where it was never written. It takes no memory.
     pub fn last_revision(&self, key: &Key) -> u64
         ensures { (acts : List Act) → StandsFor acts self.now → result ≡ last_revision key.now acts }
     {
-        match self.last_write(key) {
-            Some(write) => write.revision(),
-            None => 0,
-        }
-    }
-
-    fn has_value(&self, key: &Key) -> bool
-        ensures { (acts : List Act) → StandsFor acts self.now → result ≡ has_value key.now acts }
-    {
-        match self.last_write(key) {
-            Some(write) => write.op().is_put(),
-            None => false,
-        }
+        revision_of(self.last_write(key))
     }
 
     // The stored writes fill the journal, or the accepted ones have used up its revisions.
@@ -72,26 +95,15 @@ impl Version {
         self.stored() >= self.parts.write_limit || self.parts.last >= self.parts.revision_limit
     }
 
-    // Why the key does not allow the request.
-    fn objection(&self, request: &Request) -> Option<KvError>
-        ensures { (acts : List Act) → StandsFor acts self.now → result ≡ objection (asked request.now) acts }
-    {
-        match request {
-            Request::Put { .. } => None,
-            Request::Create { key, .. } => unless_value(self.has_value(key)),
-            Request::Update { key, last, .. } => unless_last(*last, self.last_revision(key)),
-            Request::Delete { key, last } => unless_last_or_none(*last, self.last_revision(key)),
-            Request::Purge { key, last } => unless_last_or_none(*last, self.last_revision(key)),
-        }
-    }
-
     // Whether the request is accepted, or the first reason that it isn't: the size of the value, the seal, the
-    // journal's room, and then what the key allows.
-    pub(crate) fn accept(&self, request: &Request) -> Result<(), KvError>
+    // journal's room, and then what its key, which has this last write, allows.
+    pub(crate) fn accept(&self, request: &Request, last: Option<&Write>) -> Result<(), KvError>
         ensures room { OnOk result (self.now.last < self.now.config.revision_limit) }
         ensures ok { OnOk result ((acts : List Act) → StandsFor acts self.now →
+            option_copied last.entry ≡ last_write (key_of (asked request.now)) acts →
             accept self.now.config (asked request.now) acts ≡ Ok (next_write (asked request.now) acts)) }
         ensures refused { IfErr result (λ e. (acts : List Act) → StandsFor acts self.now →
+            option_copied last.entry ≡ last_write (key_of (asked request.now)) acts →
             Refuses e (accept self.now.config (asked request.now) acts)) }
     {
         if request.value().len() as u64 > self.parts.value_limit {
@@ -103,7 +115,7 @@ impl Version {
         if self.is_full() {
             return Err(KvError::JournalFull);
         }
-        match self.objection(request) {
+        match objection(request, last) {
             Some(error) => Err(error),
             None => Ok(()),
         }

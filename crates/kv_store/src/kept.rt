@@ -1,6 +1,7 @@
 //! What is stored of a key.
 
-ghost use Rattle.std.specs.Prelude.{◌≡◌};
+ghost use Rattle.std.specs.Prelude.{◌≡◌, [], unwrap_or};
+ghost use Rattle.std.specs.Option.{option_copied, option_map};
 ghost use Rattle.std.specs.Arc.{arc_value};
 
 use crate::rev::Rev;
@@ -58,5 +59,25 @@ impl Kept {
         ensures { result.now ≡ self.now.last }
     {
         &self.last.1
+    }
+}
+
+/// The last write of a key of which this is stored, none where nothing is.
+pub fn last_of(kept: Option<&Kept>) -> Option<&Write>
+    ensures { option_copied result ≡ option_map (λ k. k.last) (option_copied kept.entry) }
+{
+    match kept {
+        Some(kept) => Some(kept.last()),
+        None => None,
+    }
+}
+
+/// The revisions that are kept of a key of which this is stored, none where nothing is.
+pub fn revisions_of(kept: Option<&Kept>) -> &[u64]
+    ensures { result.now ≡ unwrap_or (option_map (λ k. k.revisions) (option_copied kept.entry)) [] }
+{
+    match kept {
+        Some(kept) => kept.revisions(),
+        None => &[],
     }
 }

@@ -9,7 +9,7 @@ ghost use Rattle.kv_model.specs.Acts.{Write as AWrite};
 ghost use Rattle.kv_store.specs.inside.Compacted.{all_kept, kept_in, left_of, spared};
 ghost use Rattle.kv_store.specs.inside.Fields.{kept_entries, last_entries};
 
-use crate::kept::Kept;
+use crate::kept::{Kept, revisions_of};
 use crate::rev::Rev;
 use kv_keys::{Key, KvError};
 use kv_model::Write;
@@ -59,13 +59,11 @@ pub fn uncleared_keys(
 pub fn kept_of<'t>(by_key: &'t Trie<Key, Kept>, key: &Key) -> &'t [u64]
     ensures { result.now ≡ kept_in key.now (kept_entries by_key.now) }
 {
-    match by_key.get(key) {
-        Some(kept) => kept.revisions(),
-        None => &[],
-    }
+    revisions_of(by_key.get(key))
 }
 
-fn is_kept_of(by_key: &Trie<Key, Kept>, key: &Key, revision: u64) -> bool
+/// Whether the revision is among those that are kept of the key.
+pub fn is_kept_of(by_key: &Trie<Key, Kept>, key: &Key, revision: u64) -> bool
     ensures { result ≡ list_any (λ r. r == revision) (kept_in key.now (kept_entries by_key.now)) }
 {
     kept_of(by_key, key).iter().any(|kept| *kept == revision)

@@ -3,6 +3,7 @@
 #![tactic(auto)]
 
 mod accept;
+mod accepted;
 mod apply;
 mod compacting;
 mod entries;

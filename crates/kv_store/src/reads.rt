@@ -11,6 +11,7 @@ ghost use Rattle.kv_model.specs.Reads.{get_at_of, get_of, if_put, status_of};
 ghost use Rattle.kv_model.specs.Retained.{kept};
 ghost use Rattle.kv_store.specs.Standing.{StandsFor};
 
+use crate::left::is_kept_of;
 use crate::version::Version;
 use kv_keys::{Key, KvError};
 use kv_model::{Status, Write};
@@ -76,7 +77,7 @@ impl Version {
     fn is_kept(&self, key: &Key, revision: u64) -> bool
         ensures { result ≡ list_any (λ r. r == revision) (kept_before key.now self.now) }
     {
-        self.kept_before(key).iter().any(|kept| *kept == revision)
+        is_kept_of(&self.parts.by_key, key, revision)
     }
 
     // The write of the key with the revision, where it is kept.

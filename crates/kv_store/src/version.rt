@@ -2,7 +2,7 @@
 
 ghost use Rattle.std.specs.Prelude.{◌≡◌, ℕ, ◌==◌, [], ◌∷◌, ◌++◌, List, true, length, IfErr, IfOk};
 ghost use Rattle.std.specs.Map.{lookup};
-ghost use Rattle.std.specs.Option.{option_copied};
+ghost use Rattle.std.specs.Option.{option_copied, option_map};
 ghost use Rattle.std.specs.Str.{bytes_eq};
 ghost use Rattle.kv_keys.specs.Outcome.{Refuses};
 ghost use Rattle.kv_keys.specs.declared.error.KvError.TheVariants.{OutOfMemory};
@@ -13,7 +13,7 @@ ghost use Rattle.kv_model.specs.Retained.{kept, last_write, revisions};
 ghost use Rattle.kv_store.specs.Standing.{StandsFor};
 ghost use Rattle.kv_store.specs.Stored.{kept_at, last_at, write_at};
 
-use crate::kept::Kept;
+use crate::kept::{Kept, last_of};
 use crate::parts::Parts;
 use crate::rev::Rev;
 use arrayvec::ArrayString;
@@ -170,11 +170,19 @@ impl Version {
         &self.parts.by_revision
     }
 
+    // What is stored of the key.
+    pub(crate) fn of_key(&self, key: &Key) -> Option<&Kept>
+        ensures kept { option_map (λ k. k.revisions) (option_copied result) ≡ kept_at key.now self.now }
+        ensures last { option_map (λ k. k.last) (option_copied result) ≡ last_at key.now self.now }
+    {
+        self.parts.by_key.get(key)
+    }
+
     /// The revisions that are kept of the key, in order. It takes no memory.
     pub fn kept_at(&self, key: &Key) -> Option<&[u64]>
         ensures { option_copied result ≡ kept_at key.now self.now }
     {
-        match self.parts.by_key.get(key) {
+        match self.of_key(key) {
             Some(kept) => Some(kept.revisions()),
             None => None,
         }
@@ -186,10 +194,7 @@ impl Version {
         ensures value { option_copied result ≡ last_at key.now self.now }
         ensures acts { (acts : List Act) → StandsFor acts self.now → option_copied result ≡ last_write key.now acts }
     {
-        match self.parts.by_key.get(key) {
-            Some(kept) => Some(kept.last()),
-            None => None,
-        }
+        last_of(self.of_key(key))
     }
 
     /// The write that is stored of the revision, retained or not. It takes no memory.

@@ -25,9 +25,8 @@ impl Version {
             Refuses e (accept self.old.config (asked request.now) acts)) }
         ensures unchanged { OnErr result (self.new ≡ self.old) }
     {
-        self.accept(request)?;
-        let write = request.write(alloc, self.parts.last + 1)?;
-        self.add(alloc, write)?;
+        let accepted = self.accepted(alloc, request)?;
+        self.add(alloc, accepted)?;
         Ok(())
     }
 }
