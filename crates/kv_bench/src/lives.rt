@@ -30,6 +30,17 @@ pub fn spread_load(alloc: Global, plan: Plan, asked: usize) -> Result<Load, Faul
     Ok(Load { requests, keys })
 }
 
+fn put_number<N: LiveName, R: Wait>(
+    rt: &R,
+    alloc: Global,
+    live: &Live<N>,
+    number: usize,
+) -> Result<(), Fault> {
+    let request = put(alloc, &key(alloc, number)?)?;
+    live.write(rt, &request)?;
+    Ok(())
+}
+
 /// Puts to each key.
 pub fn fill<N: LiveName, R: Wait>(
     rt: &R,
@@ -38,8 +49,7 @@ pub fn fill<N: LiveName, R: Wait>(
     count: usize,
 ) -> Result<(), Fault> {
     for number in 0..count {
-        let request = put(alloc, &key(alloc, number)?)?;
-        live.write(rt, &request)?;
+        put_number(rt, alloc, live, number)?;
     }
     Ok(())
 }

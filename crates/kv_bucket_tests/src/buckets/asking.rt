@@ -36,12 +36,12 @@ fn done(done: Result<(), KvError>, answer: Answer) -> Answer {
 
 // Compacts, which is done where it may be.
 fn compact(rt: &impl Abort, bucket: &mut Bucket, floor: u64) -> Answer {
-    let may = bucket.may_compact(floor);
-    let answer = bucket.compact(floor);
-    if answer != Err(KvError::OutOfMemory) {
+    let may = done(bucket.may_compact(floor), Answer::Compacted(floor));
+    let answer = done(bucket.compact(floor), Answer::Compacted(floor));
+    if !lacks_memory(answer) {
         equal(rt, answer, may);
     }
-    done(answer, Answer::Compacted(floor))
+    answer
 }
 
 fn watch(alloc: Global, bucket: &mut Bucket, text: &str) -> Result<Answer, KvError> {
