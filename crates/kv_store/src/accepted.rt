@@ -1,6 +1,6 @@
 //! A write that is accepted, and what is stored with it.
 
-ghost use Rattle.std.specs.Prelude.{◌≡◌, ◌+◌, ◌-◌, ◌<◌, List, length, IsTrue, IfErr, IfOk, OnErr, OnOk};
+ghost use Rattle.std.specs.Prelude.{◌≡◌, ◌+◌, ◌<◌, List, IsTrue, IfErr, IfOk, OnErr, OnOk};
 ghost use Rattle.kv_keys.specs.Grammar.{is_key};
 ghost use Rattle.kv_keys.specs.Outcome.{Refuses};
 ghost use Rattle.kv_keys.specs.declared.error.KvError.TheVariants.{OutOfMemory};
@@ -8,7 +8,7 @@ ghost use Rattle.kv_model.specs.Acceptance.{accept, next_write};
 ghost use Rattle.kv_model.specs.Acts.{Act};
 ghost use Rattle.kv_model.specs.Requests.{asked, write_for};
 ghost use Rattle.kv_store.specs.Standing.{StandsFor};
-ghost use Rattle.kv_store.specs.inside.Next.{HasOneMore, kept_after, kept_before};
+ghost use Rattle.kv_store.specs.inside.Next.{HasOneMore, kept_after, values_after};
 
 use crate::kept::{Revisions, last_of, revisions_of};
 use crate::next::next_kept;
@@ -36,8 +36,7 @@ impl Version {
         ensures write { IfOk result (λ a. a.write ≡ write_for (asked request.now) (self.now.last + 1)) }
         ensures key { IfOk result (λ a. IsTrue (is_key a.write.key)) }
         ensures kept { IfOk result (λ a. a.kept.items ≡ kept_after a.write self.now) }
-        ensures values { IfOk result (λ a. a.values ≡
-            (self.now.values + length (kept_after a.write self.now)) - length (kept_before a.write.key self.now)) }
+        ensures values { IfOk result (λ a. a.values ≡ values_after a.write self.now) }
         ensures ok { IfOk result (λ a. (acts : List Act) → StandsFor acts self.now →
             accept self.now.config (asked request.now) acts ≡ Ok (next_write (asked request.now) acts)) }
         ensures refused { IfErr result (λ e. (acts : List Act) → StandsFor acts self.now →
@@ -62,8 +61,7 @@ impl Version {
         requires room { self.old.last < self.old.config.revision_limit }
         requires revision { accepted.write.revision ≡ self.old.last + 1 }
         requires kept { accepted.kept.items ≡ kept_after accepted.write self.old }
-        requires values { accepted.values ≡
-            (self.old.values + length (kept_after accepted.write self.old)) - length (kept_before accepted.write.key self.old) }
+        requires values { accepted.values ≡ values_after accepted.write self.old }
         ensures ok { OnOk result (HasOneMore accepted.write self.old self.new) }
         ensures unchanged { OnErr result (self.new ≡ self.old) }
         ensures err { IfErr result (λ e. e ≡ OutOfMemory) }

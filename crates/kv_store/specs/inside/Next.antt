@@ -19,6 +19,10 @@ kept_before key version = unwrap_or (kept_at key version) []
 abbrev pub kept_after : Write → Stored → List ℕ
 kept_after w version = next_kept version.config.history w.op w.revision (kept_before w.key version)
 
+-- how many entries there are once it is written: those that are kept of its key then in place of those that were
+abbrev pub values_after : Write → Stored → ℕ
+values_after w version = (version.values + length (kept_after w version)) - length (kept_before w.key version)
+
 -- the new version has this write beside those of the old one, the next kept revisions of its key, and of each other key
 -- the same; and it is the last write of its key
 pub record HasOneMore (w : Write) (old new : Stored) : Type 0 where
@@ -29,6 +33,6 @@ pub record HasOneMore (w : Write) (old new : Stored) : Type 0 where
   pub kept : (key : List ℕ) → kept_at key new ≡ (if bytes_eq w.key key then Some (kept_after w old) else
       kept_at key old)
   pub last_of : (key : List ℕ) → last_at key new ≡ (if bytes_eq w.key key then Some w else last_at key old)
-  pub values : new.values ≡ (old.values + length (kept_after w old)) - length (kept_before w.key old)
+  pub values : new.values ≡ values_after w old
   pub floor : new.floor ≡ old.floor
   pub sealed : new.sealed ≡ old.sealed
