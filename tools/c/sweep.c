@@ -115,6 +115,26 @@ static void session(void) {
     kv_feed_close(&feed);
 }
 
+/* Where nobody else has the nodes, what is stored of a key is overwritten where it lies: a put of a short key that is there
+ * asks for the memory of its value, as it is handed in, and of its write, and for no more. (The tenth revision stands in a
+ * branch that the ninth made.) */
+static void overwrite(void) {
+    static const kv_limits limits = {1, 1048576, 1000000, 4294967295};
+    kv_bucket b = {0};
+    uint64_t revision;
+    left = -1;
+    TRY(kv_open(&b, B("settings"), &limits));
+    for (int i = 1; i <= 9; i++) {
+        char name[32];
+        snprintf(name, sizeof name, "k%d", i);
+        TRY(kv_put(&b, B(name), B("1"), &revision));
+    }
+    asked = 0;
+    TRY(kv_put(&b, B("k1"), B("2"), &revision));
+    WANT(revision == 10 && asked == 2);
+    kv_close(&b);
+}
+
 int main(void) {
     long total;
     left = -1;
@@ -126,6 +146,7 @@ int main(void) {
         session();
         WANT(refusals == 1);
     }
+    overwrite();
     printf("%ld requests for memory, each refused in turn\n", total);
     return 0;
 }

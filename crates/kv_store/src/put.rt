@@ -12,7 +12,7 @@ use crate::parts::Parts;
 use crate::rev::Rev;
 use kv_keys::{Key, KvError};
 use kv_model::Write;
-use kv_trie::put_both;
+use kv_trie::{NewPair, put_both};
 use std::alloc::Global;
 use std::sync::Arc;
 
@@ -50,13 +50,13 @@ pub fn put_write(
     let number = Rev::new(revision as u32);
     let written = Arc::new(alloc, (number, write))?;
     let last = Arc::try_clone(&written)?;
-    let of_key = Arc::new(alloc, (key, Kept::new(revisions, last)))?;
+    let kept = Kept::new(revisions, last);
     put_both(
         alloc,
         &mut parts.by_key,
-        of_key,
+        NewPair::Owned((key, kept)),
         &mut parts.by_revision,
-        written,
+        NewPair::Shared(written),
     )?;
     parts.last = revision;
     parts.values = values;

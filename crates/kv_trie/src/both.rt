@@ -1,45 +1,38 @@
 //! One change of two maps.
 
 ghost use Rattle.std.specs.Prelude.{◌≡◌, ◌<◌, ◌-◌, ◌^◌, length, IfErr, OnOk};
-ghost use Rattle.std.specs.Arc.{arc_value};
 ghost use Rattle.kv_keys.specs.declared.error.KvError.TheVariants.{OutOfMemory};
-ghost use Rattle.kv_trie.specs.Put.{IsMapWith};
+ghost use Rattle.kv_trie.specs.Put.{IsMapWith, pair_of};
 
 use crate::companion::{Alone, Companion};
-use crate::node::Pair;
+use crate::new_pair::NewPair;
+use crate::pending::Pending;
 use crate::trie::Trie;
 use kv_keys::{KvError, Place};
 use std::alloc::Global;
 use std::mem;
-use std::sync::Arc;
 
 // A trie, and the pair that is put into it with a change of another one, or not at all.
 #[derive(Drop)]
 struct Second<K: Place, V> {
     alloc: Global,
     trie: Trie<K, V>,
-    pair: Option<Arc<Pair<K, V>>>,
+    pending: Pending<K, V>,
 }
 
 impl<K: Place + Drop, V: Drop> Companion for Second<K, V> {
-    ghost use Rattle.std.specs.Prelude.{◌≡◌, ◌<◌, ◌-◌, ◌^◌, length, IsSome, Some};
-    ghost use Rattle.std.specs.Arc.{arc_value};
-    ghost use Rattle.std.specs.declared.alloc.Global.{Global};
-    ghost use Rattle.std.specs.declared.sync.Arc.{Arc};
+    ghost use Rattle.std.specs.Prelude.{◌≡◌, ◌<◌, ◌-◌, ◌^◌, length, true};
     ghost use Rattle.kv_trie.specs.Put.{IsMapWith};
 
-    ghost ready = { λ second. IsSome second.pair × (length second.trie < 2 ^ 32 - 1) };
+    ghost ready = { λ second. (second.pending.there ≡ true) × (length second.trie < 2 ^ 32 - 1) };
 
-    ghost done = { λ old new. (pair : Arc (K × V) Global) → old.pair ≡ Some pair →
-        IsMapWith K.cmp K.place_of (arc_value pair) old.trie new.trie };
+    ghost done = { λ old new. IsMapWith K.cmp K.place_of old.pending.pair old.trie new.trie };
 
     ghost kept = { λ old new. new.trie ≡ old.trie };
 
     fn commit(&mut self) -> Result<(), KvError> {
-        match self.pair.take() {
-            Some(pair) => self.trie.put_with(self.alloc, pair, &mut Alone),
-            None => unreachable!(),
-        }
+        self.trie
+            .put_with(self.alloc, &mut self.pending, &mut Alone)
     }
 }
 
@@ -49,23 +42,24 @@ impl<K: Place + Drop, V: Drop> Companion for Second<K, V> {
 pub fn put_both<K1: Place + Drop, V1: Drop, K2: Place + Drop, V2: Drop>(
     alloc: Global,
     first: &mut Trie<K1, V1>,
-    first_pair: Arc<Pair<K1, V1>>,
+    first_pair: NewPair<K1, V1>,
     second: &mut Trie<K2, V2>,
-    second_pair: Arc<Pair<K2, V2>>,
+    second_pair: NewPair<K2, V2>,
 ) -> Result<(), KvError>
     requires first { length first.old < 2 ^ 32 - 1 }
     requires second { length second.old < 2 ^ 32 - 1 }
-    ensures both { OnOk result ((IsMapWith K1.cmp K1.place_of (arc_value first_pair) first.old first.new)
-        × (IsMapWith K2.cmp K2.place_of (arc_value second_pair) second.old second.new)) }
+    ensures both { OnOk result ((IsMapWith K1.cmp K1.place_of (pair_of first_pair) first.old first.new)
+        × (IsMapWith K2.cmp K2.place_of (pair_of second_pair) second.old second.new)) }
     ensures neither { IfErr result (λ error.
         (error ≡ OutOfMemory) × (first.new ≡ first.old) × (second.new ≡ second.old)) }
 {
     let mut companion = Second {
         alloc,
         trie: mem::replace(second, Trie::new()),
-        pair: Some(second_pair),
+        pending: Pending::new(second_pair),
     };
-    let put = first.put_with(alloc, first_pair, &mut companion);
+    let mut pending = Pending::new(first_pair);
+    let put = first.put_with(alloc, &mut pending, &mut companion);
     *second = companion.trie;
     put
 }

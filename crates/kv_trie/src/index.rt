@@ -5,9 +5,9 @@ ghost use Rattle.kv_trie.specs.Form.{index_of};
 
 // The index of a place where `left` levels of branches are left, this one among them.
 pub fn index(place: u32, left: u32) -> usize
-    requires { left < 11 }
+    requires { left < 8 }
     ensures value { result ≡ index_of left place }
-    ensures small { result < 8 }
+    ensures small { result < 16 }
 {
-    ((place >> (3 * (10 - left))) & 7) as usize
+    ((place >> (4 * (7 - left))) & 15) as usize
 }

@@ -14,7 +14,7 @@ use kv_keys::Place;
 /// each key, they have equal keys and the same values at each place.
 pub fn one_map_has_one_list<K: Place, V>()
     ensures { (xs ys : List (K × V)) →
-        Ascends (order K.cmp K.place_of 11) xs → Ascends (order K.cmp K.place_of 11) ys →
+        Ascends (order K.cmp K.place_of 8) xs → Ascends (order K.cmp K.place_of 8) ys →
         ((q : K) → lookup (is_at (K.cmp q)) xs ≡ lookup (is_at (K.cmp q)) ys) →
         AllZip (HaveOneEntry K.cmp) xs ys }
 {}
@@ -22,7 +22,7 @@ pub fn one_map_has_one_list<K: Place, V>()
 /// Where only one key is equal to a key, they are one list.
 pub fn one_map_is_one_list<K: Place, V>()
     ensures { ((a b : K) → K.cmp a b ≡ Equal → a ≡ b) → (xs ys : List (K × V)) →
-        Ascends (order K.cmp K.place_of 11) xs → Ascends (order K.cmp K.place_of 11) ys →
+        Ascends (order K.cmp K.place_of 8) xs → Ascends (order K.cmp K.place_of 8) ys →
         ((q : K) → lookup (is_at (K.cmp q)) xs ≡ lookup (is_at (K.cmp q)) ys) →
         xs ≡ ys }
 {}

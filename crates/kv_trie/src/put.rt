@@ -1,6 +1,6 @@
 //! One more pair in a node, in place where nobody else has it.
 
-ghost use Rattle.std.specs.Prelude.{◌≡◌, ◌≤◌, ◌<◌, ◌-◌, ◌⊎◌, [], ◌∷◌, Some, is_some, IfErr, IfOk, OnErr, OnOk};
+ghost use Rattle.std.specs.Prelude.{◌≡◌, ◌≤◌, ◌<◌, ◌-◌, ◌⊎◌, [], ◌∷◌, Some, true, is_some, IfErr, IfOk, OnErr, OnOk};
 ghost use Rattle.std.specs.Arc.{arc_value};
 ghost use Rattle.std.specs.BTreeMap.{is_at};
 ghost use Rattle.std.specs.Map.{lookup};
@@ -15,14 +15,15 @@ use crate::copy::unshare;
 use crate::index::index;
 use crate::list::put_in_shared;
 use crate::node::{Node, Pair};
+use crate::pending::Pending;
 use crate::rest::no_children;
 use kv_keys::{KvError, Place};
 use std::alloc::Global;
 use std::sync::Arc;
 
 // The children of a branch over one pair.
-fn alone<K: Drop, V: Drop>(pair: Arc<Pair<K, V>>, at: usize) -> [Node<K, V>; 8]
-    requires { at < 8 }
+fn alone<K: Drop, V: Drop>(pair: Arc<Pair<K, V>>, at: usize) -> [Node<K, V>; 16]
+    requires { at < 16 }
     ensures { child_slots result ≡ more at (leaf (arc_value pair)) none }
 {
     let mut children = no_children();
@@ -34,18 +35,19 @@ fn alone<K: Drop, V: Drop>(pair: Arc<Pair<K, V>>, at: usize) -> [Node<K, V>; 8]
 fn list_of_two<K: Place + Drop, V: Drop, C: Companion>(
     alloc: Global,
     old: Arc<Pair<K, V>>,
-    pair: Arc<Pair<K, V>>,
+    pending: &mut Pending<K, V>,
     companion: &mut C,
 ) -> Result<Node<K, V>, KvError>
+    requires there { pending.old.there ≡ true }
     requires ready { C.ready companion.old }
     ensures pairs { IfOk result (λ node. shape_of node
-        ≡ Some (row (put_pair K.cmp (arc_value pair) (arc_value old ∷ [])))) }
+        ≡ Some (row (put_pair K.cmp pending.old.pair (arc_value old ∷ [])))) }
     ensures done { OnOk result (C.done companion.old companion.new) }
     ensures kept { OnErr result ((companion.new ≡ companion.old) ⊎ C.kept companion.old companion.new) }
     ensures err { IfErr result (λ error. error ≡ OutOfMemory) }
 {
     let mut list = Arc::new(alloc, vec![in alloc; old]?)?;
-    put_in_shared(&mut list, pair, companion)?;
+    put_in_shared(alloc, &mut list, pending, companion)?;
     Ok(Node::List(list))
 }
 
@@ -56,25 +58,26 @@ fn put_beside<K: Place + Drop, V: Drop, C: Companion>(
     old: &Arc<Pair<K, V>>,
     left: u32,
     place: u32,
-    pair: Arc<Pair<K, V>>,
+    pending: &mut Pending<K, V>,
     companion: &mut C,
 ) -> Result<Node<K, V>, KvError>
-    requires levels { left ≤ 11 }
-    requires place { place ≡ K.place_of (arc_value pair).0 }
-    requires apart { K.cmp (arc_value pair).0 (arc_value old.now).0 ≡ Equal → ⊥ }
+    requires levels { left ≤ 8 }
+    requires place { place ≡ K.place_of pending.old.pair.0 }
+    requires apart { K.cmp pending.old.pair.0 (arc_value old.now).0 ≡ Equal → ⊥ }
+    requires there { pending.old.there ≡ true }
     requires ready { C.ready companion.old }
-    ensures form { IfOk result (IsFormWith K.cmp K.place_of left (arc_value pair) (arc_value old.now ∷ [])) }
+    ensures form { IfOk result (IsFormWith K.cmp K.place_of left pending.old.pair (arc_value old.now ∷ [])) }
     ensures companion { (OnOk result (C.done companion.old companion.new))
         × (OnErr result ((companion.new ≡ companion.old) ⊎ C.kept companion.old companion.new))
         × (IfErr result (λ error. error ≡ OutOfMemory)) }
 {
     let other = Arc::try_clone(old)?;
     if left == 0 {
-        return list_of_two(alloc, other, pair, companion);
+        return list_of_two(alloc, other, pending, companion);
     }
     let at = index(old.0.place(), left - 1);
     let mut branch = Arc::new(alloc, alone(other, at))?;
-    put_in_branch(alloc, &mut branch, left, place, pair, companion)?;
+    put_in_branch(alloc, &mut branch, left, place, pending, companion)?;
     Ok(Node::Branch(branch))
 }
 
@@ -82,28 +85,36 @@ fn put_beside<K: Place + Drop, V: Drop, C: Companion>(
 #[cycle(put)]
 fn put_below<K: Place + Drop, V: Drop, C: Companion>(
     alloc: Global,
-    children: &mut [Node<K, V>; 8],
+    children: &mut [Node<K, V>; 16],
     left: u32,
     place: u32,
-    pair: Arc<Pair<K, V>>,
+    pending: &mut Pending<K, V>,
     companion: &mut C,
 ) -> Result<bool, KvError>
-    requires levels { left ≤ 11 }
+    requires levels { left ≤ 8 }
     requires some { 0 < left }
     requires forms { AreForms K.cmp K.place_of (left - 1) 0 (child_slots children.old) }
-    requires place { place ≡ K.place_of (arc_value pair).0 }
+    requires place { place ≡ K.place_of pending.old.pair.0 }
+    requires there { pending.old.there ≡ true }
     requires ready { C.ready companion.old }
-    ensures branch { OnOk result (AreFormsWith K.cmp K.place_of left (arc_value pair)
+    ensures branch { OnOk result (AreFormsWith K.cmp K.place_of left pending.old.pair
         (pairs_in (child_slots children.old)) (child_slots children.new)) }
     ensures found { IfOk result (λ found. found
-        ≡ is_some (lookup (is_at (K.cmp (arc_value pair).0)) (pairs_in (child_slots children.old)))) }
+        ≡ is_some (lookup (is_at (K.cmp pending.old.pair.0)) (pairs_in (child_slots children.old)))) }
     ensures unchanged { OnErr result (child_slots children.new ≡ child_slots children.old) }
     ensures companion { (OnOk result (C.done companion.old companion.new))
         × (OnErr result ((companion.new ≡ companion.old) ⊎ C.kept companion.old companion.new))
         × (IfErr result (λ error. error ≡ OutOfMemory)) }
 {
     let at = index(place, left - 1);
-    put(alloc, &mut children[at], left - 1, place, pair, companion)
+    put(
+        alloc,
+        &mut children[at],
+        left - 1,
+        place,
+        pending,
+        companion,
+    )
 }
 
 // Puts the pair below a branch. Where others have the branch too, it is a copy that is changed, and they keep theirs. It
@@ -111,21 +122,22 @@ fn put_below<K: Place + Drop, V: Drop, C: Companion>(
 #[cycle(put)]
 fn put_in_branch<K: Place + Drop, V: Drop, C: Companion>(
     alloc: Global,
-    children: &mut Arc<[Node<K, V>; 8]>,
+    children: &mut Arc<[Node<K, V>; 16]>,
     left: u32,
     place: u32,
-    pair: Arc<Pair<K, V>>,
+    pending: &mut Pending<K, V>,
     companion: &mut C,
 ) -> Result<bool, KvError>
-    requires levels { left ≤ 11 }
+    requires levels { left ≤ 8 }
     requires some { 0 < left }
     requires forms { AreForms K.cmp K.place_of (left - 1) 0 (child_slots (arc_value children.old)) }
-    requires place { place ≡ K.place_of (arc_value pair).0 }
+    requires place { place ≡ K.place_of pending.old.pair.0 }
+    requires there { pending.old.there ≡ true }
     requires ready { C.ready companion.old }
-    ensures branch { OnOk result (AreFormsWith K.cmp K.place_of left (arc_value pair)
+    ensures branch { OnOk result (AreFormsWith K.cmp K.place_of left pending.old.pair
         (pairs_in (child_slots (arc_value children.old))) (child_slots (arc_value children.new))) }
     ensures found { IfOk result (λ found. found
-        ≡ is_some (lookup (is_at (K.cmp (arc_value pair).0)) (pairs_in (child_slots (arc_value children.old))))) }
+        ≡ is_some (lookup (is_at (K.cmp pending.old.pair.0)) (pairs_in (child_slots (arc_value children.old))))) }
     ensures unchanged { OnErr result (child_slots (arc_value children.new) ≡ child_slots (arc_value children.old)) }
     ensures companion { (OnOk result (C.done companion.old companion.new))
         × (OnErr result ((companion.new ≡ companion.old) ⊎ C.kept companion.old companion.new))
@@ -133,7 +145,7 @@ fn put_in_branch<K: Place + Drop, V: Drop, C: Companion>(
 {
     unshare(alloc, children)?;
     let own = Arc::make_mut(children)?;
-    put_below(alloc, own, left, place, pair, companion)
+    put_below(alloc, own, left, place, pending, companion)
 }
 
 // Puts the pair into a node in place of any with an equal key, and lets the companion happen, or does neither. Where
@@ -145,17 +157,18 @@ pub fn put<K: Place + Drop, V: Drop, C: Companion>(
     node: &mut Node<K, V>,
     left: u32,
     place: u32,
-    pair: Arc<Pair<K, V>>,
+    pending: &mut Pending<K, V>,
     companion: &mut C,
 ) -> Result<bool, KvError>
-    requires levels { left ≤ 11 }
+    requires levels { left ≤ 8 }
     requires form { IsNode K.cmp K.place_of left (shape_of node.old) }
-    requires place { place ≡ K.place_of (arc_value pair).0 }
+    requires place { place ≡ K.place_of pending.old.pair.0 }
+    requires there { pending.old.there ≡ true }
     requires ready { C.ready companion.old }
-    ensures form { OnOk result (IsFormWith K.cmp K.place_of left (arc_value pair) (node_pairs (shape_of node.old))
+    ensures form { OnOk result (IsFormWith K.cmp K.place_of left pending.old.pair (node_pairs (shape_of node.old))
         node.new) }
     ensures found { IfOk result (λ found. found
-        ≡ is_some (lookup (is_at (K.cmp (arc_value pair).0)) (node_pairs (shape_of node.old)))) }
+        ≡ is_some (lookup (is_at (K.cmp pending.old.pair.0)) (node_pairs (shape_of node.old)))) }
     ensures done { OnOk result (C.done companion.old companion.new) }
     ensures unchanged { OnErr result (shape_of node.new ≡ shape_of node.old) }
     ensures kept { OnErr result ((companion.new ≡ companion.old) ⊎ C.kept companion.old companion.new) }
@@ -163,22 +176,22 @@ pub fn put<K: Place + Drop, V: Drop, C: Companion>(
 {
     match node {
         Node::Empty => {
+            let pair = pending.take(alloc)?;
             companion.commit()?;
             *node = Node::Leaf(pair);
             Ok(false)
         }
         Node::Leaf(old) => {
-            let found = pair.0.cmp(&old.0).is_eq();
+            let found = pending.key().cmp(&old.0).is_eq();
             if found {
-                companion.commit()?;
-                *node = Node::Leaf(pair);
+                pending.replace(alloc, old, companion)?;
             } else {
-                let new = put_beside(alloc, old, left, place, pair, companion)?;
+                let new = put_beside(alloc, old, left, place, pending, companion)?;
                 *node = new;
             }
             Ok(found)
         }
-        Node::Branch(children) => put_in_branch(alloc, children, left, place, pair, companion),
-        Node::List(pairs) => put_in_shared(pairs, pair, companion),
+        Node::Branch(children) => put_in_branch(alloc, children, left, place, pending, companion),
+        Node::List(pairs) => put_in_shared(alloc, pairs, pending, companion),
     }
 }

@@ -1,7 +1,7 @@
 //! Puts into two tries: both change, or neither.
 
 use super::*;
-use kv_trie::put_both;
+use kv_trie::{NewPair, put_both};
 use std::sync::Arc;
 
 // The names are the keys of the one trie and of the other, in which those of one length have one place. The first and
@@ -27,8 +27,8 @@ fn put_in_both(
     let key = Key::named(alloc, text)?;
     let short = Short::named(alloc, text)?;
     if keys.len() < MANY && shorts.len() < MANY {
-        let of_key = Arc::new(alloc, (key, value))?;
-        let of_short = Arc::new(alloc, (short, value))?;
+        let of_key = NewPair::Owned((key, value));
+        let of_short = NewPair::Shared(Arc::new(alloc, (short, value))?);
         put_both(alloc, keys, of_key, shorts, of_short)
     } else {
         Err(KvError::JournalFull)

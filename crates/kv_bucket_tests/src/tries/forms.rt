@@ -79,24 +79,21 @@ fn is_of(
 }
 
 const THREE_PLACES: &[Part] = &[
-    Part::Branch(1 << 0 | 1 << 4 | 1 << 6),
+    Part::Branch(1 << 6 | 1 << 8 | 1 << 12),
+    Part::Leaf("altarage"),
     Part::Leaf("foobar"),
     Part::Leaf("a"),
-    Part::Leaf("altarage"),
 ];
 
 const ONE_PLACE: &[Part] = &[
     Part::Branch(1 << 6),
-    Part::Branch(1 << 6),
-    Part::Branch(1 << 2),
-    Part::Branch(1 << 4),
-    Part::Branch(1 << 5),
-    Part::Branch(1 << 1),
+    Part::Branch(1 << 11),
+    Part::Branch(1 << 8),
+    Part::Branch(1 << 13),
     Part::Branch(1 << 0),
-    Part::Branch(1 << 3),
+    Part::Branch(1 << 6),
     Part::Branch(1 << 4),
-    Part::Branch(1 << 4),
-    Part::Branch(1 << 3),
+    Part::Branch(1 << 14),
     Part::Pairs("altarage", "zinke"),
 ];
 

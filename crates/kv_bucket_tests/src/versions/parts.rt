@@ -115,8 +115,8 @@ fn what_an_op_does(rt: HostRuntime) {
 fn revisions_as_keys(rt: HostRuntime) {
     let rev = Rev::new(7);
     equal(&rt, rev.number(), 7);
-    equal(&rt, rev.place(), 7 << 18);
-    equal(&rt, Rev::new(8).place(), 1 << 15);
+    equal(&rt, rev.place(), 7 << 16);
+    equal(&rt, Rev::new(16).place(), 1 << 12);
     equal(&rt, Rev::new(4_294_967_295).place(), 4_294_967_295);
     assert!(rt; rev == Rev::new(7));
     assert!(rt; rev < Rev::new(4_294_967_295));

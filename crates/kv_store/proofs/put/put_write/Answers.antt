@@ -15,23 +15,20 @@ use Rattle.kv_store.proofs.put.put_write.Goals as goal
 of_revision : (w : Write) (number n : ℕ) (e : ℕ × Write) → n ≡ w.revision → number ≡ n → e ≡ (number, w) → e ≡ (w.revision, w)
 of_revision w number n e a b f = f ∙ ap (λ r. (r, w)) (b ∙ a)
 
-of_key : (key revisions : List ℕ) (w : Write) (written last : ℕ × Write) (kept : Kept) (e : List ℕ × Kept) → written ≡ (w.revision, w) → last ≡ written → kept ≡ record { revisions = revisions; last = last.1 } → e ≡ (key, kept) → e ≡ (key, record { revisions = revisions; last = w })
-of_key key revisions w written last kept e a b d f =
-    f ∙ ap (λ k. (key, k)) (d ∙ ap (λ v. record { revisions = revisions; last = v }) (ap (λ p. p.1) (b ∙ a)))
+of_key : (revisions : List ℕ) (w : Write) (written last : ℕ × Write) (kept : Kept) → written ≡ (w.revision, w) → last ≡ written → kept ≡ record { revisions = revisions; last = last.1 } → kept ≡ record { revisions = revisions; last = w }
+of_key revisions w written last kept a b d = d ∙ ap (λ v. record { revisions = revisions; last = v }) (ap (λ p. p.1) (b ∙ a))
 
 pub returns-clause-found : goal.returns-clause-found
 returns-clause-found c = λ q.
-    let e = arc_value c.in_ok-of_key.of_key in
     let written : arc_value c.in_ok-written.written ≡ (c.args.write.revision, c.args.write) = of_revision c.args.write _ _ _ c.revision-revision.ensures c.new-number.ensures c.in_ok-written.ensures.ok in
-    let is : e ≡ (c.args.key, record { revisions = c.args.revisions.items; last = c.args.write }) = of_key _ _ _ _ _ _ _ written c.in_ok-last.ensures c.new-2.ensures c.in_ok-of_key.ensures.ok in
-    rw is at (more_by_bytes (λ v. v.revisions) e.0 q e.1 c.args.parts.now.by_key c.put_both.new.first (c.in_ok-put_both.ensures.both.0.1 q))
+    let is : c.new-kept.result ≡ record { revisions = c.args.revisions.items; last = c.args.write } = of_key _ _ _ _ _ written c.in_ok-last.ensures c.new-kept.ensures in
+    rw is at (more_by_bytes (λ v. v.revisions) c.args.key q c.new-kept.result c.args.parts.now.by_key c.put_both.new.first (c.in_ok-put_both.ensures.both.0.1 q))
 
 pub returns-clause-last : goal.returns-clause-last
 returns-clause-last c = λ q.
-    let e = arc_value c.in_ok-of_key.of_key in
     let written : arc_value c.in_ok-written.written ≡ (c.args.write.revision, c.args.write) = of_revision c.args.write _ _ _ c.revision-revision.ensures c.new-number.ensures c.in_ok-written.ensures.ok in
-    let is : e ≡ (c.args.key, record { revisions = c.args.revisions.items; last = c.args.write }) = of_key _ _ _ _ _ _ _ written c.in_ok-last.ensures c.new-2.ensures c.in_ok-of_key.ensures.ok in
-    rw is at (more_by_bytes (λ v. v.last) e.0 q e.1 c.args.parts.now.by_key c.put_both.new.first (c.in_ok-put_both.ensures.both.0.1 q))
+    let is : c.new-kept.result ≡ record { revisions = c.args.revisions.items; last = c.args.write } = of_key _ _ _ _ _ written c.in_ok-last.ensures c.new-kept.ensures in
+    rw is at (more_by_bytes (λ v. v.last) c.args.key q c.new-kept.result c.args.parts.now.by_key c.put_both.new.first (c.in_ok-put_both.ensures.both.0.1 q))
 
 pub returns-clause-len : goal.returns-clause-len
 returns-clause-len c =
@@ -40,7 +37,7 @@ returns-clause-len c =
       length-kept_entries c.put_both.new.first,
       length-kept_entries c.args.parts.now.by_key,
       ap length c.in_ok-put_both.ensures.both.0.0,
-      length-put_pair (order (slice_cmp nat_cmp) fnv32_of 11) (arc_value c.in_ok-of_key.of_key) c.args.parts.now.by_key,
+      length-put_pair (order (slice_cmp nat_cmp) fnv32_of 8) (c.args.key, c.new-kept.result) c.args.parts.now.by_key,
     )
 
 pub returns-clause-put : goal.returns-clause-put
@@ -52,8 +49,8 @@ returns-clause-put c =
     let pairs = rw is at c.in_ok-put_both.ensures.both.1.0 in
     record {
       found = λ r. written_more c.args.write.revision r c.args.write old c.put_both.new.second (map r);
-      len = omega (arith, ap length pairs, length-put_pair (order nat_cmp place_of_revision 11) pair old);
+      len = omega (arith, ap length pairs, length-put_pair (order nat_cmp place_of_revision 8) pair old);
       revisions = λ last l all.
           let Small : ℕ × Write → Type 0 = λ e. e.0 ≤ last in
-          subst (All Small) (sym pairs) (All-put_pair Small (order nat_cmp place_of_revision 11) pair old l all);
+          subst (All Small) (sym pairs) (All-put_pair Small (order nat_cmp place_of_revision 8) pair old l all);
     }

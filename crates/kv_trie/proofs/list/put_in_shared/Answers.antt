@@ -1,7 +1,6 @@
-use Rattle.std.proofs.Common.{rules, map, refl, ap}
+use Rattle.std.proofs.Common.{rules, refl}
 use Rattle.std.specs.Arc.{arc_value}
 use Rattle.std.specs.Result.{IsOk}
-use Rattle.std.proofs.lemmas.Result.{on_err_weaker}
 use Rattle.kv_trie.proofs.Clones.{kept_list}
 use Rattle.kv_trie.proofs.list.put_in_shared.Goals as goal
 
@@ -25,4 +24,4 @@ pub returns-clause-unchanged : goal.returns-clause-unchanged
 returns-clause-unchanged g c =
     let same = kept_list (arc_value c.args.list.now) c.in_ok-own.own.now c.in_ok-own.ensures.value in
     let ok : IsOk c.make_mut.result = rw c.in_ok-own.was refl in
-    rw (c.make_mut.follows.holds c.put_in_list.new.pairs ok, ← same) (on_err_weaker c.put_in_list.result (λ e. ap (λ l. map arc_value l) e) c.put_in_list.ensures.unchanged)
+    rw (c.make_mut.follows.holds c.put_in_list.new.pairs ok, ← same) c.put_in_list.ensures.unchanged
