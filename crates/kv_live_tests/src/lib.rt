@@ -1,8 +1,14 @@
-//! Tests of what threads share, by worked rows, and the examples of docs/library.md with threads. They use public calls
-//! alone.
+//! Tests of what threads share, of waits and of races, and the examples of docs/library.md with threads. They use public
+//! calls alone.
 #![tactic(auto)]
 
 #[cfg(test)]
+mod equal;
+#[cfg(test)]
 mod examples;
 #[cfg(test)]
+mod races;
+#[cfg(test)]
 mod threads;
+#[cfg(test)]
+mod waiting;

@@ -4,6 +4,7 @@
 
 ghost use Rattle.std.specs.Prelude.{◌≡◌};
 
+use crate::equal::equal;
 use calls::{Call, Step, calls, look, put_request, steps};
 use kv_live::{
     Config, Feed, Filters, KvError, Live, LiveName, Opened, Options, Reader, Start, Taken, Version,
@@ -238,9 +239,4 @@ fn last_reads<N: LiveName, R: Abort>(
     let mut reader = last(readers)?;
     reads(rt, &mut reader, answer);
     Ok(())
-}
-
-// Ends the test where what was found is not what was wanted. A call of it is proved sooner than `assert_eq!` in its place.
-fn equal<T: PartialEq + Debug + Drop, R: Abort>(rt: &R, found: T, wanted: T) {
-    assert_eq!(rt; found, wanted);
 }

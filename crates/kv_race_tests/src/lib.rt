@@ -1,5 +1,0 @@
-//! Tests of races, and nothing else. They use public calls alone.
-#![tactic(auto)]
-
-#[cfg(test)]
-mod races;
