@@ -1,10 +1,11 @@
 //! A node of one's own, in place of one that others have too.
 
-ghost use Rattle.std.specs.Prelude.{◌≡◌};
+ghost use Rattle.std.specs.Prelude.{◌≡◌, IfOk, OnOk};
 ghost use Rattle.std.specs.Arc.{arc_value};
 ghost use Rattle.kv_trie.specs.Stored.{shape_of, child_slots};
 
 use crate::node::Node;
+use crate::padded::Padded;
 use crate::rest::no_children;
 use std::alloc::{AllocError, Global};
 use std::sync::Arc;
@@ -36,19 +37,44 @@ fn fetch_owners<K, V>(children: &[Node<K, V>; 16]) {
     }
 }
 
-// Puts a copy of a branch in its place where it has other owners, who keep theirs. The children are copied to where they
-// stay until the branch is made: an array's own `clone` would move each of them once more.
+// Has these children share what those have.
+fn share<K: Drop, V: Drop>(
+    children: &mut [Node<K, V>; 16],
+    others: &[Node<K, V>; 16],
+) -> Result<(), AllocError>
+    ensures { OnOk result (child_slots children.new ≡ child_slots others.now) }
+{
+    for at in 0..16 {
+        children[at] = others[at].clone()?;
+    }
+    Ok(())
+}
+
+// A copy of a branch. Its children are copied to where they stay: an array's own `clone` would move each of them twice. It
+// is not inlined, since the parts of the stack that it uses are cleared first, also where a branch is not copied.
+#[inline(never)]
+fn copy<K: Drop, V: Drop>(
+    alloc: Global,
+    branch: &Padded<[Node<K, V>; 16]>,
+) -> Result<Arc<Padded<[Node<K, V>; 16]>>, AllocError>
+    ensures { IfOk result (λ new. child_slots (arc_value new).value ≡ child_slots branch.now.value) }
+{
+    fetch_owners(&branch.value);
+    let mut new = Arc::new(alloc, Padded::new(no_children()))?;
+    let own = Arc::make_mut(&mut new)?;
+    share(&mut own.value, &branch.value)?;
+    Ok(new)
+}
+
+// Puts a copy of a branch in its place where it has other owners, who keep theirs.
 pub fn unshare<K: Drop, V: Drop>(
     alloc: Global,
-    branch: &mut Arc<[Node<K, V>; 16]>,
+    branch: &mut Arc<Padded<[Node<K, V>; 16]>>,
 ) -> Result<(), AllocError>
-    ensures { child_slots (arc_value branch.new) ≡ child_slots (arc_value branch.old) }
+    ensures { child_slots (arc_value branch.new).value ≡ child_slots (arc_value branch.old).value }
 {
     if Arc::strong_count(branch) != 1 {
-        fetch_owners(branch);
-        let mut children = no_children();
-        children.clone_from_slice(&branch[..])?;
-        *branch = Arc::new(alloc, children)?;
+        *branch = copy(alloc, branch)?;
     }
     Ok(())
 }

@@ -15,6 +15,7 @@ use crate::copy::unshare;
 use crate::index::index;
 use crate::list::put_in_shared;
 use crate::node::{Node, Pair};
+use crate::padded::Padded;
 use crate::pending::Pending;
 use crate::rest::no_children;
 use kv_keys::{KvError, Place};
@@ -76,7 +77,7 @@ fn put_beside<K: Place + Drop, V: Drop, C: Companion>(
         return list_of_two(alloc, other, pending, companion);
     }
     let at = index(old.0.place(), left - 1);
-    let mut branch = Arc::new(alloc, alone(other, at))?;
+    let mut branch = Arc::new(alloc, Padded::new(alone(other, at)))?;
     put_in_branch(alloc, &mut branch, left, place, pending, companion)?;
     Ok(Node::Branch(branch))
 }
@@ -122,7 +123,7 @@ fn put_below<K: Place + Drop, V: Drop, C: Companion>(
 #[cycle(put)]
 fn put_in_branch<K: Place + Drop, V: Drop, C: Companion>(
     alloc: Global,
-    children: &mut Arc<[Node<K, V>; 16]>,
+    children: &mut Arc<Padded<[Node<K, V>; 16]>>,
     left: u32,
     place: u32,
     pending: &mut Pending<K, V>,
@@ -130,22 +131,22 @@ fn put_in_branch<K: Place + Drop, V: Drop, C: Companion>(
 ) -> Result<bool, KvError>
     requires levels { left ≤ 8 }
     requires some { 0 < left }
-    requires forms { AreForms K.cmp K.place_of (left - 1) 0 (child_slots (arc_value children.old)) }
+    requires forms { AreForms K.cmp K.place_of (left - 1) 0 (child_slots (arc_value children.old).value) }
     requires place { place ≡ K.place_of pending.old.pair.0 }
     requires there { pending.old.there ≡ true }
     requires ready { C.ready companion.old }
     ensures branch { OnOk result (AreFormsWith K.cmp K.place_of left pending.old.pair
-        (pairs_in (child_slots (arc_value children.old))) (child_slots (arc_value children.new))) }
+        (pairs_in (child_slots (arc_value children.old).value)) (child_slots (arc_value children.new).value)) }
     ensures found { IfOk result (λ found. found
-        ≡ is_some (lookup (is_at (K.cmp pending.old.pair.0)) (pairs_in (child_slots (arc_value children.old))))) }
-    ensures unchanged { OnErr result (child_slots (arc_value children.new) ≡ child_slots (arc_value children.old)) }
+        ≡ is_some (lookup (is_at (K.cmp pending.old.pair.0)) (pairs_in (child_slots (arc_value children.old).value)))) }
+    ensures unchanged { OnErr result (child_slots (arc_value children.new).value ≡ child_slots (arc_value children.old).value) }
     ensures companion { (OnOk result (C.done companion.old companion.new))
         × (OnErr result ((companion.new ≡ companion.old) ⊎ C.kept companion.old companion.new))
         × (IfErr result (λ error. error ≡ OutOfMemory)) }
 {
     unshare(alloc, children)?;
     let own = Arc::make_mut(children)?;
-    put_below(alloc, own, left, place, pending, companion)
+    put_below(alloc, &mut own.value, left, place, pending, companion)
 }
 
 // Puts the pair into a node in place of any with an equal key, and lets the companion happen, or does neither. Where

@@ -13,6 +13,7 @@ ghost use Rattle.kv_trie.specs.Trie.{IsRoot, root_pairs};
 
 use crate::list::take_only;
 use crate::node::{Node, Pair};
+use crate::padded::Padded;
 use crate::rest::take_rest;
 use crate::wants::Wants;
 use kv_keys::Place;
@@ -130,7 +131,7 @@ fn node_of_children<K: Drop, V: Drop>(
     let mut children = children;
     match take_rest(&mut children) {
         Some(node) => Ok(node),
-        None => Ok(Node::Branch(Arc::new(alloc, children)?)),
+        None => Ok(Node::Branch(Arc::new(alloc, Padded::new(children))?)),
     }
 }
 
@@ -193,7 +194,7 @@ pub fn retain<K: Place + Drop, V: Drop, W: Wants<K, V>>(
             *gone += 1;
             Ok(Some(Node::Empty))
         }
-        Node::Branch(children) => retain_below(alloc, children, left, wants, gone),
+        Node::Branch(children) => retain_below(alloc, &children.value, left, wants, gone),
         Node::List(pairs) => retain_listed(alloc, pairs, wants, gone),
     }
 }

@@ -39,7 +39,7 @@ fn end_of(node: &Node<Key, u32>, parts: &[Part], at: usize) -> Option<usize> {
         Some(Part::Branch(map)) => match node {
             Node::Branch(children) => {
                 let mut end = at + 1;
-                for (index, child) in children.iter().enumerate() {
+                for (index, child) in children.value.iter().enumerate() {
                     if (*map >> index) & 1 == 1 {
                         match end_of(child, parts, end) {
                             Some(after) => end = after,

@@ -160,7 +160,7 @@ fn is_shared(node: &Node<Key, u32>) -> bool {
 fn shared_children(trie: &Numbers<Key>) -> u64 {
     let mut same: u64 = 0;
     if let Node::Branch(children) = trie.root() {
-        for child in children.iter() {
+        for child in children.value.iter() {
             if is_shared(child) {
                 same = same.saturating_add(1);
             }

@@ -23,7 +23,7 @@ put-returns-in-Branch-clause-form g t c =
     let left = c.args.left in
     let pair = c.args.pending.now.pair in
     let b = is_branch cmp place left c.in-Branch.children c.in-Branch.is c.requires.form in
-    let n = length-put_pair (order cmp place left) pair (pairs_in (child_slots (arc_value c.in-Branch.children))) in
+    let n = length-put_pair (order cmp place left) pair (pairs_in (child_slots (arc_value c.in-Branch.children).value)) in
     let made : OnOk c.put_in_branch.result (IsFormWith cmp place left pair (node_pairs (shape_of c.args.node.now)) (Branch c.put_in_branch.new.children)) =
     rw b.pairs (on_ok_weaker c.put_in_branch.result (λ with. form_with cmp place b.levels (omega (arith, n, b.two)) (record { slots = _; shape = shape_of-Branch c.put_in_branch.new.children; with = with })) (rw c.in-Branch.children-is at c.put_in_branch.ensures.branch))
     in
@@ -106,7 +106,7 @@ pub put_in_branch-returns-clause-branch : goal.put_in_branch-returns-clause-bran
 put_in_branch-returns-clause-branch g t c =
     let same = kept_children (arc_value c.unshare.new.branch) c.in_ok-own.own.now c.in_ok-own.ensures.value ∙ c.unshare.ensures in
     let ok : IsOk c.make_mut.result = rw c.in_ok-own.was refl in
-    rw (c.make_mut.follows.holds c.put_below.new.children ok, ← same) c.put_below.ensures.branch
+    rw (c.make_mut.follows.holds (record c.in_ok-own.own.now { value = c.put_below.new.children }) ok, ← same) c.put_below.ensures.branch
 
 pub put_in_branch-returns-clause-found : goal.put_in_branch-returns-clause-found
 put_in_branch-returns-clause-found g t c =
@@ -117,7 +117,7 @@ pub put_in_branch-returns-clause-unchanged : goal.put_in_branch-returns-clause-u
 put_in_branch-returns-clause-unchanged g t c =
     let same = kept_children (arc_value c.unshare.new.branch) c.in_ok-own.own.now c.in_ok-own.ensures.value ∙ c.unshare.ensures in
     let ok : IsOk c.make_mut.result = rw c.in_ok-own.was refl in
-    rw (c.make_mut.follows.holds c.put_below.new.children ok, ← same) c.put_below.ensures.unchanged
+    rw (c.make_mut.follows.holds (record c.in_ok-own.own.now { value = c.put_below.new.children }) ok, ← same) c.put_below.ensures.unchanged
 
 pub put_beside-put_in_branch-requires : goal.put_beside-put_in_branch-requires
 put_beside-put_in_branch-requires g t c κs within =
@@ -126,7 +126,7 @@ put_beside-put_in_branch-requires g t c κs within =
     let below = c.args.left - 1 in
     let old = arc_value c.args.old.now in
     let at = c.index-at.ensures.value ∙ ap (index_of below) (rw c.deref.ensures at c.place.ensures) in
-    let s : AreForms cmp place below 0 (child_slots (arc_value c.in_ok-branch.branch)) = rw (c.in_ok-branch.ensures.ok, c.alone.ensures, c.in_ok-other.ensures) (alone_forms cmp place below c.index-at.result old at) in
+    let s : AreForms cmp place below 0 (child_slots (arc_value c.in_ok-branch.branch).value) = rw (c.in_ok-branch.ensures.ok, c.new.ensures, c.alone.ensures, c.in_ok-other.ensures) (alone_forms cmp place below c.index-at.result old at) in
     (omega (arith, c.decreases), (within.0, (within.1.0, (within.1.1, (omega arith, (c.requires.levels, (omega arith, (s, (c.requires.place, (c.requires.there, c.requires.ready))))))))))
 
 pub put_beside-returns-clause-form : goal.put_beside-returns-clause-form
@@ -136,7 +136,7 @@ put_beside-returns-clause-form g t c =
     let left = c.args.left in
     let pair = c.args.pending.now.pair in
     let old = arc_value c.args.old.now in
-    let with = rw (c.in_ok-branch.ensures.ok, c.alone.ensures, c.in_ok-other.ensures) at c.in_ok-put_in_branch.ensures.branch in
+    let with = rw (c.in_ok-branch.ensures.ok, c.new.ensures, c.alone.ensures, c.in_ok-other.ensures) at c.in_ok-put_in_branch.ensures.branch in
     form_with cmp place (omega arith) (two_with cmp place left pair old c.requires.apart) (record { slots = _; shape = shape_of-Branch c.put_in_branch.new.children; with = with })
 
 pub put-returns-in-Branch-clause-unchanged : goal.put-returns-in-Branch-clause-unchanged
