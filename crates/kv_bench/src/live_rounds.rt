@@ -5,7 +5,7 @@ ghost use Rattle.std.specs.Prelude.{◌≡◌};
 use crate::jobs::{Job, perform_all};
 use crate::lives::{Follows, Load, Reads, Writes, fill, opened, spread_load};
 use crate::round::{ASKED, Done, Round, Task};
-use crate::told::{Over, Told, most, numbers};
+use crate::told::{Over, most, tell_all, untold};
 use kv_gauge::fault::Fault;
 use kv_gauge::plan::Plan;
 use kv_gauge::watching::UPDATES;
@@ -95,20 +95,22 @@ fn round<N: LiveName + Send + Sync, R: Threads + Wait + Sync + Clock + CpuClock>
     perform_all(rt, alloc, &round, jobs)
 }
 
+// One round for each number of threads in turn, so that a short disturbance meets few rounds of the same number.
 fn figures<N: LiveName + Send + Sync, R: Threads + Wait + Sync + Clock + CpuClock + Print>(
     rt: &R,
     alloc: Global,
     plan: Plan,
     task: Task,
     ground: &Lively<'_, N>,
-    others: usize,
 ) -> Result<(), Fault> {
-    let mut told = Told::new(alloc, plan, task, Over::Live, others);
+    let mut all = untold(alloc, plan, task, Over::Live)?;
     for _ in 0..plan.rounds {
-        let done = round(rt, alloc, plan, task, ground, others)?;
-        told.add_round(task, done.as_slice())?;
+        for told in all.iter_mut() {
+            let done = round(rt, alloc, plan, task, ground, told.number)?;
+            told.add_round(task, done.as_slice())?;
+        }
     }
-    told.tell(rt, task)
+    tell_all(rt, task, &mut all)
 }
 
 fn live_figures<N: LiveName + Send + Sync, R: Threads + Wait + Sync + Clock + CpuClock + Print>(
@@ -121,10 +123,7 @@ fn live_figures<N: LiveName + Send + Sync, R: Threads + Wait + Sync + Clock + Cp
     fill(rt, alloc, live, plan.keys)?;
     let load = spread_load(alloc, plan, ASKED)?;
     let ground = Lively { live, load: &load };
-    for others in numbers(task) {
-        figures(rt, alloc, plan, task, &ground, *others)?;
-    }
-    Ok(())
+    figures(rt, alloc, plan, task, &ground)
 }
 
 fn opened_figures<N: LiveName + Send + Sync, R: Threads + Wait + Sync + Clock + CpuClock + Print>(

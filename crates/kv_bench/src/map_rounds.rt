@@ -4,7 +4,7 @@ use crate::jobs::{Job, perform_all};
 use crate::maps::{Locked, filled, texts};
 use crate::round::{ASKED, Done, Round, Task};
 use crate::sides::{Puts, Takes};
-use crate::told::{Over, Told, numbers};
+use crate::told::{Over, tell_all, untold};
 use crossbeam_channel::{Receiver, Sender, unbounded};
 use kv_gauge::fault::Fault;
 use kv_gauge::keys::VALUE;
@@ -163,20 +163,22 @@ fn round<R: Threads + Wait + Sync + Clock + CpuClock>(
     perform_all(rt, alloc, &round, jobs)
 }
 
+// One round for each number of threads in turn, as of a live bucket.
 fn figures<R: Threads + Wait + Sync + Clock + CpuClock + Print>(
     rt: &R,
     alloc: Global,
     plan: Plan,
     task: Task,
     ground: &Plain<'_>,
-    others: usize,
 ) -> Result<(), Fault> {
-    let mut told = Told::new(alloc, plan, task, Over::Map, others);
+    let mut all = untold(alloc, plan, task, Over::Map)?;
     for _ in 0..plan.rounds {
-        let done = round(rt, alloc, plan, task, ground, others)?;
-        told.add_round(task, done.as_slice())?;
+        for told in all.iter_mut() {
+            let done = round(rt, alloc, plan, task, ground, told.number)?;
+            told.add_round(task, done.as_slice())?;
+        }
     }
-    told.tell(rt, task)
+    tell_all(rt, task, &mut all)
 }
 
 /// Fills a map, and measures rounds of threads over it.
@@ -192,8 +194,5 @@ pub fn run<R: Threads + Wait + Sync + Clock + CpuClock + Print>(
         lock: &lock,
         texts: texts.as_slice(),
     };
-    for others in numbers(task) {
-        figures(rt, alloc, plan, task, &ground, *others)?;
-    }
-    Ok(())
+    figures(rt, alloc, plan, task, &ground)
 }

@@ -23,8 +23,7 @@ pub enum Over {
     Map,
 }
 
-/// How many threads there are beside the writer, round after round.
-pub fn numbers(task: Task) -> &'static [usize] {
+fn numbers(task: Task) -> &'static [usize] {
     match task {
         Task::Read => READERS,
         Task::Follow => FEEDS,
@@ -37,8 +36,10 @@ pub fn most(task: Task) -> usize {
     numbers(task).last().copied().unwrap_or(0)
 }
 
-/// What rounds with so many others gave: what the others did, and the writer's writes and its processor time.
+/// What rounds with so many beside the writer gave: what these did, and the writer's writes and its processor time.
 pub struct Told {
+    /// How many there are beside the writer.
+    pub number: usize,
     others: Series,
     writes: Series,
     busy: Series,
@@ -47,6 +48,7 @@ pub struct Told {
 impl Drop for Told {
     fn drop(self) {
         let Self {
+            number: _,
             others: _,
             writes: _,
             busy: _,
@@ -109,8 +111,8 @@ fn add_delays(series: &mut Series, written: &[u64], handed: &[u64]) -> Result<()
 
 impl Told {
     /// No rounds yet.
-    pub fn new(alloc: Global, plan: Plan, task: Task, over: Over, others: usize) -> Told {
-        let name = named(over, task, others);
+    fn new(alloc: Global, plan: Plan, task: Task, over: Over, number: usize) -> Told {
+        let name = named(over, task, number);
         let writes = Name {
             what: "writes",
             unit: "a second",
@@ -122,6 +124,7 @@ impl Told {
             ..name
         };
         Told {
+            number,
             others: Series::new(alloc, name, plan),
             writes: Series::new(alloc, writes, plan),
             busy: Series::new(alloc, busy, plan),
@@ -164,11 +167,28 @@ impl Told {
         }
     }
 
-    /// Tells the figures. Of delays the most is that which 99 of 100 are not above.
-    pub fn tell<R: Print>(&mut self, rt: &R, task: Task) -> Result<(), Fault> {
+    // Tells the figures. Of delays the most is that which 99 of 100 are not above.
+    fn tell<R: Print>(&mut self, rt: &R, task: Task) -> Result<(), Fault> {
         let percent = if let Task::Delay = task { 99 } else { 100 };
         self.others.tell_up_to(rt, percent)?;
         self.writes.tell(rt)?;
         self.busy.tell(rt)
     }
+}
+
+/// No rounds yet, for each number of threads beside the writer.
+pub fn untold(alloc: Global, plan: Plan, task: Task, over: Over) -> Result<Vec<Told>, Fault> {
+    let mut all = Vec::new(alloc);
+    for number in numbers(task) {
+        all.push(Told::new(alloc, plan, task, over, *number))?;
+    }
+    Ok(all)
+}
+
+/// Tells the figures of all.
+pub fn tell_all<R: Print>(rt: &R, task: Task, all: &mut Vec<Told>) -> Result<(), Fault> {
+    for told in all.iter_mut() {
+        told.tell(rt, task)?;
+    }
+    Ok(())
 }
