@@ -1,4 +1,5 @@
 mod Cases
+pub mod KeyBytes
 pub mod Keys
 pub mod Parts
 pub mod Tokens

@@ -1,8 +1,9 @@
 //! What the names of buckets, keys and filters are made of.
 
-ghost use Rattle.std.specs.Prelude.{◌≡◌};
+ghost use Rattle.std.specs.Prelude.{◌≡◌, ◌&&◌};
 ghost use Rattle.std.specs.List.{list_all};
 ghost use Rattle.kv_keys.specs.Matching.{tokens};
+ghost use Rattle.kv_keys.specs.inside.Following.{may_follow};
 ghost use Rattle.kv_keys.specs.Grammar.{has_one_to, is_present, is_name_character, is_name, is_key_character, is_key, is_literal, are_filter_tokens, is_filter};
 
 use crate::matching::{first_token, is_rest};
@@ -49,10 +50,29 @@ fn all_key_characters(bytes: &[u8]) -> bool
     bytes.iter().all(|byte| is_key_character(*byte))
 }
 
-fn all_tokens_present(text: &str) -> bool
-    ensures { result ≡ list_all is_present (tokens text.now) }
+// Whether a byte of a key may stand here: a dot only behind a token that has begun.
+fn may_follow(has_begun: bool, byte: u8) -> bool
+    ensures { result ≡ may_follow has_begun byte }
 {
-    text.split('.').all(|token| !token.is_empty())
+    if byte == b'.' {
+        has_begun
+    } else {
+        is_key_character(byte)
+    }
+}
+
+// Whether the bytes are characters of keys, and no token between the dots is empty. Each is looked at once.
+fn are_key_tokens(bytes: &[u8]) -> bool
+    ensures { result ≡ (list_all is_key_character bytes.now && list_all is_present (tokens bytes.now)) }
+{
+    let mut has_begun = false;
+    for byte in bytes {
+        if !may_follow(has_begun, *byte) {
+            return false;
+        }
+        has_begun = *byte != b'.';
+    }
+    has_begun
 }
 
 /// Whether this is a key.
@@ -60,7 +80,7 @@ fn all_tokens_present(text: &str) -> bool
 pub(crate) fn is_key(text: &str) -> bool
     ensures { result ≡ is_key text.now }
 {
-    has_one_to(MOST_OF_KEY, text) && all_key_characters(text.as_bytes()) && all_tokens_present(text)
+    has_one_to(MOST_OF_KEY, text) && are_key_tokens(text.as_bytes())
 }
 
 fn is_literal(token: &str) -> bool
