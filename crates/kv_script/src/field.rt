@@ -10,6 +10,7 @@ ghost use Rattle.kv_script.specs.inside.Sends.{SendsFront};
 ghost use Rattle.kv_script.specs.Line.{line};
 
 use crate::json_line::append_line;
+use crate::unsent::Unsent;
 use serde::{Described, Serialize, Serializer};
 use std::alloc::{AllocError, Global};
 
@@ -22,29 +23,44 @@ pub(crate) enum Field<'a> {
 }
 
 /// Sends a member that is a text.
-pub(crate) fn send_text<S: Serializer>(out: &mut S, name: &str, text: &str) -> Result<(), S::Error>
+pub(crate) fn send_text<S: Serializer>(out: &mut S, name: &str, text: &str) -> Result<(), Unsent>
     ensures { OnOk result (SendsFront (member name.now (string text.now)) (S.written out.old) (S.written out.new)) }
 {
-    out.key(name)?;
-    out.str(text)
+    let Ok(()) = out.key(name) else {
+        return Err(Unsent);
+    };
+    let Ok(()) = out.str(text) else {
+        return Err(Unsent);
+    };
+    Ok(())
 }
 
 /// Sends a member that is a number.
-pub(crate) fn send_number<S: Serializer>(out: &mut S, name: &str, n: u64) -> Result<(), S::Error>
+pub(crate) fn send_number<S: Serializer>(out: &mut S, name: &str, n: u64) -> Result<(), Unsent>
     ensures { OnOk result (SendsFront (number_field name.now n) (S.written out.old) (S.written out.new)) }
 {
-    out.key(name)?;
-    out.u64(n)
+    let Ok(()) = out.key(name) else {
+        return Err(Unsent);
+    };
+    let Ok(()) = out.u64(n) else {
+        return Err(Unsent);
+    };
+    Ok(())
 }
 
-fn send_truth<S: Serializer>(out: &mut S, name: &str, truth: bool) -> Result<(), S::Error>
+fn send_truth<S: Serializer>(out: &mut S, name: &str, truth: bool) -> Result<(), Unsent>
     ensures { OnOk result (SendsFront (member name.now (boolean truth)) (S.written out.old) (S.written out.new)) }
 {
-    out.key(name)?;
-    out.bool(truth)
+    let Ok(()) = out.key(name) else {
+        return Err(Unsent);
+    };
+    let Ok(()) = out.bool(truth) else {
+        return Err(Unsent);
+    };
+    Ok(())
 }
 
-fn send_field<S: Serializer>(out: &mut S, field: Field<'_>) -> Result<(), S::Error>
+fn send_field<S: Serializer>(out: &mut S, field: Field<'_>) -> Result<(), Unsent>
     ensures { OnOk result (SendsFront (field_of field.entry) (S.written out.old) (S.written out.new)) }
 {
     match field {
@@ -66,7 +82,9 @@ impl Serialize for Object<'_> {
     fn serialize<S: Serializer>(&self, out: &mut S) -> Result<(), S::Error> {
         out.begin_map(Some(self.0.len()))?;
         for field in self.0 {
-            send_field(out, *field)?;
+            let Ok(()) = send_field(out, *field) else {
+                return Err(out.custom("unsent"));
+            };
         }
         out.end_map()
     }

@@ -96,6 +96,7 @@ fn many_words_command(alloc: Global, line: &str) -> Result<Command, KvError>
 }
 
 /// Reads a line none of whose words may be empty. Up to three words take no list in memory.
+#[inline(always)]
 pub(crate) fn plain_command(alloc: Global, line: &str) -> Result<Command, KvError>
     ensures { Gives result (present_words_command (words_of line.now)) }
 {
@@ -111,6 +112,7 @@ pub(crate) fn plain_command(alloc: Global, line: &str) -> Result<Command, KvErro
     present_words_command(alloc, &[name, first, more])
 }
 
+#[inline(always)]
 fn command_in(alloc: Global, form: Form, line: &str) -> Result<Command, KvError>
     ensures { Gives result (command_in form (words_of line.now)) }
 {
@@ -123,6 +125,8 @@ fn command_in(alloc: Global, form: Form, line: &str) -> Result<Command, KvError>
 /// Reads a line, without its end, that is not to be skipped, and whose value stands in this form. A line that is no
 /// command is refused before its key or filters are read, and those before options that clash. Memory goes to the
 /// command, and to the list of the words where they are more than three.
+// A command fills twelve words, which each function that hands it on would copy: so it is read in its caller's place.
+#[inline(always)]
 #[tactic(auto, unfolding(crate::specs::Commands::line_command))]
 pub fn parse(alloc: Global, form: Form, line: &[u8]) -> Result<Command, KvError>
     ensures { Gives result (line_command form line.now) }

@@ -19,6 +19,7 @@ mod refusals;
 mod shown;
 mod status;
 mod taken;
+mod unsent;
 mod values;
 mod watches;
 mod words;

@@ -1,6 +1,6 @@
 //! An entry as an answer shows it.
 
-ghost use Rattle.std.specs.Prelude.{◌≡◌, IfOk, OnOk, Some, codes, string_bytes};
+ghost use Rattle.std.specs.Prelude.{◌≡◌, IfOk, IfSome, OnOk, Some, codes, string_bytes};
 ghost use Rattle.std.specs.Option.{option_copied};
 ghost use Rattle.base64.specs.Engines.{standard};
 ghost use Rattle.base64.specs.GeneralPurpose.{encode_of};
@@ -13,11 +13,15 @@ ghost use Rattle.kv_script.specs.declared.form.Form.TheVariants.{Text};
 
 use crate::field::{send_number, send_text};
 use crate::form::Form;
+use crate::unsent::Unsent;
 use base64::engine::general_purpose::STANDARD;
 use kv_model::Op;
 use serde::{Described, Serialize, Serializer};
 use std::alloc::{AllocError, Global};
 use std::str;
+
+/// How many bytes of base64 are made without memory of their own: those of 48 bytes.
+const SHORT_BYTES: usize = 64;
 
 /// An entry by its parts: with its value in this form, if that is shown, and with the watch that hands it out, if one
 /// does.
@@ -44,7 +48,7 @@ fn op_name(op: Op) -> &'static str
 }
 
 // What an entry has but for its value.
-fn send_head<S: Serializer>(shown: &Shown<'_>, out: &mut S) -> Result<(), S::Error>
+fn send_head<S: Serializer>(shown: &Shown<'_>, out: &mut S) -> Result<(), Unsent>
     ensures { OnOk result (SendsFront (head_of shown.now) (S.written out.old) (S.written out.new)) }
 {
     send_text(out, "key", shown.key)?;
@@ -53,10 +57,22 @@ fn send_head<S: Serializer>(shown: &Shown<'_>, out: &mut S) -> Result<(), S::Err
     send_number(out, "size", shown.size)
 }
 
+// A value in base64, with padding (RFC 4648, section 4).
+#[inline(never)]
 fn base64_of(alloc: Global, value: &[u8]) -> Result<String, AllocError>
     ensures { IfOk result (λ text. string_bytes text ≡ encode_of standard value.now) }
 {
     STANDARD.encode(alloc, value)
+}
+
+// A short value in base64, which takes no memory of its own.
+fn short_base64<'r>(value: &[u8], room: &'r mut [u8; SHORT_BYTES]) -> Option<&'r str>
+    ensures { IfSome result (λ text. text.now ≡ encode_of standard value.now) }
+{
+    let Ok(count) = STANDARD.encode_slice(value, room) else {
+        return None;
+    };
+    str::from_utf8(&room[..count]).ok()
 }
 
 // A member of this name that is the value in base64.
@@ -65,14 +81,18 @@ fn send_base64<S: Serializer>(
     out: &mut S,
     name: &str,
     value: &[u8],
-) -> Result<(), S::Error>
+) -> Result<(), Unsent>
     ensures { OnOk result (SendsFront (member name.now (string (encode_of standard value.now)))
         (S.written out.old) (S.written out.new)) }
 {
-    match base64_of(alloc, value) {
-        Ok(text) => send_text(out, name, text.as_str()),
-        Err(_) => Err(out.custom("out of memory")),
+    let mut room = [0u8; SHORT_BYTES];
+    if let Some(text) = short_base64(value, &mut room) {
+        return send_text(out, name, text);
     }
+    let Ok(text) = base64_of(alloc, value) else {
+        return Err(Unsent);
+    };
+    send_text(out, name, text.as_str())
 }
 
 // All members but for the watch, of a put whose value stands as it is, if it is text.
@@ -80,7 +100,7 @@ fn send_text_front<S: Serializer>(
     shown: &Shown<'_>,
     value: &[u8],
     out: &mut S,
-) -> Result<(), S::Error>
+) -> Result<(), Unsent>
     ensures { OnOk result (SendsFront (front_with Text shown.now (Some value.now))
         (S.written out.old) (S.written out.new)) }
 {
@@ -97,11 +117,7 @@ fn send_text_front<S: Serializer>(
 }
 
 // All members but for the watch, of a put.
-fn send_put_front<S: Serializer>(
-    shown: &Shown<'_>,
-    value: &[u8],
-    out: &mut S,
-) -> Result<(), S::Error>
+fn send_put_front<S: Serializer>(shown: &Shown<'_>, value: &[u8], out: &mut S) -> Result<(), Unsent>
     ensures { OnOk result (SendsFront (front_with shown.now.form shown.now (Some value.now))
         (S.written out.old) (S.written out.new)) }
 {
@@ -115,7 +131,7 @@ fn send_put_front<S: Serializer>(
 }
 
 // All members but for the watch, of an entry whose value is shown or not.
-fn send_front<S: Serializer>(shown: &Shown<'_>, out: &mut S) -> Result<(), S::Error>
+fn send_front<S: Serializer>(shown: &Shown<'_>, out: &mut S) -> Result<(), Unsent>
     ensures { OnOk result (SendsFront (front_with shown.now.form shown.now (option_copied shown.now.value))
         (S.written out.old) (S.written out.new)) }
 {
@@ -131,7 +147,9 @@ fn send_end<S: Serializer>(watch: Option<u64>, out: &mut S) -> Result<(), S::Err
 {
     match watch {
         Some(watch) => {
-            send_number(out, "watch", watch)?;
+            let Ok(()) = send_number(out, "watch", watch) else {
+                return Err(out.custom("unsent"));
+            };
             out.end_map()
         }
         None => out.end_map(),
@@ -156,7 +174,9 @@ impl Described for Shown<'_> {
 impl Serialize for Shown<'_> {
     fn serialize<S: Serializer>(&self, out: &mut S) -> Result<(), S::Error> {
         out.begin_map(Some(count(self)))?;
-        send_front(self, out)?;
+        let Ok(()) = send_front(self, out) else {
+            return Err(out.custom("unsent"));
+        };
         send_end(self.watch, out)
     }
 }

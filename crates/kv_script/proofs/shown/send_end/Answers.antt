@@ -2,6 +2,6 @@ use Rattle.std.proofs.lemmas.Result.{on_ok_weaker}
 use Rattle.serde_json.specs.Data.{no_members}
 use Rattle.kv_script.proofs.shown.send_end.Goals as goal
 
-pub returns-in_ok-send_number-in-Some : goal.returns-in_ok-send_number-in-Some
-returns-in_ok-send_number-in-Some g c =
-    rw c.in-Some.is (on_ok_weaker c.end_map.result (λ ended. c.in_ok-send_number-in-Some.ensures no_members _ ended) c.end_map.ensures)
+pub returns-in-Ok : goal.returns-in-Ok
+returns-in-Ok g c =
+    rw c.in-Some.is (on_ok_weaker c.end_map.result (λ ended. c.in-Ok.ensures no_members _ ended) c.end_map.ensures)

@@ -7,4 +7,4 @@ pub returns : goal.returns
 returns g c =
     let first = g.S.Serializer.written c.begin_map.new.self in
     let begun = subst (λ n. Logs (g.S.Serializer.written c.args.out.now) first (map_begins (Some n))) c.count.ensures c.in_ok-begin_map.ensures in
-    on_ok_weaker c.send_end.result (λ ended. (first, begun, c.in_ok-send_front.ensures _ _ ended)) c.send_end.ensures
+    on_ok_weaker c.send_end.result (λ ended. (first, begun, c.in-Ok.ensures _ _ ended)) c.send_end.ensures
