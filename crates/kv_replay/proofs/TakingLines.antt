@@ -95,6 +95,13 @@ holds_within r part script script' holding is = subst (Holds (within KEPT_BYTES 
   line = ap (λ line. grown KEPT_BYTES line part) holding.line;
 })
 
+-- where none has begun, bytes that are kept whole are the line
+pub within_whole : (r : Reading State) (part : List ℕ) (script : Scripted) → Holds r script → script.line ≡ [] → length part ≤ KEPT_BYTES
+    → within KEPT_BYTES r part ≡ record { state = r.state; line = part }
+within_whole r part script holding none fits =
+    let empty : r.line ≡ [] = sym holding.line ∙ none in
+    ap (λ line. record { state = r.state; line = line }) (rw (empty, take_all (KEPT_BYTES + 1) part (omega (arith, fits))) refl)
+
 -- some of the bytes were taken: what they say waits or went, and what is left completes what all say
 pub record Took (form : Form) (r : Reading State) (bytes : List ℕ) (held : Option (List ℕ)) (before : List ℕ) (wrote : Option (List ℕ)) (out : List ℕ) (script : Scripted) (left : List ℕ) : Type 0 where
   pub reading : Reading State

@@ -1,6 +1,7 @@
 //! A script that is being read: the bucket so far, and the line that has begun.
 
 ghost use Rattle.std.specs.Prelude.{◌≡◌, ◌++◌, [], OnOk, IfErr, IsErrOf};
+ghost use Rattle.kv_bucket.specs.Held.{Represents};
 ghost use Rattle.kv_model.specs.State.{State};
 ghost use Rattle.kv_replay.specs.Faults.{IsWriteOrMemory};
 ghost use Rattle.kv_replay.specs.inside.Reading.{Reading, after_bytes, ended, grown, line_ended, said, within};
@@ -87,6 +88,38 @@ impl Script {
         Ok(())
     }
 
+    /// Answers a line that lies whole in what was read, where none has begun.
+    #[tactic(auto, unfolding(crate::specs::Text::line_text, crate::specs::Text::line_next))]
+    fn answer_whole<K: Output>(
+        &mut self,
+        alloc: Global,
+        form: Form,
+        line: &[u8],
+        out: &mut Vec<u8>,
+        sink: &mut K,
+    ) -> Result<(), KvError>
+        ensures same { K.goes_on sink.old sink.new }
+        ensures ok { OnOk result ((state : State) → Represents state self.old.bucket →
+            Pours (line_text form state line.now) (K.held sink.old) out.old.items (K.held sink.new) out.new.items
+            × (Represents (line_next form state line.now) self.new.bucket × (self.new.line ≡ self.old.line))) }
+        ensures write_fault { IsErrOf result KvError.WriteFault →
+            K.failed_between sink.old sink.new × ((state : State) → Represents state self.old.bucket →
+            Puts (out.old.items ++ line_text form state line.now) (K.held sink.old) (K.held sink.new)) }
+        ensures memory { IsErrOf result KvError.OutOfMemory → (state : State) → Represents state self.old.bucket →
+            PoursFront (line_text form state line.now)
+            (K.held sink.old) out.old.items (K.held sink.new) out.new.items }
+        ensures fault { IfErr result IsWriteOrMemory }
+    {
+        pour_line(
+            alloc,
+            form,
+            &mut self.bucket,
+            without_return(line),
+            out,
+            sink,
+        )
+    }
+
     /// Takes bytes of the line that has begun. No more are kept than show that it is too long.
     fn take_part(&mut self, part: &[u8]) -> Result<(), AllocError>
         ensures { OnOk result (self.new ≡ record self.old { line = grown KEPT_BYTES self.old.line part.now }) }
@@ -122,6 +155,9 @@ impl Script {
             (K.held sink.old) out.old.items (K.held sink.new) out.new.items }
         ensures fault { IfErr result IsWriteOrMemory }
     {
+        if self.line.is_empty() && rest.len() <= KEPT_BYTES {
+            return self.answer_whole(alloc, form, rest, out, sink);
+        }
         self.take_part(rest)?;
         self.end_line(alloc, form, out, sink)
     }
