@@ -100,6 +100,14 @@ class Copies(unittest.TestCase):
                 ("a", "PUT", b"2"), ("a", "PUT", b"3"), ("b.d", "PUT", b"\0"), ("b.d", "DEL", None), ("b.c", "PURGE", None),
                 ("never", "DEL", None), ("b.c", "PUT", b"x"), ("gone", "PURGE", None)])
 
+    def test_values_as_text(self):
+        script = "put port 8080\nput name two words\nput word MQ==\nput sign \N{EURO SIGN}\nput none \ndelete port\n"
+        self.assertEqual(to_nats(server, "text", "--text", "--history", "2", script=script)[::2], (0, ""))
+        with Bucket(server, "text") as bucket:
+            self.assertEqual(shown(bucket), [
+                ("port", "PUT", b"8080"), ("name", "PUT", b"two words"), ("word", "PUT", b"MQ=="),
+                ("sign", "PUT", "\N{EURO SIGN}".encode()), ("none", "PUT", b""), ("port", "DEL", None)])
+
     def test_from_python(self):
         try:
             here = vilgoued.Bucket("settings", history=2)
