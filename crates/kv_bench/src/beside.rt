@@ -4,13 +4,13 @@ ghost use Rattle.std.specs.Prelude.{◌≡◌};
 
 use crate::lives::{Reads, Writes, fill, opened, spread_load};
 use crate::maps::{Locked, Table, filled, texts};
-use crate::sides::{Copies, Gets, Puts, get_all};
+use crate::sides::{Copies, Gets, Named, Puts, get_all};
 use kv_gauge::clock::{each, since};
 use kv_gauge::fault::{Answer, Fault, check};
-use kv_gauge::keys::VALUE;
+use kv_gauge::keys::{VALUE, spread};
 use kv_gauge::plan::Plan;
 use kv_gauge::series::{Name, Series};
-use kv_live::{Live, LiveName, Opened, Reader, Request};
+use kv_live::{Live, LiveName, Opened, Reader};
 use std::alloc::Global;
 use std::collections::{BTreeMap, HashMap};
 use std::marker::Brand;
@@ -52,98 +52,100 @@ fn copies<C: Copies, R: Wait + Clock>(
     Ok(each(took, count))
 }
 
-// What the rounds of the three calls gave.
-struct Measured {
-    got: Series,
-    put: Series,
-    copy: Series,
-}
-
-impl Drop for Measured {
-    fn drop(self) {
-        let Self {
-            got: _,
-            put: _,
-            copy: _,
-        } = self;
-    }
-}
-
-impl Measured {
-    fn new(alloc: Global, of: &'static str, plan: Plan) -> Measured {
-        Measured {
-            got: Series::new(alloc, Name::time(GROUP, "get", of), plan),
-            put: Series::new(alloc, Name::time(GROUP, "put", of), plan),
-            copy: Series::new(alloc, Name::time(GROUP, "copy", of), plan),
-        }
-    }
-
-    fn add_round<G: Gets + Copies, P: Puts, R: Wait + Clock>(
-        &mut self,
-        rt: &R,
-        plan: Plan,
-        reading: &mut G,
-        writing: &mut P,
-        copied: usize,
-    ) -> Result<(), Fault> {
-        self.got.add(gets(rt, reading, plan.asked())?)?;
-        self.put.add(puts(rt, writing, plan.asked())?)?;
-        self.copy.add(copies(rt, reading, copied, plan.keys)?)
-    }
-
-    fn tell<R: Print>(&mut self, rt: &R) -> Result<(), Fault> {
-        self.got.tell(rt)?;
-        self.put.tell(rt)?;
-        self.copy.tell(rt)
-    }
-}
-
-// One who reads and copies, one who writes, and how many copies a round makes.
-fn figures<G: Gets + Copies, P: Puts, R: Wait + Clock + Print>(
+fn tell_gets<G: Gets + Named, R: Wait + Clock + Print>(
     rt: &R,
     alloc: Global,
     plan: Plan,
-    reading: &mut G,
-    writing: &mut P,
+    side: &mut G,
+) -> Result<(), Fault> {
+    let mut series = Series::new(alloc, Name::time(GROUP, "get", G::NAME), plan);
+    for _ in 0..plan.rounds {
+        series.add(gets(rt, side, plan.asked())?)?;
+    }
+    series.tell(rt)
+}
+
+fn tell_puts<P: Puts + Named, R: Wait + Clock + Print>(
+    rt: &R,
+    alloc: Global,
+    plan: Plan,
+    side: &mut P,
+) -> Result<(), Fault> {
+    let mut series = Series::new(alloc, Name::time(GROUP, "put", P::NAME), plan);
+    for _ in 0..plan.rounds {
+        series.add(puts(rt, side, plan.asked())?)?;
+    }
+    series.tell(rt)
+}
+
+// So many copies make a round.
+fn tell_copies<C: Copies + Named, R: Wait + Clock + Print>(
+    rt: &R,
+    alloc: Global,
+    plan: Plan,
+    side: &mut C,
     copied: usize,
 ) -> Result<(), Fault> {
-    let mut measured = Measured::new(alloc, G::NAME, plan);
+    let mut series = Series::new(alloc, Name::time(GROUP, "copy", C::NAME), plan);
     for _ in 0..plan.rounds {
-        measured.add_round(rt, plan, reading, writing, copied)?;
+        series.add(copies(rt, side, copied, plan.keys)?)?;
     }
-    measured.tell(rt)
+    series.tell(rt)
+}
+
+// What is measured of a bucket that threads share: a full one takes no writes.
+#[derive(Clone, Copy)]
+enum Half {
+    Reads,
+    Writes,
+}
+
+fn live_reads<N: LiveName, R: Wait + Clock + Print>(
+    rt: &R,
+    alloc: Global,
+    plan: Plan,
+    reader: Reader<N>,
+) -> Result<(), Fault> {
+    let keys = spread(alloc, plan.keys, plan.asked())?;
+    let mut reads = Reads::new(reader, keys.as_slice())?;
+    tell_gets(rt, alloc, plan, &mut reads)?;
+    tell_copies(rt, alloc, plan, &mut reads, plan.asked())
+}
+
+fn live_writes<N: LiveName, R: Wait + Clock + Print>(
+    rt: &R,
+    alloc: Global,
+    plan: Plan,
+    live: &Live<N>,
+) -> Result<(), Fault> {
+    let load = spread_load(alloc, plan, plan.asked())?;
+    let mut writes = Writes {
+        live,
+        requests: load.requests.as_slice(),
+    };
+    tell_puts(rt, alloc, plan, &mut writes)
 }
 
 fn live_figures<N: LiveName, R: Wait + Clock + Print>(
     rt: &R,
     alloc: Global,
     plan: Plan,
+    half: Half,
     live: &Live<N>,
     reader: Reader<N>,
 ) -> Result<(), Fault> {
-    let load = spread_load(alloc, plan, plan.asked())?;
-    let mut reads = Reads::new(reader, load.keys.as_slice())?;
-    full_figures(rt, alloc, plan, live, &mut reads, load.requests.as_slice())
-}
-
-// The figures of a bucket that has its keys.
-fn full_figures<N: LiveName, R: Wait + Clock + Print>(
-    rt: &R,
-    alloc: Global,
-    plan: Plan,
-    live: &Live<N>,
-    reads: &mut Reads<'_, N>,
-    requests: &[Request],
-) -> Result<(), Fault> {
     fill(rt, alloc, live, plan.keys)?;
-    let mut writes = Writes { live, requests };
-    figures(rt, alloc, plan, reads, &mut writes, plan.asked())
+    match half {
+        Half::Reads => live_reads(rt, alloc, plan, reader),
+        Half::Writes => live_writes(rt, alloc, plan, live),
+    }
 }
 
 fn opened_figures<N: LiveName, R: Wait + Clock + Print>(
     rt: &R,
     alloc: Global,
     plan: Plan,
+    half: Half,
     opened: Opened,
 ) -> Result<(), Fault>
     requires { opened.opening ≡ N.opening }
@@ -151,10 +153,20 @@ fn opened_figures<N: LiveName, R: Wait + Clock + Print>(
     let (live, readers) = opened.live::<N, R>(rt)?;
     let mut done = Ok(());
     for reader in readers {
-        done = live_figures(rt, alloc, plan, &live, reader);
+        done = live_figures(rt, alloc, plan, half, &live, reader);
     }
     live.close(rt);
     done
+}
+
+fn half_of_a_live<R: Wait + Clock + Print>(
+    rt: &R,
+    alloc: Global,
+    plan: Plan,
+    half: Half,
+) -> Result<(), Fault> {
+    let opened = opened(alloc, 1)?;
+    opened_figures::<Brand, R>(rt, alloc, plan, half, opened)
 }
 
 fn map_figures<T: Table, R: Wait + Clock + Print>(
@@ -164,23 +176,20 @@ fn map_figures<T: Table, R: Wait + Clock + Print>(
 ) -> Result<(), Fault> {
     let lock = RwLock::new(filled::<T>(alloc, plan.keys)?);
     let texts = texts(alloc, plan.keys, plan.asked())?;
-    let mut reads = Locked {
+    let mut side = Locked {
         alloc,
         lock: &lock,
         texts: texts.as_slice(),
     };
-    let mut writes = Locked {
-        alloc,
-        lock: &lock,
-        texts: texts.as_slice(),
-    };
-    figures(rt, alloc, plan, &mut reads, &mut writes, 1)
+    tell_gets(rt, alloc, plan, &mut side)?;
+    tell_puts(rt, alloc, plan, &mut side)?;
+    tell_copies(rt, alloc, plan, &mut side, 1)
 }
 
 /// Measures a get, a put and a copy of each.
 pub fn run<R: Wait + Clock + Print>(rt: &R, alloc: Global, plan: Plan) -> Result<(), Fault> {
-    let opened = opened(alloc, 1)?;
-    opened_figures::<Brand, R>(rt, alloc, plan, opened)?;
+    half_of_a_live(rt, alloc, plan, Half::Reads)?;
+    half_of_a_live(rt, alloc, plan.with_room(), Half::Writes)?;
     map_figures::<HashMap<String, Vec<u8>>, R>(rt, alloc, plan)?;
     map_figures::<BTreeMap<String, Vec<u8>>, R>(rt, alloc, plan)
 }

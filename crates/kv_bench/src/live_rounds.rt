@@ -17,8 +17,10 @@ use std::sync::Wait;
 use std::thread::Threads;
 use std::time::CpuClock;
 
-// How many writes are stored from which on a round begins with a compaction.
-const MANY: u64 = 920_000;
+// How many writes are stored from which on a round begins with a compaction, and how many can be.
+const MANY: u64 = 900_000;
+
+const MOST: u64 = 1_000_000;
 
 // A live bucket, and what is asked of it.
 #[derive(Drop)]
@@ -31,13 +33,15 @@ fn seat<N: LiveName, R: Wait>(rt: &R, live: &Live<N>) -> Result<Reader<N>, KvErr
     live.lock(rt).reader()
 }
 
-fn make_room<N: LiveName, R: Wait>(rt: &R, live: &Live<N>) -> Result<(), KvError> {
+// Compacts where much is stored, and tells how many writes there is room for.
+fn make_room<N: LiveName, R: Wait>(rt: &R, live: &Live<N>) -> Result<usize, KvError> {
     let mut keeper = live.lock(rt);
     let status = keeper.bucket().version().status();
-    if status.stored < MANY {
-        return Ok(());
+    if status.stored >= MANY {
+        keeper.compact(rt, status.last)?;
     }
-    keeper.compact(rt, status.last)
+    let stored = keeper.bucket().version().status().stored;
+    Ok(MOST.saturating_sub(stored) as usize)
 }
 
 fn feed<N: LiveName>(alloc: Global, reader: Reader<N>) -> Result<Follows<N>, Fault> {
@@ -89,9 +93,9 @@ fn round<N: LiveName + Send + Sync, R: Threads + Wait + Sync + Clock + CpuClock>
     ground: &Lively<'_, N>,
     others: usize,
 ) -> Result<Vec<Done>, Fault> {
-    make_room(rt, ground.live)?;
+    let room = make_room(rt, ground.live)?;
     let jobs = jobs(rt, alloc, ground, task, others)?;
-    let round = Round::begun(rt, plan, task)?;
+    let round = Round::begun(rt, plan, task, room)?;
     perform_all(rt, alloc, &round, jobs)
 }
 
@@ -150,5 +154,5 @@ pub fn run<R: Threads + Wait + Sync + Clock + CpuClock + Print>(
     task: Task,
 ) -> Result<(), Fault> {
     let opened = opened(alloc, most(task))?;
-    opened_figures::<Brand, R>(rt, alloc, plan, task, opened)
+    opened_figures::<Brand, R>(rt, alloc, plan.with_room(), task, opened)
 }

@@ -1,6 +1,6 @@
 //! A live bucket: its readers, its writers and its feeds.
 
-use crate::sides::{Copies, Gets, Puts, Takes};
+use crate::sides::{Copies, Gets, Named, Puts, Takes};
 use kv_gauge::fault::Fault;
 use kv_gauge::keys::{key, put, puts, spread};
 use kv_gauge::plan::Plan;
@@ -84,6 +84,10 @@ impl<'a, N: LiveName> Reads<'a, N> {
     }
 }
 
+impl<'a, N: LiveName> Named for Reads<'a, N> {
+    const NAME: &'static str = "Vilgoued";
+}
+
 impl<'a, N: LiveName> Gets for Reads<'a, N> {
     // Each read is of the version that is published then.
     fn get<R: Wait>(&mut self, _rt: &R, place: usize) -> Result<usize, Fault> {
@@ -97,8 +101,6 @@ impl<'a, N: LiveName> Gets for Reads<'a, N> {
 }
 
 impl<'a, N: LiveName> Copies for Reads<'a, N> {
-    const NAME: &'static str = "Vilgoued";
-
     fn copy<R: Wait>(&mut self, _rt: &R) -> Result<u64, Fault> {
         let version = self.reader.version()?;
         Ok(version.revision())
@@ -110,6 +112,10 @@ impl<'a, N: LiveName> Copies for Reads<'a, N> {
 pub struct Writes<'a, N: LiveName> {
     pub live: &'a Live<N>,
     pub requests: &'a [Request],
+}
+
+impl<'a, N: LiveName> Named for Writes<'a, N> {
+    const NAME: &'static str = "Vilgoued";
 }
 
 impl<'a, N: LiveName> Puts for Writes<'a, N> {

@@ -155,11 +155,11 @@ fn round<R: Threads + Wait + Sync + Clock + CpuClock>(
 ) -> Result<Vec<Done>, Fault> {
     if let Task::Read = task {
         let jobs = reading(alloc, ground, others)?;
-        let round = Round::begun(rt, plan, task)?;
+        let round = Round::begun(rt, plan, task, usize::MAX)?;
         return perform_all(rt, alloc, &round, jobs);
     }
     let jobs = following(alloc, ground, others)?;
-    let round = Round::begun(rt, plan, task)?;
+    let round = Round::begun(rt, plan, task, usize::MAX)?;
     perform_all(rt, alloc, &round, jobs)
 }
 

@@ -1,6 +1,6 @@
 //! Maps of std under a lock, as a user would take them.
 
-use crate::sides::{Copies, Gets, Puts};
+use crate::sides::{Copies, Gets, Named, Puts};
 use kv_gauge::fault::Fault;
 use kv_gauge::keys::{VALUE, place, text};
 use std::alloc::Global;
@@ -101,6 +101,10 @@ pub struct Locked<'a, T> {
     pub texts: &'a [String],
 }
 
+impl<'a, T: Table> Named for Locked<'a, T> {
+    const NAME: &'static str = T::NAME;
+}
+
 impl<'a, T: Table> Gets for Locked<'a, T> {
     fn get<R: Wait>(&mut self, rt: &R, place: usize) -> Result<usize, Fault> {
         let Some(text) = self.texts.get(place) else {
@@ -125,8 +129,6 @@ impl<'a, T: Table> Puts for Locked<'a, T> {
 }
 
 impl<'a, T: Table> Copies for Locked<'a, T> {
-    const NAME: &'static str = T::NAME;
-
     fn copy<R: Wait>(&mut self, rt: &R) -> Result<u64, Fault> {
         let keys = self.lock.read(rt).copied()?;
         Ok(keys as u64)

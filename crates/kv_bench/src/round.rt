@@ -61,11 +61,11 @@ pub struct Round {
 }
 
 impl Round {
-    /// A round that begins now.
-    pub fn begun<R: Clock>(rt: &R, plan: Plan, task: Task) -> Result<Round, Fault> {
+    /// A round that begins now, and makes no more writes than there is room for.
+    pub fn begun<R: Clock>(rt: &R, plan: Plan, task: Task, room: usize) -> Result<Round, Fault> {
         Ok(Round {
             task,
-            writes: writes(plan, task),
+            writes: writes(plan, task).min(room),
             nanos: if plan.quiet { QUIET_NANOS } else { NANOS },
             start: Instant::now(rt)?,
             ended: AtomicU64::new(0),

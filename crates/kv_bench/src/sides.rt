@@ -4,6 +4,12 @@
 use kv_gauge::fault::Fault;
 use std::sync::Wait;
 
+/// What has figures of its own.
+pub trait Named {
+    /// The name under which they are told.
+    const NAME: &'static str;
+}
+
 /// Who reads.
 pub trait Gets {
     /// How many bytes the value of a key has; 0 where there is none.
@@ -21,9 +27,6 @@ pub trait Puts {
 
 /// Who copies all that there is.
 pub trait Copies {
-    /// The name of what is copied.
-    const NAME: &'static str;
-
     /// A copy that is let go at once: how many writes or keys it has.
     fn copy<R: Wait>(&mut self, rt: &R) -> Result<u64, Fault>;
 }

@@ -1,7 +1,7 @@
 //! The calls of the library on one thread.
 
 use crate::fault::Fault;
-use crate::keys::{deletes, filters_of, keys, one_filter, puts, spread};
+use crate::keys::{deletes, filters_of, one_filter, puts, spread};
 use crate::plan::Plan;
 use crate::series::{Name, Series};
 use crate::subject::{empty, fill, grow, time_writes};
@@ -14,9 +14,7 @@ use std::rt::Clock;
 #[derive(Clone, Copy)]
 enum What {
     Get,
-    PutThere,
     Snapshot,
-    History,
     KeysOfKey,
     KeysOfWildcard,
     KeysOfAll,
@@ -24,17 +22,17 @@ enum What {
     WatchWildcard,
     WatchAll,
     InitialItem,
-    LiveItem,
     IdlePoll,
+    PutThere,
+    History,
+    LiveItem,
     Delete,
 }
 
-// Deletes are last, since they change what the others read.
-const ALL: &'static [What] = &[
+// Those that change nothing.
+const READS: &'static [What] = &[
     What::Get,
-    What::PutThere,
     What::Snapshot,
-    What::History,
     What::KeysOfKey,
     What::KeysOfWildcard,
     What::KeysOfAll,
@@ -42,17 +40,17 @@ const ALL: &'static [What] = &[
     What::WatchWildcard,
     What::WatchAll,
     What::InitialItem,
-    What::LiveItem,
     What::IdlePoll,
-    What::Delete,
 ];
+
+// Those that write, and histories, which have more than one entry once there were puts to keys that are there. Deletes
+// are last, since they change what the others read.
+const WRITES: &'static [What] = &[What::PutThere, What::History, What::LiveItem, What::Delete];
 
 fn text(what: What) -> &'static str {
     match what {
         What::Get => "get",
-        What::PutThere => "put, key that is there",
         What::Snapshot => "snapshot",
-        What::History => "history",
         What::KeysOfKey => "keys of a literal filter",
         What::KeysOfWildcard => "keys of a.*",
         What::KeysOfAll => "keys of >",
@@ -60,8 +58,10 @@ fn text(what: What) -> &'static str {
         What::WatchWildcard => "open a watch of a.*",
         What::WatchAll => "open a watch of >",
         What::InitialItem => "take an initial item",
-        What::LiveItem => "take a live item",
         What::IdlePoll => "take where there is nothing",
+        What::PutThere => "put, key that is there",
+        What::History => "history",
+        What::LiveItem => "take a live item",
         What::Delete => "delete",
     }
 }
@@ -133,9 +133,9 @@ fn measure<R: Clock>(
     match what {
         What::Get => reading::gets(rt, bucket.version(), asked),
         What::Snapshot => reading::snapshots(rt, bucket.version(), few),
-        What::History => reading::histories(rt, alloc, bucket.version(), asked),
         What::InitialItem => watching::initial_items(rt, alloc, bucket, few),
         What::IdlePoll => watching::idle_polls(rt, alloc, bucket, few),
+        What::History => reading::histories(rt, alloc, bucket.version(), asked),
         What::PutThere | What::LiveItem | What::Delete => write(rt, alloc, bucket, asked, what),
         _ => find(rt, alloc, bucket, plan, asked, what),
     }
@@ -158,48 +158,50 @@ fn figure<R: Clock + Print>(
 }
 
 // The time of a put of a new key, in a bucket that is let go.
-fn growth<R: Clock>(rt: &R, alloc: Global, keys: &[Key]) -> Result<u64, Fault> {
+fn growth<R: Clock>(rt: &R, alloc: Global, keys: usize) -> Result<u64, Fault> {
     let mut bucket = empty(alloc)?;
     grow(rt, alloc, &mut bucket, keys)
 }
 
 // Each round grows a bucket of its own.
-fn growths<R: Clock + Print>(rt: &R, alloc: Global, plan: Plan, keys: &[Key]) -> Result<(), Fault> {
+fn growths<R: Clock + Print>(rt: &R, alloc: Global, plan: Plan) -> Result<(), Fault> {
     let name = Name::time("calls", "put, new key", "");
     let mut series = Series::new(alloc, name, plan);
     for _ in 0..plan.rounds {
-        series.add(growth(rt, alloc, keys)?)?;
+        series.add(growth(rt, alloc, plan.keys)?)?;
     }
     series.tell(rt)
 }
 
+// The figures of these calls, of a bucket that has its keys.
 fn figures<R: Clock + Print>(
     rt: &R,
     alloc: Global,
-    plan: Plan,
     bucket: &mut Bucket,
+    plan: Plan,
+    calls: &[What],
 ) -> Result<(), Fault> {
     let asked = spread(alloc, plan.keys, plan.asked())?;
-    for what in ALL {
+    for what in calls {
         figure(rt, alloc, bucket, plan, asked.as_slice(), *what)?;
     }
     Ok(())
 }
 
-fn on_a_full_bucket<R: Clock + Print>(
+fn fill_and_measure<R: Clock + Print>(
     rt: &R,
     alloc: Global,
     plan: Plan,
-    keys: &[Key],
+    calls: &[What],
 ) -> Result<(), Fault> {
     let mut bucket = empty(alloc)?;
-    fill(alloc, &mut bucket, keys)?;
-    figures(rt, alloc, plan, &mut bucket)
+    fill(alloc, &mut bucket, plan.keys)?;
+    figures(rt, alloc, &mut bucket, plan, calls)
 }
 
 /// Measures each call.
 pub fn run<R: Clock + Print>(rt: &R, alloc: Global, plan: Plan) -> Result<(), Fault> {
-    let keys = keys(alloc, 0, plan.keys)?;
-    growths(rt, alloc, plan, keys.as_slice())?;
-    on_a_full_bucket(rt, alloc, plan, keys.as_slice())
+    growths(rt, alloc, plan)?;
+    fill_and_measure(rt, alloc, plan, READS)?;
+    fill_and_measure(rt, alloc, plan.with_room(), WRITES)
 }

@@ -5,7 +5,7 @@ use crate::fault::{Answer, Fault, check};
 use crate::keys::{VALUE, key};
 use crate::plan::Plan;
 use crate::series::{Name, Series};
-use crate::subject::{empty, write};
+use crate::subject::{empty, overwrite};
 use kv_bucket::Bucket;
 use std::alloc::Global;
 use std::rt::Clock;
@@ -13,20 +13,6 @@ use std::time::Instant;
 
 // How many keys are written over and over.
 const KEYS: usize = 1000;
-
-/// Makes so many writes to these many keys, in turn.
-pub fn overwrite(
-    alloc: Global,
-    bucket: &mut Bucket,
-    keys: usize,
-    writes: usize,
-) -> Result<(), Fault> {
-    for turn in 0..writes {
-        let number = if keys == 0 { 0 } else { turn % keys };
-        write(alloc, bucket, &key(alloc, number)?)?;
-    }
-    Ok(())
-}
 
 // Still there: the key's value.
 fn is_there(alloc: Global, bucket: &Bucket) -> Result<(), Fault> {

@@ -1,10 +1,9 @@
 //! The memory of this process, as Linux tells it.
 
-use crate::compacting::overwrite;
 use crate::fault::{Answer, Fault, check};
 use crate::plan::Plan;
 use crate::series::{Name, Series};
-use crate::subject::empty;
+use crate::subject::{empty, overwrite};
 use kv_bucket::{Bucket, Version};
 use std::alloc::Global;
 use std::fs;
@@ -12,6 +11,12 @@ use std::rt::Files;
 
 // How many keys are written over and over before a compaction.
 const KEYS: usize = 1000;
+
+// How many keys or writes are weighed at once, at least: what the process has anyway, and its last page, are little beside
+// them. Where nothing is told a few will do.
+const WEIGHED: usize = 100_000;
+
+const QUIETLY_WEIGHED: usize = 200;
 
 // The bytes that a line of /proc/self/status tells in kilobytes, if it is the one of the resident memory.
 fn resident_of(line: &str) -> Option<u64> {
@@ -59,61 +64,101 @@ pub enum What {
     Compacted,
 }
 
-fn keys<R: Files + AllocGlobal>(
-    rt: &R,
-    alloc: Global,
-    bucket: &mut Bucket,
-    count: usize,
-) -> Result<u64, Fault> {
-    let before = resident(rt)?;
-    overwrite(alloc, bucket, count, count)?;
-    Ok(each(resident(rt)?, before, count))
+// As many empty buckets as have enough to be weighed.
+fn buckets(alloc: Global, plan: Plan) -> Result<Vec<Bucket>, Fault> {
+    let enough = if plan.quiet { QUIETLY_WEIGHED } else { WEIGHED };
+    let mut buckets = Vec::new(alloc);
+    for _ in 0..enough.div_ceil(plan.keys.max(1)) {
+        buckets.push(empty(alloc)?)?;
+    }
+    Ok(buckets)
 }
 
+fn overwrite_all(
+    alloc: Global,
+    buckets: &mut Vec<Bucket>,
+    keys: usize,
+    writes: usize,
+) -> Result<(), Fault> {
+    for bucket in buckets.iter_mut() {
+        overwrite(alloc, bucket, keys, writes)?;
+    }
+    Ok(())
+}
+
+fn compact_all(buckets: &mut Vec<Bucket>) -> Result<(), Fault> {
+    for bucket in buckets.iter_mut() {
+        bucket.compact(bucket.version().revision())?;
+    }
+    Ok(())
+}
+
+fn snapshots(alloc: Global, buckets: &Vec<Bucket>) -> Result<Vec<Version>, Fault> {
+    let mut snapshots = Vec::new(alloc);
+    for bucket in buckets {
+        snapshots.push(bucket.version().snapshot()?)?;
+    }
+    Ok(snapshots)
+}
+
+// A write to each key of each bucket.
 fn writes<R: Files + AllocGlobal>(
     rt: &R,
     alloc: Global,
-    bucket: &mut Bucket,
-    count: usize,
+    buckets: &mut Vec<Bucket>,
+    keys: usize,
 ) -> Result<u64, Fault> {
-    overwrite(alloc, bucket, count, count)?;
-    keys(rt, alloc, bucket, count)
+    let before = resident(rt)?;
+    overwrite_all(alloc, buckets, keys, keys)?;
+    Ok(each(resident(rt)?, before, keys.saturating_mul(buckets.len())))
 }
 
+// The same while the versions before it are held.
 fn held<R: Files + AllocGlobal>(
     rt: &R,
     alloc: Global,
-    bucket: &mut Bucket,
-    count: usize,
+    buckets: &mut Vec<Bucket>,
+    keys: usize,
 ) -> Result<u64, Fault> {
-    overwrite(alloc, bucket, count, count)?;
-    let snapshot = bucket.version().snapshot()?;
-    beside(rt, alloc, bucket, count, &snapshot)
-}
-
-// Another write to each key, while the version before them is held.
-fn beside<R: Files + AllocGlobal>(
-    rt: &R,
-    alloc: Global,
-    bucket: &mut Bucket,
-    count: usize,
-    snapshot: &Version,
-) -> Result<u64, Fault> {
-    let took = keys(rt, alloc, bucket, count)?;
-    check(snapshot.revision() == count as u64, Answer::Revision)?;
+    let snapshots = snapshots(alloc, buckets)?;
+    let took = writes(rt, alloc, buckets, keys)?;
+    for snapshot in &snapshots {
+        check(snapshot.revision() == keys as u64, Answer::Revision)?;
+    }
     Ok(took)
 }
 
 fn compacted<R: Files + AllocGlobal>(
     rt: &R,
     alloc: Global,
-    bucket: &mut Bucket,
+    buckets: &mut Vec<Bucket>,
     count: usize,
 ) -> Result<u64, Fault> {
     let before = resident(rt)?;
-    overwrite(alloc, bucket, KEYS, count)?;
-    bucket.compact(bucket.version().revision())?;
-    Ok(each(resident(rt)?, before, count))
+    overwrite_all(alloc, buckets, KEYS, count)?;
+    compact_all(buckets)?;
+    Ok(each(resident(rt)?, before, count.saturating_mul(buckets.len())))
+}
+
+fn weigh_in<R: Files + AllocGlobal>(
+    rt: &R,
+    alloc: Global,
+    buckets: &mut Vec<Bucket>,
+    count: usize,
+    what: What,
+) -> Result<u64, Fault> {
+    match what {
+        What::Keys => writes(rt, alloc, buckets, count),
+        What::Writes => {
+            overwrite_all(alloc, buckets, count, count)?;
+            writes(rt, alloc, buckets, count)
+        }
+        What::Held => {
+            overwrite_all(alloc, buckets, count, count)?;
+            held(rt, alloc, buckets, count)
+        }
+        What::Compacted => compacted(rt, alloc, buckets, count),
+    }
 }
 
 fn weigh<R: Files + AllocGlobal>(
@@ -122,23 +167,8 @@ fn weigh<R: Files + AllocGlobal>(
     plan: Plan,
     what: What,
 ) -> Result<u64, Fault> {
-    let mut bucket = empty(alloc)?;
-    weigh_in(rt, alloc, &mut bucket, plan.keys, what)
-}
-
-fn weigh_in<R: Files + AllocGlobal>(
-    rt: &R,
-    alloc: Global,
-    bucket: &mut Bucket,
-    count: usize,
-    what: What,
-) -> Result<u64, Fault> {
-    match what {
-        What::Keys => keys(rt, alloc, bucket, count),
-        What::Writes => writes(rt, alloc, bucket, count),
-        What::Held => held(rt, alloc, bucket, count),
-        What::Compacted => compacted(rt, alloc, bucket, count),
-    }
+    let mut buckets = buckets(alloc, plan)?;
+    weigh_in(rt, alloc, &mut buckets, plan.keys, what)
 }
 
 fn text(what: What) -> &'static str {

@@ -2,8 +2,8 @@
 
 use crate::clock::{each, since};
 use crate::fault::{Answer, Fault, check};
-use crate::keys::{put, puts};
-use kv_bucket::{Bucket, Config, Key, Request};
+use crate::keys::{key, keys, put, puts};
+use kv_bucket::{Bucket, Config, Request};
 use std::alloc::Global;
 use std::rt::Clock;
 use std::time::Instant;
@@ -24,19 +24,30 @@ pub fn config(alloc: Global) -> Result<Config, Fault> {
     })
 }
 
-/// Puts to a key.
-pub fn write(alloc: Global, bucket: &mut Bucket, key: &Key) -> Result<(), Fault> {
-    let request = put(alloc, key)?;
+// Puts to the key of a number.
+fn write(alloc: Global, bucket: &mut Bucket, number: usize) -> Result<(), Fault> {
+    let key = key(alloc, number)?;
+    let request = put(alloc, &key)?;
     bucket.write(&request)?;
     Ok(())
 }
 
-/// Puts to each of these keys.
-pub fn fill(alloc: Global, bucket: &mut Bucket, keys: &[Key]) -> Result<(), Fault> {
-    for key in keys {
-        write(alloc, bucket, key)?;
+/// Makes so many writes to these many keys, in turn.
+pub fn overwrite(
+    alloc: Global,
+    bucket: &mut Bucket,
+    keys: usize,
+    writes: usize,
+) -> Result<(), Fault> {
+    for turn in 0..writes {
+        write(alloc, bucket, if keys == 0 { 0 } else { turn % keys })?;
     }
     Ok(())
+}
+
+/// Puts to each of so many keys.
+pub fn fill(alloc: Global, bucket: &mut Bucket, keys: usize) -> Result<(), Fault> {
+    overwrite(alloc, bucket, keys, keys)
 }
 
 /// Makes each of these writes, and gives the last revision.
@@ -65,15 +76,16 @@ pub fn time_writes<R: Clock>(
     Ok(each(took, requests.len()))
 }
 
-/// Fills an empty bucket with these keys, and gives the time of each of its last writes, a tenth of all.
+/// Fills an empty bucket with so many keys, and gives the time of each of its last writes, a tenth of all.
 pub fn grow<R: Clock>(
     rt: &R,
     alloc: Global,
     bucket: &mut Bucket,
-    keys: &[Key],
+    count: usize,
 ) -> Result<u64, Fault> {
-    let (first, last) = keys.split_at(keys.len() - keys.len() / 10);
+    let first = count - count / 10;
+    let last = keys(alloc, first, count)?;
+    let requests = puts(alloc, last.as_slice())?;
     fill(alloc, bucket, first)?;
-    let requests = puts(alloc, last)?;
     time_writes(rt, bucket, requests.as_slice())
 }
