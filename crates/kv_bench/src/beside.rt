@@ -93,9 +93,20 @@ fn tell_copies<C: Copies + Named, R: Wait + Clock + Print>(
     series.tell(rt)
 }
 
-// What is measured of a bucket that threads share: a full one takes no writes.
+/// What is measured: each part in a process of its own, since what another one freed lies scattered.
 #[derive(Clone, Copy)]
-enum Half {
+pub enum Part {
+    /// Reads of a live bucket.
+    Reads,
+    /// Writes to one, which has room for them.
+    Writes,
+    /// Maps.
+    Maps,
+}
+
+// What a live bucket is asked for.
+#[derive(Clone, Copy)]
+enum Asked {
     Reads,
     Writes,
 }
@@ -130,14 +141,14 @@ fn live_figures<N: LiveName, R: Wait + Clock + Print>(
     rt: &R,
     alloc: Global,
     plan: Plan,
-    half: Half,
+    asked: Asked,
     live: &Live<N>,
     reader: Reader<N>,
 ) -> Result<(), Fault> {
     fill(rt, alloc, live, plan.keys)?;
-    match half {
-        Half::Reads => live_reads(rt, alloc, plan, reader),
-        Half::Writes => live_writes(rt, alloc, plan, live),
+    match asked {
+        Asked::Reads => live_reads(rt, alloc, plan, reader),
+        Asked::Writes => live_writes(rt, alloc, plan, live),
     }
 }
 
@@ -145,7 +156,7 @@ fn opened_figures<N: LiveName, R: Wait + Clock + Print>(
     rt: &R,
     alloc: Global,
     plan: Plan,
-    half: Half,
+    asked: Asked,
     opened: Opened,
 ) -> Result<(), Fault>
     requires { opened.opening ≡ N.opening }
@@ -153,20 +164,20 @@ fn opened_figures<N: LiveName, R: Wait + Clock + Print>(
     let (live, readers) = opened.live::<N, R>(rt)?;
     let mut done = Ok(());
     for reader in readers {
-        done = live_figures(rt, alloc, plan, half, &live, reader);
+        done = live_figures(rt, alloc, plan, asked, &live, reader);
     }
     live.close(rt);
     done
 }
 
-fn half_of_a_live<R: Wait + Clock + Print>(
+fn on_a_live<R: Wait + Clock + Print>(
     rt: &R,
     alloc: Global,
     plan: Plan,
-    half: Half,
+    asked: Asked,
 ) -> Result<(), Fault> {
     let opened = opened(alloc, 1)?;
-    opened_figures::<Brand, R>(rt, alloc, plan, half, opened)
+    opened_figures::<Brand, R>(rt, alloc, plan, asked, opened)
 }
 
 fn map_figures<T: Table, R: Wait + Clock + Print>(
@@ -186,10 +197,21 @@ fn map_figures<T: Table, R: Wait + Clock + Print>(
     tell_copies(rt, alloc, plan, &mut side, 1)
 }
 
-/// Measures a get, a put and a copy of each.
-pub fn run<R: Wait + Clock + Print>(rt: &R, alloc: Global, plan: Plan) -> Result<(), Fault> {
-    half_of_a_live(rt, alloc, plan, Half::Reads)?;
-    half_of_a_live(rt, alloc, plan.with_room(), Half::Writes)?;
+fn both_maps<R: Wait + Clock + Print>(rt: &R, alloc: Global, plan: Plan) -> Result<(), Fault> {
     map_figures::<HashMap<String, Vec<u8>>, R>(rt, alloc, plan)?;
     map_figures::<BTreeMap<String, Vec<u8>>, R>(rt, alloc, plan)
+}
+
+/// Measures a get, a put and a copy of a part.
+pub fn run<R: Wait + Clock + Print>(
+    rt: &R,
+    alloc: Global,
+    plan: Plan,
+    part: Part,
+) -> Result<(), Fault> {
+    match part {
+        Part::Reads => on_a_live(rt, alloc, plan, Asked::Reads),
+        Part::Writes => on_a_live(rt, alloc, plan.with_room(), Asked::Writes),
+        Part::Maps => both_maps(rt, alloc, plan),
+    }
 }

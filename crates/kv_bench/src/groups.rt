@@ -15,11 +15,11 @@ use std::time::CpuClock;
 #[derive(Clone, Copy)]
 pub enum Group {
     /// The calls of a bucket, on one thread.
-    Calls,
+    Calls(calls::Part),
     /// Compactions.
     Compact,
     /// Puts, gets and copies beside maps under a lock.
-    Beside,
+    Beside(beside::Part),
     /// Memory for each key or write.
     Memory(memory::What),
     /// Threads that read or follow beside one that writes.
@@ -31,9 +31,13 @@ pub enum Group {
 /// The group of a word.
 pub fn of_word(word: &str) -> Option<Group> {
     match word {
-        "calls" => Some(Group::Calls),
+        "calls-growth" => Some(Group::Calls(calls::Part::Growth)),
+        "calls-reads" => Some(Group::Calls(calls::Part::Reads)),
+        "calls-writes" => Some(Group::Calls(calls::Part::Writes)),
         "compact" => Some(Group::Compact),
-        "beside" => Some(Group::Beside),
+        "beside-reads" => Some(Group::Beside(beside::Part::Reads)),
+        "beside-writes" => Some(Group::Beside(beside::Part::Writes)),
+        "beside-maps" => Some(Group::Beside(beside::Part::Maps)),
         "memory-keys" => Some(Group::Memory(memory::What::Keys)),
         "memory-writes" => Some(Group::Memory(memory::What::Writes)),
         "memory-held" => Some(Group::Memory(memory::What::Held)),
@@ -67,14 +71,26 @@ fn weigh_all<R: Print + Files + AllocGlobal>(
     memory::run(rt, alloc, plan, memory::What::Compacted)
 }
 
+fn all_calls<R: Clock + Print>(rt: &R, alloc: Global, plan: Plan) -> Result<(), Fault> {
+    calls::run(rt, alloc, plan, calls::Part::Growth)?;
+    calls::run(rt, alloc, plan, calls::Part::Reads)?;
+    calls::run(rt, alloc, plan, calls::Part::Writes)
+}
+
+fn all_beside<R: Clock + Print + Wait>(rt: &R, alloc: Global, plan: Plan) -> Result<(), Fault> {
+    beside::run(rt, alloc, plan, beside::Part::Reads)?;
+    beside::run(rt, alloc, plan, beside::Part::Writes)?;
+    beside::run(rt, alloc, plan, beside::Part::Maps)
+}
+
 fn all<R: Clock + CpuClock + Print + Wait + Threads + Sync + Files + AllocGlobal>(
     rt: &R,
     alloc: Global,
     plan: Plan,
 ) -> Result<(), Fault> {
-    calls::run(rt, alloc, plan)?;
+    all_calls(rt, alloc, plan)?;
     compacting::run(rt, alloc, plan)?;
-    beside::run(rt, alloc, plan)?;
+    all_beside(rt, alloc, plan)?;
     rounds(rt, alloc, plan, Task::Read)?;
     rounds(rt, alloc, plan, Task::Follow)?;
     rounds(rt, alloc, plan, Task::Delay)?;
@@ -89,9 +105,9 @@ pub fn run<R: Clock + CpuClock + Print + Wait + Threads + Sync + Files + AllocGl
 ) -> Result<(), Fault> {
     let alloc = rt.alloc();
     match group {
-        Group::Calls => calls::run(rt, alloc, plan),
+        Group::Calls(part) => calls::run(rt, alloc, plan, part),
         Group::Compact => compacting::run(rt, alloc, plan),
-        Group::Beside => beside::run(rt, alloc, plan),
+        Group::Beside(part) => beside::run(rt, alloc, plan, part),
         Group::Memory(what) => memory::run(rt, alloc, plan, what),
         Group::Threads(task) => rounds(rt, alloc, plan, task),
         Group::Check => all(rt, alloc, plan),

@@ -17,10 +17,10 @@ use std::sync::Wait;
 use std::thread::Threads;
 use std::time::CpuClock;
 
-// How many writes are stored from which on a round begins with a compaction, and how many can be.
-const MANY: u64 = 900_000;
-
+// How many writes a bucket stores at most, and with room for how many more a round begins.
 const MOST: u64 = 1_000_000;
+
+const WANTED: u64 = 25_000;
 
 // A live bucket, and what is asked of it.
 #[derive(Drop)]
@@ -33,11 +33,11 @@ fn seat<N: LiveName, R: Wait>(rt: &R, live: &Live<N>) -> Result<Reader<N>, KvErr
     live.lock(rt).reader()
 }
 
-// Compacts where much is stored, and tells how many writes there is room for.
+// How many writes there is room for, after a compaction where that is little.
 fn make_room<N: LiveName, R: Wait>(rt: &R, live: &Live<N>) -> Result<usize, KvError> {
     let mut keeper = live.lock(rt);
     let status = keeper.bucket().version().status();
-    if status.stored >= MANY {
+    if MOST.saturating_sub(status.stored) < WANTED {
         keeper.compact(rt, status.last)?;
     }
     let stored = keeper.bucket().version().status().stored;

@@ -13,7 +13,7 @@ use std::time::{Duration, Instant};
 pub const ASKED: usize = 500;
 
 // How long a writer writes that is not followed, in nanoseconds: shorter where nothing is told.
-const NANOS: u64 = 200_000_000;
+const NANOS: u64 = 150_000_000;
 
 const QUIET_NANOS: u64 = 1_000_000;
 

@@ -199,9 +199,22 @@ fn fill_and_measure<R: Clock + Print>(
     figures(rt, alloc, &mut bucket, plan, calls)
 }
 
-/// Measures each call.
-pub fn run<R: Clock + Print>(rt: &R, alloc: Global, plan: Plan) -> Result<(), Fault> {
-    growths(rt, alloc, plan)?;
-    fill_and_measure(rt, alloc, plan, READS)?;
-    fill_and_measure(rt, alloc, plan.with_room(), WRITES)
+/// Which calls are measured: each part in a process of its own, since what another one freed lies scattered.
+#[derive(Clone, Copy)]
+pub enum Part {
+    /// Puts of new keys.
+    Growth,
+    /// What changes nothing.
+    Reads,
+    /// Writes to keys that are there, and what needs these.
+    Writes,
+}
+
+/// Measures each call of a part.
+pub fn run<R: Clock + Print>(rt: &R, alloc: Global, plan: Plan, part: Part) -> Result<(), Fault> {
+    match part {
+        Part::Growth => growths(rt, alloc, plan),
+        Part::Reads => fill_and_measure(rt, alloc, plan, READS),
+        Part::Writes => fill_and_measure(rt, alloc, plan.with_room(), WRITES),
+    }
 }

@@ -1,4 +1,4 @@
-use Rattle.kv_bench.proofs.beside.half_of_a_live.Given as goal
+use Rattle.kv_bench.proofs.beside.on_a_live.Given as goal
 
 -- the opening that was just made
 abbrev pub ghosts-opened_figures : goal.ghosts-opened_figures
