@@ -43,6 +43,16 @@ class Writes(unittest.TestCase):
         self.assertEqual(self.bucket.get("app.port", at=1), (b"80", 1))
         self.assertIn("app.port", self.bucket)
 
+    def test_values(self):
+        for value in (b"", "\N{EURO SIGN}", bytearray(b"1\0"), memoryview(b"abcd")[::2]):
+            self.bucket["a"] = value
+            self.assertEqual(self.bucket["a"], value.encode() if isinstance(value, str) else bytes(value))
+        for value in (80, True, 1.5, None, [56, 48]):
+            for write in (self.bucket.put, self.bucket.create):
+                with self.assertRaises(TypeError):
+                    write("b", value)
+        self.assertNotIn("b", self.bucket)
+
     def test_no_such_key(self):
         self.assertIsNone(self.bucket.get("app.port"))
         self.assertEqual(self.bucket.get("app.port", b"none"), b"none")
@@ -121,13 +131,15 @@ class Writes(unittest.TestCase):
             self.bucket[key] = b"1"
         self.bucket.delete("c")
         self.assertEqual(self.bucket.keys(), ["a.x", "b"])
-        self.assertEqual(self.bucket.keys("a.>"), ["a.x"])
+        self.assertEqual(self.bucket.keys(filter="a.>"), ["a.x"])
         self.assertEqual(self.bucket.keys("d"), [])
         for number in range(1000):
             self.bucket[f"many.{number}"] = b""
         self.assertEqual(self.bucket.keys("many.*"), [f"many.{number}" for number in range(1000)])
-        with self.assertRaises(vilgoued.BadFilter):
-            self.bucket.keys("a..b")
+        for filter in ("a..b", "a.>,b"):
+            with self.assertRaises(vilgoued.BadFilter):
+                self.bucket.keys(filter)
+        self.assertEqual(self.bucket.watch(">").number, 1)
 
     def test_status(self):
         self.bucket["a"] = b"1"
@@ -169,6 +181,17 @@ class Watches(unittest.TestCase):
         self.assertEqual(revisions(since=2), [2, 3, 0])
         with self.assertRaises(vilgoued.OptionsClash):
             self.bucket.watch(">", history=True, updates=True)
+
+    def test_with(self):
+        with self.bucket.watch(">") as watch:
+            next(watch)
+        with self.assertRaises(vilgoued.NoSuchWatch):
+            next(watch)
+        with self.bucket.watch(">") as watch:
+            watch.stop()
+        self.assertEqual(self.bucket.status().watches, 0)
+        with self.bucket.watch(">"):
+            self.bucket.close()
 
     def test_headers_only_and_ignored_deletes(self):
         watch = self.bucket.watch("app.*,db.*", headers_only=True, ignore_deletes=True)
@@ -284,7 +307,7 @@ class Compactions(unittest.TestCase):
 
 class Refusals(unittest.TestCase):
     def test_names(self):
-        for name in ("", "no name", "x" * 65, b"\xff"):
+        for name in ("", "no name", "x" * 65, b"\xff", "a\udc80"):
             with self.assertRaises(vilgoued.BadBucket):
                 open_bucket(name)
         with self.assertRaises(vilgoued.BadConfig):
@@ -292,12 +315,12 @@ class Refusals(unittest.TestCase):
 
     def test_keys_and_filters(self):
         with fresh_bucket() as bucket:
-            for key in ("", "a..b", ".a", "a b", b"a\xff", "x" * 256):
+            for key in ("", "a..b", ".a", "a b", b"a\xff", "a\udc80", "x" * 256):
                 with self.assertRaises(vilgoued.BadKey):
                     bucket.put(key, b"1")
                 with self.assertRaises(vilgoued.BadKey):
                     bucket.get(key)
-            for filters in ("", "a.>.b", "a,", b"\xff"):
+            for filters in ("", "a.>.b", "a,", b"\xff", "a\udc80"):
                 with self.assertRaises(vilgoued.BadFilter):
                     bucket.watch(filters)
 
@@ -306,7 +329,8 @@ class Refusals(unittest.TestCase):
         watch = bucket.watch(">")
         bucket.close()
         bucket.close()
-        for call in (lambda: bucket.put("a", b""), lambda: bucket.get("a"), lambda: next(watch), bucket.status, bucket.seal):
+        reads = lambda: bucket.get("a"), lambda: bucket.get("a", at=0), lambda: bucket.history("a"), bucket.keys, bucket.status
+        for call in (*reads, lambda: bucket.put("a", b""), bucket.seal, lambda: next(watch), watch.stop):
             with self.assertRaises(vilgoued.Closed):
                 call()
 
@@ -328,6 +352,9 @@ class Refusals(unittest.TestCase):
                 bucket.update("a", b"", last=-1)
             with self.assertRaises(OverflowError):
                 bucket.delete("a", last=1 << 64)
+            for call in (lambda: bucket.update("a", b"", last=1.0), lambda: bucket.get("a", at=1.0), lambda: bucket.watch(">", since=1.5)):
+                with self.assertRaises(TypeError):
+                    call()
 
 
 @unittest.skipIf(server, "a server has no snapshots")

@@ -13,6 +13,7 @@ A bucket is used by one thread at a time; a snapshot may be read, and a feed fol
 bucket's.
 """
 import ctypes
+import operator
 import os
 from collections import namedtuple
 
@@ -183,12 +184,32 @@ class _Lib:
 _lib = _Lib()
 
 
+def _bytes(value):
+    """The bytes of a value: of a text in UTF-8, or of what has bytes. A number has none, and is a TypeError."""
+    if isinstance(value, str):
+        return value.encode()
+    return value if isinstance(value, bytes) else bytes(memoryview(value))
+
+
+def _name(text):
+    """The bytes of a name. Half a surrogate pair, which no name has, gives bytes that are refused as any other wrong ones."""
+    return text.encode("utf-8", "surrogatepass") if isinstance(text, str) else _bytes(text)
+
+
 def _text(text):
-    data = text.encode() if isinstance(text, str) else bytes(text)
+    """A name as C takes it: its bytes, and how many they are."""
+    data = _name(text)
+    return data, len(data)
+
+
+def _data(value):
+    """A value, likewise."""
+    data = _bytes(value)
     return data, len(data)
 
 
 def _u64(number):
+    number = operator.index(number)
     if not 0 <= number < 1 << 64:
         raise OverflowError(f"{number} is not a number of 64 bits")
     return number
@@ -343,15 +364,15 @@ class Bucket(_Reader):
 
     def put(self, key, value):
         """Gives the key the value, and answers the revision of the write."""
-        return self._write(_lib.kv_put, *_text(key), *_text(value))
+        return self._write(_lib.kv_put, *_text(key), *_data(value))
 
     def create(self, key, value):
         """The same, where the key has no value."""
-        return self._write(_lib.kv_create, *_text(key), *_text(value))
+        return self._write(_lib.kv_create, *_text(key), *_data(value))
 
     def update(self, key, value, *, last):
         """The same, where `last` is the key's last revision, 0 where it was never written."""
-        return self._write(_lib.kv_update, *_text(key), *_text(value), _u64(last))
+        return self._write(_lib.kv_update, *_text(key), *_data(value), _u64(last))
 
     def delete(self, key, *, last=None):
         """Ends the value of the key; with `last`, only where that is the key's last revision."""
@@ -383,7 +404,8 @@ class Bucket(_Reader):
         self.delete(key)
 
     def watch(self, filters, *, history=False, updates=False, since=None, ignore_deletes=False, headers_only=False):
-        """A watch of the keys that a filter matches, or one of several filters with a comma between two."""
+        """A watch of the keys that a filter matches, or one of several filters with a comma between two. At most 64 are open at a
+        time, and one that is behind refuses a compaction: who needs it no longer calls `stop`, or opens it by `with`."""
         options = _options(history, updates, since, ignore_deletes, headers_only)
         number = ctypes.c_uint64()
         self._ask(_lib.kv_watch, *_text(filters), ctypes.byref(options), ctypes.byref(number))
@@ -403,8 +425,21 @@ class _Items:
         return item
 
 
-class Watch(_Items):
-    """A watch of a bucket."""
+class _Stoppable:
+    """A watch that `with` stops at its end, as far as it is still open."""
+
+    def __enter__(self):
+        return self
+
+    def __exit__(self, *_):
+        try:
+            self.stop()
+        except (_REFUSALS[13], _REFUSALS[32]):
+            pass
+
+
+class Watch(_Items, _Stoppable):
+    """A watch of a bucket. It is open until it is stopped, or its bucket is closed."""
 
     def __init__(self, bucket, number):
         self._bucket = bucket

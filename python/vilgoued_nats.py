@@ -17,13 +17,13 @@ import base64
 import json
 import re
 import secrets
-import select
+import selectors
 import socket
 import urllib.parse
 
 import vilgoued
 from vilgoued import *  # The words and the refusals are the same.
-from vilgoued import MARKER, _u64
+from vilgoued import MARKER, _bytes, _name, _Stoppable, _u64
 
 __all__ = [name for name in vilgoued.__all__ if name != "Snapshot"] + ["ServerError", "copy_to", "is_key"]
 
@@ -73,6 +73,9 @@ class _Connection:
             self._greet()
         except OSError as error:
             raise self._lost(error) from None
+        except BaseException:
+            self.close()
+            raise
 
     def _greet(self):
         word, _, text = self._from.readline().partition(b" ")
@@ -109,10 +112,16 @@ class _Connection:
             raise ConnectionAbortedError("the server says: " + " ".join(words[1:]).strip("'"))
         return words[0]
 
+    def _has_more(self):
+        # No select where there is poll: it takes no descriptor beyond 1023.
+        with getattr(selectors, "PollSelector", selectors.SelectSelector)() as waiting:
+            waiting.register(self._socket, selectors.EVENT_READ)
+            return bool(waiting.select(0))
+
     def _settle(self):
         """Reads what came between two requests, and connects again where that was the end."""
         try:
-            while self._socket and select.select([self._socket], [], [], 0)[0]:
+            while self._socket and self._has_more():
                 self._read()
         except OSError:
             self.close()
@@ -134,6 +143,10 @@ class _Connection:
                     return said[1:]
         except OSError as error:
             raise self._lost(error) from None
+        except BaseException:
+            # Half a request may be there, as where the caller was interrupted.
+            self.close()
+            raise
 
     def close(self):
         if self._socket:
@@ -152,17 +165,13 @@ def _user(parts):
     return {"user": name, "pass": urllib.parse.unquote(parts.password)}
 
 
-def _bytes(text):
-    return text.encode() if isinstance(text, str) else bytes(text)
-
-
 def _is(grammar, text):
     return len(text) <= 255 and grammar.fullmatch(text) is not None
 
 
 def _checked(text, grammar, refusal):
     """The text, where it is of the grammar. Nothing else may come into a line of the protocol."""
-    data = _bytes(text)
+    data = _name(text)
     if not _is(grammar, data):
         raise refusal(text)
     return data.decode()
@@ -170,7 +179,7 @@ def _checked(text, grammar, refusal):
 
 def is_key(text):
     """Whether the text is a key."""
-    return _is(_KEY, _bytes(text))
+    return _is(_KEY, _name(text))
 
 
 def _key(text):
@@ -178,7 +187,7 @@ def _key(text):
 
 
 def _filters(text):
-    parts = _bytes(text).split(b",")
+    parts = _name(text).split(b",")
     if len(parts) > 16:
         raise BadFilter("more than 16 filters")
     return [_checked(part, _FILTER, BadFilter) for part in parts]
@@ -276,8 +285,15 @@ class Bucket:
 
     def _from(self, revision, filters):
         """The first retained entry, with this revision or a later one, that one of the filters matches, or None."""
-        found = (self._entry(seq=revision, next_by_subj=self._subject(filter)) for filter in filters)
-        return min(filter(None, found), key=lambda entry: entry.revision, default=None)
+        ask = lambda filter: self._entry(seq=revision, next_by_subj=self._subject(filter))
+        found = [ask(filter) for filter in filters]
+        first = min((entry for entry in found if entry), key=lambda entry: entry.revision, default=None)
+        if first is None:
+            return None
+        # What had nothing when it was asked may have been written to before that entry, as others write meanwhile.
+        before = zip(filters[:found.index(first)], found)
+        again = (ask(filter) for filter, entry in before if entry is None)
+        return min((first, *filter(None, again)), key=lambda entry: entry.revision)
 
     # Writes.
 
@@ -311,16 +327,13 @@ class Bucket:
 
     def create(self, key, value):
         """The same, where the key has no value."""
-        key, value = _key(key), _bytes(value)
-        try:
-            return self._write(key, value, last=0)
-        except WrongLastRevision:
-            entry = self._last(key)
-        try:
-            if entry is not None and entry.op != "PUT":
-                return self._write(key, value, last=entry.revision)
-        except WrongLastRevision:
-            pass
+        key, value, entry = _key(key), _bytes(value), None
+        # Again where another client wrote a marker meanwhile.
+        while entry is None or entry.op != "PUT":
+            try:
+                return self._write(key, value, last=entry.revision if entry else 0)
+            except WrongLastRevision:
+                entry = self._last(key)
         raise KeyExists(key)
 
     def update(self, key, value, *, last):
@@ -346,10 +359,13 @@ class Bucket:
     def get(self, key, default=None, *, at=None):
         """The value of the key with its revision, or `default`; with `at`, the put of that revision, if retained."""
         key = _key(key)
+        if not self._is_open:
+            raise Closed()
         if at is None:
             entry = self._last(key)
         else:
-            entry = self._entry(seq=at, next_by_subj=self._subject(key)) if _u64(at) else None
+            at = _u64(at)
+            entry = self._entry(seq=at, next_by_subj=self._subject(key)) if at else None
         if entry is None or entry.op != "PUT" or at not in (None, entry.revision):
             return default
         return Value(entry.value, entry.revision)
@@ -372,19 +388,29 @@ class Bucket:
     def history(self, key):
         """The retained entries of the key, oldest first; none where it was never written."""
         entries, filters = [], [_key(key)]
-        entry = self._from(1, filters)
+        # No further than the last one is now, as others may write on.
+        last = self._last(key)
+        entry = self._from(1, filters) if last else None
         while entry is not None:
             entries.append(entry)
-            entry = self._from(entry.revision + 1, filters)
-        return entries
+            entry = self._from(entry.revision + 1, filters) if entry.revision < last.revision else None
+        return entries[-self._history:]
 
-    def keys(self, filters=">"):
+    def keys(self, filter=">"):
         """The keys that match and have a value, in the order of their last puts."""
-        watch = self.watch(filters, ignore_deletes=True)
-        try:
-            return [entry.key for entry in iter(watch.__next__, MARKER)]
-        finally:
-            watch.stop()
+        wanted = self._written(_checked(filter, _FILTER, BadFilter))
+        entries = [entry for entry in map(self._last, wanted) if entry is not None and entry.op == "PUT"]
+        return [entry.key for entry in sorted(entries, key=lambda entry: entry.revision)]
+
+    def _written(self, filter):
+        """The keys that match and have an entry, in no order. The server tells them page by page."""
+        keys, total = [], 1
+        while len(keys) < total:
+            told = self._api("STREAM.INFO", {"subjects_filter": self._subject(filter), "offset": len(keys)})
+            page = [subject[len(self._subject("")):] for subject in told["state"].get("subjects") or {}]
+            keys += page
+            total = told.get("total", 0) if page else 0
+        return keys
 
     def status(self):
         """The numbers of the bucket. Only what is retained is stored, and `watches` are those of this object."""
@@ -430,7 +456,7 @@ class Bucket:
         self.close()
 
 
-class Watch:
+class Watch(_Stoppable):
     """A watch: an iterator over what the server has for it now; it ends where nothing is left, and goes on after more writes.
     It is a place among the revisions, and each item is asked for when it is wanted. So what is overwritten before it is asked
     for is never handed out."""
@@ -458,6 +484,8 @@ class Watch:
         return item
 
     def _check(self):
+        if not self._bucket._is_open:
+            raise Closed()
         if self.number not in self._bucket._open:
             raise NoSuchWatch(self.number)
 

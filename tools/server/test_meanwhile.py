@@ -1,0 +1,110 @@
+"""What a bucket on a server answers while others write to it, between one question to the server and the next."""
+import os
+import subprocess
+import threading
+import unittest
+
+from vilgoued_nats import Bucket, KeyExists
+
+server = os.environ["VILGOUED_SERVER"]
+tools = os.path.join(os.path.dirname(os.path.abspath(__file__)), "..")
+
+
+class Interrupted(Bucket):
+    """A bucket that lets another client write behind each of its questions for an entry."""
+
+    meanwhile = None
+
+    def _entry(self, **asked):
+        found = super()._entry(**asked)
+        if self.meanwhile:
+            self.meanwhile()
+        return found
+
+
+class Meanwhile(unittest.TestCase):
+    def buckets(self, name, history=1):
+        """A bucket that is interrupted, and another client's."""
+        buckets = Interrupted(server, name, history), Bucket(server, name, history)
+        for bucket in buckets:
+            self.addCleanup(bucket.close)
+        return buckets
+
+    def test_a_watch_of_several_filters(self):
+        bucket, other = self.buckets("filters")
+        watch = bucket.watch("a.*,c.*,b.*", updates=True)
+
+        def write():
+            bucket.meanwhile = None
+            for key in ("a.x", "b.y", "c.z", "a.x"):
+                other[key] = b"1"
+
+        bucket.meanwhile = write
+        self.assertEqual([(it.key, it.revision) for it in watch], [("b.y", 2), ("c.z", 3), ("a.x", 4)])
+
+        def write_two():
+            bucket.meanwhile = None
+            other["a.w"] = other["b.w"] = b"1"
+
+        bucket.meanwhile = write_two
+        self.assertEqual([it.key for it in watch], ["a.w", "b.w"])
+
+    def test_keys(self):
+        bucket, other = self.buckets("keys")
+        for key in ("a", "hot", "c"):
+            other[key] = b"1"
+        bucket.meanwhile = lambda: other.put("hot", b"2")
+        self.assertEqual(sorted(bucket.keys()), ["a", "c", "hot"])
+
+    def test_history(self):
+        for history in (1, 3):
+            bucket, other = self.buckets("history-%d" % history, history)
+            for number in range(4):
+                other["hot"] = b"%d" % number
+            bucket.meanwhile = lambda: other.put("hot", b"2")
+            self.assertLessEqual(len(bucket.history("hot")), history)
+
+    def test_create(self):
+        bucket, other = self.buckets("create")
+        turns = iter(range(3))
+        bucket.meanwhile = lambda: next(turns, None) is None or other.delete("k")
+        other.delete("k")
+        self.assertGreater(bucket.create("k", b"1"), 1)
+        with self.assertRaises(KeyExists):
+            bucket.create("k", b"2")
+
+    def test_a_script_of_a_bucket(self):
+        with Bucket(server, "written") as other:
+            for number in range(100):
+                other["k.%d" % number] = b"1"
+            over = threading.Event()
+
+            def write():
+                while not over.is_set():
+                    other["k.50"] = b"2"
+
+            writer = threading.Thread(target=write)
+            writer.start()
+            try:
+                done = subprocess.run([os.path.join(tools, "from-nats"), server, "written"], capture_output=True, text=True, timeout=50)
+            finally:
+                over.set()
+                writer.join()
+        self.assertEqual(done.returncode, 1)
+        self.assertIn("others wrote meanwhile", done.stderr)
+
+
+class Interruptions(unittest.TestCase):
+    def test_a_caller_that_is_interrupted(self):
+        with Bucket(server, "interrupted") as bucket:
+            read = bucket._server._read
+
+            def interrupted():
+                bucket._server._read = read
+                raise KeyboardInterrupt
+
+            bucket._server._read = interrupted
+            with self.assertRaises(KeyboardInterrupt):
+                bucket["a"] = b"1"
+            bucket["b"] = b"2"
+            self.assertEqual(bucket["b"], b"2")
