@@ -93,22 +93,22 @@ fn tell_copies<C: Copies + Named, R: Wait + Clock + Print>(
     series.tell(rt)
 }
 
-/// What is measured: each part in a process of its own, since what another one freed lies scattered.
+/// What a live bucket is asked for.
 #[derive(Clone, Copy)]
-pub enum Part {
-    /// Reads of a live bucket.
+pub enum Asked {
+    /// Reads.
     Reads,
-    /// Writes to one, which has room for them.
+    /// Writes, which it has room for.
     Writes,
-    /// Maps.
-    Maps,
 }
 
-// What a live bucket is asked for.
+/// What is measured. Each part is for a process of its own: a bucket behind one that was freed was seen to be slower.
 #[derive(Clone, Copy)]
-enum Asked {
-    Reads,
-    Writes,
+pub enum Part {
+    /// A live bucket.
+    Live(Asked),
+    /// Maps.
+    Maps,
 }
 
 fn live_reads<N: LiveName, R: Wait + Clock + Print>(
@@ -176,6 +176,10 @@ fn on_a_live<R: Wait + Clock + Print>(
     plan: Plan,
     asked: Asked,
 ) -> Result<(), Fault> {
+    let plan = match asked {
+        Asked::Reads => plan,
+        Asked::Writes => plan.with_room(),
+    };
     let opened = opened(alloc, 1)?;
     opened_figures::<Brand, R>(rt, alloc, plan, asked, opened)
 }
@@ -210,8 +214,7 @@ pub fn run<R: Wait + Clock + Print>(
     part: Part,
 ) -> Result<(), Fault> {
     match part {
-        Part::Reads => on_a_live(rt, alloc, plan, Asked::Reads),
-        Part::Writes => on_a_live(rt, alloc, plan.with_room(), Asked::Writes),
+        Part::Live(asked) => on_a_live(rt, alloc, plan, asked),
         Part::Maps => both_maps(rt, alloc, plan),
     }
 }

@@ -35,8 +35,8 @@ pub fn of_word(word: &str) -> Option<Group> {
         "calls-reads" => Some(Group::Calls(calls::Part::Reads)),
         "calls-writes" => Some(Group::Calls(calls::Part::Writes)),
         "compact" => Some(Group::Compact),
-        "beside-reads" => Some(Group::Beside(beside::Part::Reads)),
-        "beside-writes" => Some(Group::Beside(beside::Part::Writes)),
+        "beside-reads" => Some(Group::Beside(beside::Part::Live(beside::Asked::Reads))),
+        "beside-writes" => Some(Group::Beside(beside::Part::Live(beside::Asked::Writes))),
         "beside-maps" => Some(Group::Beside(beside::Part::Maps)),
         "memory-keys" => Some(Group::Memory(memory::What::Keys)),
         "memory-writes" => Some(Group::Memory(memory::What::Writes)),
@@ -78,8 +78,8 @@ fn all_calls<R: Clock + Print>(rt: &R, alloc: Global, plan: Plan) -> Result<(), 
 }
 
 fn all_beside<R: Clock + Print + Wait>(rt: &R, alloc: Global, plan: Plan) -> Result<(), Fault> {
-    beside::run(rt, alloc, plan, beside::Part::Reads)?;
-    beside::run(rt, alloc, plan, beside::Part::Writes)?;
+    beside::run(rt, alloc, plan, beside::Part::Live(beside::Asked::Reads))?;
+    beside::run(rt, alloc, plan, beside::Part::Live(beside::Asked::Writes))?;
     beside::run(rt, alloc, plan, beside::Part::Maps)
 }
 

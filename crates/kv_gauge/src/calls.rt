@@ -199,7 +199,7 @@ fn fill_and_measure<R: Clock + Print>(
     figures(rt, alloc, &mut bucket, plan, calls)
 }
 
-/// Which calls are measured: each part in a process of its own, since what another one freed lies scattered.
+/// Which calls are measured. Each part is for a process of its own: a bucket behind one that was freed was seen to be slower.
 #[derive(Clone, Copy)]
 pub enum Part {
     /// Puts of new keys.
