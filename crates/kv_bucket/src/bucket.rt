@@ -5,6 +5,9 @@ ghost use Rattle.kv_keys.specs.Outcome.{Refuses};
 ghost use Rattle.kv_model.specs.Configuration.{configure};
 ghost use Rattle.kv_store.specs.Standing.{StandsFor};
 ghost use Rattle.kv_bucket.specs.Held.{Represents};
+ghost use Rattle.kv_bucket.specs.Stepping.{IsStep};
+ghost use Rattle.kv_model.specs.Answers.{Answer};
+ghost use Rattle.kv_model.specs.declared.call.Call.{Call as ACall};
 ghost use Rattle.kv_model.specs.State.{State, empty, open_count};
 
 use crate::held::Held;
@@ -74,9 +77,10 @@ impl Bucket {
     }
 
     /// Puts another version in place of its own, and changes nothing else: for a layer that makes the next version
-    /// apart, and puts it in place once it has done with it what may be refused. The bucket represents what it did,
-    /// with one act more, where the version stands for one act more.
+    /// apart, and puts it in place once it has done with it what may be refused. It asks that this is one step of the
+    /// model: what some call does, from every state that the bucket represents.
     pub fn go_on_to(&mut self, next: Version)
+        requires step { (call : ACall) × ((answer : Answer) × IsStep self.old call answer (record self.old { version = next })) }
         ensures { self.new ≡ record self.old { version = next } }
     {
         self.version = next;

@@ -96,9 +96,9 @@ impl Bucket {
     /// is shown can be copied first, and want of memory loses no item. Where it showed none, or no watch of the number
     /// is open, nothing is handed out.
     pub fn pass(&mut self, number: u64, peeked: Option<Event>)
-        ensures { (state : State) → Represents state self.old →
-            peeked ≡ event_answered (answer_to state (Take number)) →
-            Represents (after state (Take number)) self.new }
+        requires next { (state : State) → Represents state self.old →
+            peeked ≡ event_answered (answer_to state (Take number)) }
+        ensures { (state : State) → Represents state self.old → Represents (after state (Take number)) self.new }
     {
         if let Some(place) = place_of(&self.watches, number) {
             let held = &mut self.watches[place];

@@ -1,5 +1,5 @@
 -- What an act and a quiet call make of what lies under the lock.
-use Rattle.std.proofs.Common.{◌≡◌, ℕ, ◌+◌, Bool, true, false, if◌then◌else◌, inl, inr, cond, List, [], ◌∷◌, ◌++◌, Option, Some, None, Result, Ok, Err, length, refl, sym, ap, ◌∙◌, subst, length-append}
+use Rattle.std.proofs.Common.{◌≡◌, ℕ, ◌+◌, Bool, true, false, if◌then◌else◌, cond, List, [], ◌∷◌, ◌++◌, Option, Some, None, Result, Ok, Err, length, refl, sym, ap, ◌∙◌, subst, length-append}
 use Rattle.std.specs.Prelude.{IfOk, IfErr, OnOk, OnErr, MatchResult}
 use Rattle.kv_keys.specs.Outcome.{Refuses}
 use Rattle.kv_keys.specs.declared.error.KvError.{KvError}
@@ -14,7 +14,6 @@ use Rattle.kv_store.specs.Standing.{StandsFor}
 use Rattle.kv_store.specs.Stored.{Stored}
 use Rattle.kv_model.proofs.Numbered.{accepted_is_next, writes_of-wrote}
 use Rattle.kv_model.proofs.Storing.{floor_of-compact}
-use Rattle.kv_live.specs.Posted.{Posted, Posts, PostsNothing, showing, without}
 use Rattle.kv_model.specs.declared.options.Options.{Options}
 use Rattle.kv_model.specs.Given.{Item}
 use Rattle.kv_model.specs.declared.call.Call.{Call}
@@ -31,21 +30,17 @@ use Rattle.kv_bucket.proofs.Representing.{represents_act}
 
 -- the value under the lock after one more act, which the store shows
 abbrev pub kept_after : Kept → Act → Stored → Kept
-kept_after old act version = record { bucket = record old.bucket { version = version }; published = old.published ++ act ∷ []; is_open = true; noted = old.published ++ act ∷ [] }
+kept_after old act version = record { bucket = record old.bucket { version = version }; published = old.published ++ act ∷ [] }
 
-abbrev pub posted_after : Kept → Act → Posted
-posted_after old act = showing (old.published ++ act ∷ [])
+abbrev pub posted_after : Kept → Act → List Act
+posted_after old act = old.published ++ act ∷ []
 
-pub kept_same : (old : Kept) (bucket new : Bucketed) (act : Act) (version : Stored) (posted : Posted) → old.bucket ≡ bucket → posted ≡ posted_after old act → new ≡ record bucket { version = version }
+pub kept_same : (old : Kept) (bucket new : Bucketed) (act : Act) (version : Stored) (posted : List Act) → old.bucket ≡ bucket → posted ≡ posted_after old act → new ≡ record bucket { version = version }
     → kept_after old act version ≡ kept_of new posted
 kept_same old bucket new act version posted is more put =
     ap (λ (b : Bucketed). kept_of (record b { version = version }) (posted_after old act)) is
     ∙ (ap (λ (b : Bucketed). kept_of b (posted_after old act)) (sym put)
-    ∙ ap (λ (p : Posted). kept_of new p) (sym more))
-
--- the store has no part in the state
-pub somewhere_open : (config : Configuration) (old : Kept) (is_open : Bool) (noted : List Act) → IsSomewhere config old → IsSomewhere config (record old { is_open = is_open; noted = noted })
-somewhere_open config old is_open noted some = (some.0, record { represents = some.1.represents; published = some.1.published })
+    ∙ ap (λ (p : List Act). kept_of new p) (sym more))
 
 -- the bucket with this version is at the state after the act
 abbrev pub GoesOn : Kept → Act → Stored → Type 0
@@ -99,22 +94,20 @@ at_write state old request w version revision at same ok accepted stands last =
       subst (λ r. IsAt (after_write state r) new) (sym is) (at_act state old (Wrote w) version (goes_on old (Wrote w) version refl same stands) at),
     )
 
-pub somewhere_left : (config : Configuration) (was bucket : Bucketed) (before posted : Posted) (act : Act) → IsSomewhere config (kept_of was before) → PostsNothing before act posted → bucket ≡ was → IsSomewhere config (kept_of bucket posted)
-somewhere_left config was bucket before posted act some (inl same) put =
-    subst (IsSomewhere config) (ap (λ (b : Bucketed). kept_of b before) (sym put) ∙ ap (λ (p : Posted). kept_of bucket p) (sym same)) some
-somewhere_left config was bucket before posted act some (inr ended) put =
-    subst (IsSomewhere config) (ap (λ (b : Bucketed). kept_of b (without before act)) (sym put) ∙ ap (λ (p : Posted). kept_of bucket p) (sym ended)) (somewhere_open config (kept_of was before) false (before.acts ++ act ∷ []) some)
+pub somewhere_left : (config : Configuration) (was bucket : Bucketed) (before posted : List Act) → IsSomewhere config (kept_of was before) → posted ≡ before → bucket ≡ was → IsSomewhere config (kept_of bucket posted)
+somewhere_left config was bucket before posted some same put =
+    subst (IsSomewhere config) (ap (λ (b : Bucketed). kept_of b before) (sym put) ∙ ap (λ (p : List Act). kept_of bucket p) (sym same)) some
 
 -- whether the act was kept or refused, the value under the lock is at some state
-pub somewhere_kept : (config : Configuration) (old : Kept) (was bucket : Bucketed) (act : Act) (version : Stored) (before posted : Posted) (kept : Result (Unit {0}) KvError) → GoesOn old act version → IsSomewhere config old → old ≡ kept_of was before
-    → OnOk kept (Posts before act posted × (bucket ≡ record was { version = version }))
-    → OnErr kept (PostsNothing before act posted × (bucket ≡ was)) → IsSomewhere config (kept_of bucket posted)
+pub somewhere_kept : (config : Configuration) (old : Kept) (was bucket : Bucketed) (act : Act) (version : Stored) (before posted : List Act) (kept : Result (Unit {0}) KvError) → GoesOn old act version → IsSomewhere config old → old ≡ kept_of was before
+    → OnOk kept ((posted ≡ before ++ act ∷ []) × (bucket ≡ record was { version = version }))
+    → OnErr kept ((posted ≡ before) × (bucket ≡ was)) → IsSomewhere config (kept_of bucket posted)
 somewhere_kept config old was bucket act version before posted (Ok done) on some is ok err =
     subst (IsSomewhere config)
-    (kept_same old was bucket act version posted (ap (λ (k : Kept). k.bucket) is) (ok.0.1 ∙ ap (λ (k : Kept). posted_after k act) (sym is)) ok.1)
+    (kept_same old was bucket act version posted (ap (λ (k : Kept). k.bucket) is) (ok.0 ∙ ap (λ (k : Kept). posted_after k act) (sym is)) ok.1)
     (somewhere_act config old act version on some)
 somewhere_kept config old was bucket act version before posted (Err error) on some is ok err =
-    somewhere_left config was bucket before posted act (subst (IsSomewhere config) is some) err.0 err.1
+    somewhere_left config was bucket before posted (subst (IsSomewhere config) is some) err.0 err.1
 
 -- ---- calls that accept nothing
 
@@ -184,28 +177,28 @@ publishes config old request w version revision published some accepted stands l
 
 -- ---- what an act that is kept makes of what lies under the lock
 
-kept_put : (was bucket : Bucketed) (before posted : Posted) (act deed : Act) (version : Stored) → deed ≡ act → Posts before deed posted × (bucket ≡ record was { version = version }) → kept_after (kept_of was before) act version ≡ kept_of bucket posted
-kept_put was bucket before posted act deed version same kept = kept_same (kept_of was before) was bucket act version posted refl (kept.0.1 ∙ ap (posted_after (kept_of was before)) same) kept.1
+kept_put : (was bucket : Bucketed) (before posted : List Act) (act deed : Act) (version : Stored) → deed ≡ act → (posted ≡ before ++ deed ∷ []) × (bucket ≡ record was { version = version }) → kept_after (kept_of was before) act version ≡ kept_of bucket posted
+kept_put was bucket before posted act deed version same kept = kept_same (kept_of was before) was bucket act version posted refl (kept.0 ∙ ap (posted_after (kept_of was before)) same) kept.1
 
 kept_step : (call : Call) (answer : Answer) (old now next new : Kept) → old ≡ now → next ≡ new → IsKeptStep old call answer next → IsKeptStep now call answer new
 kept_step call answer old now next new is put step = subst (λ (k : Kept). IsKeptStep k call answer new) is (subst (λ (k : Kept). IsKeptStep old call answer k) put step)
 
-pub seals_kept : (config : Configuration) (now : Kept) (was bucket : Bucketed) (before posted : Posted) (deed : Act) (seen version : Stored) → kept_of was before ≡ now → IsSomewhere config (kept_of was before) → seen ≡ was.version
-    → version ≡ record seen { sealed = true } → ((acts : List Act) → StandsFor acts seen → StandsFor (acts ++ Seal ∷ []) version) → deed ≡ Seal → Posts before deed posted × (bucket ≡ record was { version = version })
+pub seals_kept : (config : Configuration) (now : Kept) (was bucket : Bucketed) (before posted : List Act) (deed : Act) (seen version : Stored) → kept_of was before ≡ now → IsSomewhere config (kept_of was before) → seen ≡ was.version
+    → version ≡ record seen { sealed = true } → ((acts : List Act) → StandsFor acts seen → StandsFor (acts ++ Seal ∷ []) version) → deed ≡ Seal → (posted ≡ before ++ deed ∷ []) × (bucket ≡ record was { version = version })
     → IsSomewhere config (kept_of bucket posted) × IsKeptStep now calls.Seal Sealed (kept_of bucket posted)
 seals_kept config now was bucket before posted deed seen version is some value sealed stands same kept =
     let old : Kept = kept_of was before in
     let put : kept_after old Seal version ≡ kept_of bucket posted = kept_put was bucket before posted Seal deed version same kept in
     let own : version.config ≡ was.version.config = ap (λ (v : Stored). v.config) sealed ∙ ap (λ (v : Stored). v.config) value in
-    let on : GoesOn old Seal version = goes_on old Seal version refl own (stands before.acts (subst (StandsFor before.acts) (sym value) (published_stands config old some))) in
+    let on : GoesOn old Seal version = goes_on old Seal version refl own (stands before (subst (StandsFor before) (sym value) (published_stands config old some))) in
     let step : IsKeptStep old calls.Seal Sealed (kept_after old Seal version) = λ state at. (refl, at_act state old Seal version on at) in (
       subst (IsSomewhere config) put (somewhere_act config old Seal version on some),
       kept_step calls.Seal Sealed old now (kept_after old Seal version) (kept_of bucket posted) is put step,
     )
 
-pub compacts_kept : (config : Configuration) (now : Kept) (was bucket : Bucketed) (before posted : Posted) (floor : ℕ) (deed : Act) (seen version : Stored) → kept_of was before ≡ now → IsSomewhere config (kept_of was before) → seen ≡ was.version
+pub compacts_kept : (config : Configuration) (now : Kept) (was bucket : Bucketed) (before posted : List Act) (floor : ℕ) (deed : Act) (seen version : Stored) → kept_of was before ≡ now → IsSomewhere config (kept_of was before) → seen ≡ was.version
     → version.config ≡ seen.config → ((acts : List Act) → StandsFor acts seen → (is_bad_floor floor acts ≡ false) × StandsFor (acts ++ Compact floor ∷ []) version)
-    → ((state : State) → Represents state was → may_compact floor state ≡ Ok floor) → deed ≡ Compact floor → Posts before deed posted × (bucket ≡ record was { version = version })
+    → ((state : State) → Represents state was → may_compact floor state ≡ Ok floor) → deed ≡ Compact floor → (posted ≡ before ++ deed ∷ []) × (bucket ≡ record was { version = version })
     → IsSomewhere config (kept_of bucket posted) × IsKeptStep now (calls.Compact floor) (Compacted floor) (kept_of bucket posted)
 compacts_kept config now was bucket before posted floor deed seen version is some value same_config stands may same kept =
     let old : Kept = kept_of was before in
@@ -213,7 +206,7 @@ compacts_kept config now was bucket before posted floor deed seen version is som
     let put : kept_after old (Compact floor) version ≡ kept_of bucket posted = kept_put was bucket before posted (Compact floor) deed version same kept in
     let own : version.config ≡ was.version.config = same_config ∙ ap (λ (v : Stored). v.config) value in
     let there : (state : State) → IsAt state old → may_compact floor state ≡ Ok floor = λ state at. may state at.represents in
-    let on : GoesOn old (Compact floor) version = goes_on_compacted old floor version there own (stands before.acts (subst (StandsFor before.acts) (sym value) (published_stands config old some))).1 in
+    let on : GoesOn old (Compact floor) version = goes_on_compacted old floor version there own (stands before (subst (StandsFor before) (sym value) (published_stands config old some))).1 in
     let step : IsKeptStep old call (Compacted floor) (kept_after old (Compact floor) version) = λ state at. at_compact state old floor version on (there state at) at in (
       subst (IsSomewhere config) put (somewhere_act config old (Compact floor) version on some),
       kept_step call (Compacted floor) old now (kept_after old (Compact floor) version) (kept_of bucket posted) is put step,
@@ -224,37 +217,37 @@ accepted_for : (config : Configuration) (request : Asked) (acts : List Act) (w :
 accepted_for config request acts w version revision accepted stands number =
     ap (λ (r : ℕ). Wrote (write_for request r)) (counts_on acts w version revision stands number) ∙ ap Wrote (accepted_is_next config request acts w accepted)
 
-pub wrote_stands : (config : Configuration) (was : Bucketed) (before : Posted) (request : Request) (deed : Act) (revision : ℕ) (seen version : Stored) → IsSomewhere config (kept_of was before) → seen ≡ was.version
+pub wrote_stands : (config : Configuration) (was : Bucketed) (before : List Act) (request : Request) (deed : Act) (revision : ℕ) (seen version : Stored) → IsSomewhere config (kept_of was before) → seen ≡ was.version
     → ((acts : List Act) → StandsFor acts seen → (w : Write) × ((accept seen.config (asked request) acts ≡ Ok w) × StandsFor (acts ++ Wrote w ∷ []) version))
-    → deed ≡ Wrote (write_for (asked request) revision) → revision ≡ version.last → StandsFor (before.acts ++ deed ∷ []) version
+    → deed ≡ Wrote (write_for (asked request) revision) → revision ≡ version.last → StandsFor (before ++ deed ∷ []) version
 wrote_stands config was before request deed revision seen version some value accepts told number =
-    let accepted = accepts before.acts (subst (StandsFor before.acts) (sym value) (published_stands config (kept_of was before) some)) in
-    let same = told ∙ accepted_for seen.config (asked request) before.acts accepted.0 version revision accepted.1.0 accepted.1.1 number in
-    subst (λ (act : Act). StandsFor (before.acts ++ act ∷ []) version) (sym same) accepted.1.1
+    let accepted = accepts before (subst (StandsFor before) (sym value) (published_stands config (kept_of was before) some)) in
+    let same = told ∙ accepted_for seen.config (asked request) before accepted.0 version revision accepted.1.0 accepted.1.1 number in
+    subst (λ (act : Act). StandsFor (before ++ act ∷ []) version) (sym same) accepted.1.1
 
-pub writes_kept : (config : Configuration) (now : Kept) (was bucket : Bucketed) (before posted : Posted) (request : Request) (deed : Act) (revision : ℕ) (seen version : Stored) → kept_of was before ≡ now → IsSomewhere config (kept_of was before)
+pub writes_kept : (config : Configuration) (now : Kept) (was bucket : Bucketed) (before posted : List Act) (request : Request) (deed : Act) (revision : ℕ) (seen version : Stored) → kept_of was before ≡ now → IsSomewhere config (kept_of was before)
     → seen ≡ was.version → version.config ≡ seen.config
     → ((acts : List Act) → StandsFor acts seen → (w : Write) × ((accept seen.config (asked request) acts ≡ Ok w) × StandsFor (acts ++ Wrote w ∷ []) version))
-    → deed ≡ Wrote (write_for (asked request) revision) → revision ≡ version.last → Posts before deed posted × (bucket ≡ record was { version = version })
-    → IsSomewhere config (kept_of bucket posted) × (IsKeptStep now (calls.Write request) (Revision revision) (kept_of bucket posted) × PublishesWrite config (asked request) revision now.published posted.acts)
+    → deed ≡ Wrote (write_for (asked request) revision) → revision ≡ version.last → (posted ≡ before ++ deed ∷ []) × (bucket ≡ record was { version = version })
+    → IsSomewhere config (kept_of bucket posted) × (IsKeptStep now (calls.Write request) (Revision revision) (kept_of bucket posted) × PublishesWrite config (asked request) revision now.published posted)
 writes_kept config now was bucket before posted request deed revision seen version is some value same_config accepts told number kept =
     let old : Kept = kept_of was before in
     let call : Call = calls.Write request in
     let ok : (acts : List Act) → StandsFor acts was.version → (w : Write) × ((accept was.version.config (asked request) acts ≡ Ok w) × StandsFor (acts ++ Wrote w ∷ []) version) =
     subst (λ (v : Stored). (acts : List Act) → StandsFor acts v → (w : Write) × ((accept v.config (asked request) acts ≡ Ok w) × StandsFor (acts ++ Wrote w ∷ []) version)) value accepts in
-    let accepted = ok before.acts (published_stands config old some) in
+    let accepted = ok before (published_stands config old some) in
     let act : Act = Wrote accepted.0 in
-    let same : deed ≡ act = told ∙ accepted_for was.version.config (asked request) before.acts accepted.0 version revision accepted.1.0 accepted.1.1 number in
+    let same : deed ≡ act = told ∙ accepted_for was.version.config (asked request) before accepted.0 version revision accepted.1.0 accepted.1.1 number in
     let put : kept_after old act version ≡ kept_of bucket posted = kept_put was bucket before posted act deed version same kept in
     let own : version.config ≡ was.version.config = same_config ∙ ap (λ (v : Stored). v.config) value in
     let on : GoesOn old act version = goes_on old act version refl own accepted.1.1 in
     let step : IsKeptStep old call (Revision revision) (kept_after old act version) = λ state at. at_write state old (asked request) accepted.0 version revision at own ok accepted.1.0 accepted.1.1 number in
-    let shown : posted.acts ≡ before.acts ++ act ∷ [] = ap (λ (p : Posted). p.acts) (kept.0.1 ∙ ap (posted_after old) same) in (
+    let shown : posted ≡ before ++ act ∷ [] = kept.0 ∙ ap (posted_after old) same in (
       subst (IsSomewhere config) put (somewhere_act config old act version on some),
       (
         kept_step call (Revision revision) old now (kept_after old act version) (kept_of bucket posted) is put step,
-        subst (λ (k : Kept). PublishesWrite config (asked request) revision k.published posted.acts) is
-            (publishes config old (asked request) accepted.0 version revision posted.acts some accepted.1.0 accepted.1.1 number shown),
+        subst (λ (k : Kept). PublishesWrite config (asked request) revision k.published posted) is
+            (publishes config old (asked request) accepted.0 version revision posted some accepted.1.0 accepted.1.1 number shown),
       ),
     )
 
@@ -265,7 +258,7 @@ refused_alike floor error true rest may refuses = absurd (cc may)
 refused_alike floor error false rest may refuses = subst (λ (r : Result ℕ KvError). Refuses error r) (sym may) refuses
 
 -- what refuses a compaction of the version that the bucket allows is want of memory
-pub refused_later : (now : Kept) (was : Bucketed) (before : Posted) (floor : ℕ) (error : KvError) (seen : Stored) → kept_of was before ≡ now → seen ≡ was.version → ((state : State) → Represents state was → may_compact floor state ≡ Ok floor)
+pub refused_later : (now : Kept) (was : Bucketed) (before : List Act) (floor : ℕ) (error : KvError) (seen : Stored) → kept_of was before ≡ now → seen ≡ was.version → ((state : State) → Represents state was → may_compact floor state ≡ Ok floor)
     → ((acts : List Act) → StandsFor acts seen → Refuses error (if is_bad_floor floor acts then Err BadFloor else Ok floor)) → (state : State) → IsAt state now → Refuses error (may_compact floor state)
 refused_later now was before floor error seen is value may refuses state at =
     let there : IsAt state (kept_of was before) = subst (IsAt state) (sym is) at in
@@ -273,31 +266,53 @@ refused_later now was before floor error seen is value may refuses state at =
 
 -- ---- the same of calls that accept nothing
 
-pub quiet_ok : {X : Type 0} (call : Call) (answer : X → Answer) (now : Kept) (was bucket : Bucketed) (before : Posted) (result : Result X KvError) → kept_of was before ≡ now → IsQuiet call
+pub quiet_ok : {X : Type 0} (call : Call) (answer : X → Answer) (now : Kept) (was bucket : Bucketed) (before : List Act) (result : Result X KvError) → kept_of was before ≡ now → IsQuiet call
     → IfOk result (λ x. IsStep was call (answer x) bucket) → IfOk result (λ x. IsKeptStep now call (answer x) (kept_of bucket before))
 quiet_ok call answer now was bucket before (Ok x) is quiet step = subst (λ (k : Kept). IsKeptStep k call (answer x) (kept_of bucket before)) is (step_quiet call (answer x) (kept_of was before) bucket quiet step)
 quiet_ok call answer now was bucket before (Err error) is quiet step = tt
 
-pub quiet_refused : {X : Type 0} (call : Call) (now : Kept) (was bucket : Bucketed) (before : Posted) (refusal : KvError) (result : Result X KvError) → kept_of was before ≡ now → IsQuiet call
+pub quiet_refused : {X : Type 0} (call : Call) (now : Kept) (was bucket : Bucketed) (before : List Act) (refusal : KvError) (result : Result X KvError) → kept_of was before ≡ now → IsQuiet call
     → IfErr result (λ e. (e ≡ refusal) × IsStep was call (Refused e) bucket) → IfErr result (λ e. (e ≡ refusal) × IsKeptStep now call (Refused e) (kept_of bucket before))
 quiet_refused call now was bucket before refusal (Ok x) is quiet step = tt
 quiet_refused call now was bucket before refusal (Err error) is quiet step = (step.0, subst (λ (k : Kept). IsKeptStep k call (Refused error) (kept_of bucket before)) is (step_quiet call (Refused error) (kept_of was before) bucket quiet step.1))
 
-pub quiet_unchanged : {X : Type 0} (now : Kept) (was bucket : Bucketed) (before : Posted) (result : Result X KvError) → kept_of was before ≡ now → OnErr result (bucket ≡ was) → OnErr result (kept_of bucket before ≡ now)
+pub quiet_unchanged : {X : Type 0} (now : Kept) (was bucket : Bucketed) (before : List Act) (result : Result X KvError) → kept_of was before ≡ now → OnErr result (bucket ≡ was) → OnErr result (kept_of bucket before ≡ now)
 quiet_unchanged now was bucket before (Ok x) is same = tt
 quiet_unchanged now was bucket before (Err error) is same = ap (λ (b : Bucketed). kept_of b before) same ∙ is
 
-pub quiet_taken : {X : Type 0} (call : Call) (answer : X → Answer) (now : Kept) (was bucket : Bucketed) (before : Posted) (result : Result X KvError) → kept_of was before ≡ now → IsQuiet call
+pub quiet_taken : {X : Type 0} (call : Call) (answer : X → Answer) (now : Kept) (was bucket : Bucketed) (before : List Act) (result : Result X KvError) → kept_of was before ≡ now → IsQuiet call
     → MatchResult result (λ x. IsStep was call (answer x) bucket) (λ e. bucket ≡ was) → MatchResult result (λ x. IsKeptStep now call (answer x) (kept_of bucket before)) (λ e. kept_of bucket before ≡ now)
 quiet_taken call answer now was bucket before (Ok x) is quiet step = quiet_ok call answer now was bucket before (Ok x) is quiet step
 quiet_taken call answer now was bucket before (Err error) is quiet same = ap (λ (b : Bucketed). kept_of b before) same ∙ is
 
-pub answers_ok : {X : Type 0} (call : Call) (answer : X → Answer) (now : Kept) (was : Bucketed) (before : Posted) (result : Result X KvError) → kept_of was before ≡ now
+pub answers_ok : {X : Type 0} (call : Call) (answer : X → Answer) (now : Kept) (was : Bucketed) (before : List Act) (result : Result X KvError) → kept_of was before ≡ now
     → IfOk result (λ x. (state : State) → Represents state was → answer x ≡ answer_to state call) → IfOk result (λ x. (state : State) → IsAt state now → answer x ≡ answer_to state call)
 answers_ok call answer now was before (Ok x) is answers = λ state at. answers state (subst (IsAt state) (sym is) at).represents
 answers_ok call answer now was before (Err error) is answers = tt
 
-pub answers_refused : {X : Type 0} (call : Call) (now : Kept) (was : Bucketed) (before : Posted) (refusal : KvError) (result : Result X KvError) → kept_of was before ≡ now
+pub answers_refused : {X : Type 0} (call : Call) (now : Kept) (was : Bucketed) (before : List Act) (refusal : KvError) (result : Result X KvError) → kept_of was before ≡ now
     → IfErr result (λ e. (e ≡ refusal) × ((state : State) → Represents state was → Refused e ≡ answer_to state call)) → IfErr result (λ e. (e ≡ refusal) × ((state : State) → IsAt state now → Refused e ≡ answer_to state call))
 answers_refused call now was before refusal (Ok x) is answers = tt
 answers_refused call now was before refusal (Err error) is answers = (answers.0, λ state at. answers.1 state (subst (IsAt state) (sym is) at).represents)
+
+-- ---- an act of the bucket alone is one step
+
+pub write_steps : (bucket : Bucketed) (request : Request) (revision : ℕ) (seen version : Stored) → seen ≡ bucket.version → version.config ≡ seen.config
+    → ((acts : List Act) → StandsFor acts seen → (w : Write) × ((accept seen.config (asked request) acts ≡ Ok w) × StandsFor (acts ++ Wrote w ∷ []) version))
+    → revision ≡ version.last → IsStep bucket (calls.Write request) (Revision revision) (record bucket { version = version })
+write_steps bucket request revision seen version value same accepts number = λ state r.
+    let ok : (acts : List Act) → StandsFor acts bucket.version → (w : Write) × ((accept bucket.version.config (asked request) acts ≡ Ok w) × StandsFor (acts ++ Wrote w ∷ []) version) =
+    subst (λ (v : Stored). (acts : List Act) → StandsFor acts v → (w : Write) × ((accept v.config (asked request) acts ≡ Ok w) × StandsFor (acts ++ Wrote w ∷ []) version)) value accepts in
+    write_done state bucket (asked request) version revision r (same ∙ ap (λ (v : Stored). v.config) value) ok number
+
+pub seal_steps : (bucket : Bucketed) (seen version : Stored) → seen ≡ bucket.version → version ≡ record seen { sealed = true }
+    → ((acts : List Act) → StandsFor acts seen → StandsFor (acts ++ Seal ∷ []) version) → IsStep bucket calls.Seal Sealed (record bucket { version = version })
+seal_steps bucket seen version value sealed stands = λ state r.
+    (refl, represents_act later state bucket Seal version refl r (ap (λ (v : Stored). v.config) sealed ∙ ap (λ (v : Stored). v.config) value) (stands state.acts (subst (StandsFor state.acts) (sym value) r.version)))
+
+pub compact_steps : (bucket : Bucketed) (floor : ℕ) (seen version : Stored) → seen ≡ bucket.version → version.config ≡ seen.config
+    → ((acts : List Act) → StandsFor acts seen → (is_bad_floor floor acts ≡ false) × StandsFor (acts ++ Compact floor ∷ []) version)
+    → ((state : State) → Represents state bucket → may_compact floor state ≡ Ok floor) → IsStep bucket (calls.Compact floor) (Compacted floor) (record bucket { version = version })
+compact_steps bucket floor seen version value same stands may = λ state r.
+    let own : StandsFor (state.acts ++ Compact floor ∷ []) version = (stands state.acts (subst (StandsFor state.acts) (sym value) r.version)).1 in
+    compact_done state bucket floor version r (may state r) (same ∙ ap (λ (v : Stored). v.config) value) own (own.floor ∙ floor_of-compact state.acts floor)

@@ -6,7 +6,9 @@ use denote.RattleType.{RattleType}
 use denote.Param.Send.{IsSend, IsSync, sendable}
 use Rattle.std.proofs.Crossing.{crosses}
 use Rattle.kv_store.proofs.Sent.{version_send}
-use Rattle.kv_log.proofs.Sent.{shelf_send, shelf_sync, bell_send, bell_sync, copies_send}
+use Rattle.kv_log.proofs.Sent.{shelf_send, shelf_sync, side_send, side_sync, bell_send, bell_sync, copies_send}
+use Rattle.kv_log.proofs.whole.Whole.TheSendSync as whole
+use Rattle.kv_live.specs.contracts.receipt.Mark as Mark
 use Rattle.kv_watch.proofs.cursor.Cursor.TheSendSync as cursor
 use Rattle.kv_log.specs.declared.history.LiveName as live_name
 use Rattle.kv_live.specs.contracts.cached.Cached as Cached
@@ -33,7 +35,7 @@ module _ (N : RattleType) (g : live_name.Ghosts N.Denot) (s : IsSend N) (y : IsS
   knowledge_send = search (sendable, front.the_send) depth 20
 
   pub reader_send : IsSend (Reader.the_row N g)
-  reader_send = let h = shelf_send in let i = shelf_sync in let b = bell_send N g s y in let k = knowledge_send in search (sendable, crosses, seat.the_send, seat.the_field_send) depth 20
+  reader_send = let h = shelf_send in let i = side_send in let j = side_sync in let b = bell_send N g s y in let k = knowledge_send in search (sendable, crosses, seat.the_send, seat.the_field_send) depth 20
 
   pub cached_send : IsSend (Cached.the_row N g)
   cached_send = let h = shelf_send in search (sendable, crosses) depth 20
@@ -44,14 +46,20 @@ module _ (N : RattleType) (g : live_name.Ghosts N.Denot) (s : IsSend N) (y : IsS
   pub feed_send : IsSend (Feed.the_row N g)
   feed_send = let h = held_send in let r = reader_send in let c = cursor.the_send in search sendable depth 20
 
+  pub mark_send : IsSend (Mark.the_row N g)
+  mark_send = search (sendable, front.the_send) depth 20
+
+  pub mark_sync : IsSync (Mark.the_row N g)
+  mark_sync = search (sendable, front.the_sync) depth 20
+
   pub receipt_send : IsSend (Receipt.the_row N g)
-  receipt_send = search (sendable, front.the_send) depth 20
+  receipt_send = let m = mark_send in search sendable depth 20
 
   pub receipt_sync : IsSync (Receipt.the_row N g)
-  receipt_sync = search (sendable, front.the_sync) depth 20
+  receipt_sync = let m = mark_sync in search sendable depth 20
 
   publisher_send : IsSend (Publisher.the_row N g)
-  publisher_send = let h = shelf_send in let c = copies_send N g s y in let b = bell_send N g s y in search (sendable, crosses, front.the_send) depth 20
+  publisher_send = let h = shelf_send in let c = copies_send N g s y in let b = bell_send N g s y in search (sendable, crosses, whole.the_send) depth 20
 
   keeper_send : IsSend (Keeper.the_row N g)
   keeper_send = let b = bucket_send in let p = publisher_send in search (sendable, crosses) depth 20

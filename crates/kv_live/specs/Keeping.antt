@@ -1,44 +1,25 @@
 -- What lies under the lock, and what a call makes of it.
-use Rattle.std.specs.Prelude.{◌≡◌, ◌⊎◌, ℕ, Bool, true, false, List, [], ◌∷◌, ◌++◌, Result, Ok, Err, ◌&&◌, nat_le, if◌then◌else◌}
+use Rattle.std.specs.Prelude.{◌≡◌, ℕ, List, [], ◌∷◌, ◌++◌, Result, Ok, Err, ◌&&◌, nat_le, if◌then◌else◌}
 use Rattle.kv_keys.specs.declared.error.KvError.{KvError}
-use Rattle.kv_keys.specs.declared.error.KvError.TheVariants.{NoReader, OutOfMemory}
+use Rattle.kv_keys.specs.declared.error.KvError.TheVariants.{NoReader}
 use Rattle.kv_keys.specs.Outcome.{Refuses}
 use Rattle.kv_model.specs.Acceptance.{accept, IsLawful}
 use Rattle.kv_model.specs.Acts.{Act, Wrote, Write}
 use Rattle.kv_model.specs.Configuration.{Configuration, configure}
 use Rattle.kv_model.specs.Requests.{Asked}
 use Rattle.kv_log.specs.Openings.{Opening}
-use Rattle.kv_live.specs.Posted.{Posted}
 use Rattle.kv_model.specs.declared.call.Call.{Call}
 use Rattle.kv_model.specs.Answers.{Answer}
 use Rattle.kv_bucket.specs.Held.{Bucketed, Represents}
 use Rattle.kv_model.specs.State.{State, Watch, after, answer_to, may_compact}
 
--- a bucket, the acts that are published of its opening, whether the store is open: then it shows these acts to the
--- readers of the opening; and what the history has
+-- a bucket, and the acts that are published of its opening
 pub record Kept : Type 0 where
   pub bucket : Bucketed
   pub published : List Act
-  pub is_open : Bool
-  pub noted : List Act
 
-abbrev pub kept_of : Bucketed → Posted → Kept
-kept_of bucket posted = record {
-  bucket = bucket;
-  published = posted.acts;
-  is_open = posted.is_open;
-  noted = posted.noted;
-}
-
--- a refused call leaves what lies under the lock as it was, but for the store, which may have ended where memory was
--- refused: then the history has an act that is not published
-abbrev pub IsLeft : Kept → KvError → Kept → Type 0
-IsLeft old error new = (new ≡ old) ⊎ ((error ≡ OutOfMemory) ×
-    ((lost : Act) × (new ≡ record old { is_open = false; noted = old.published ++ lost ∷ [] })))
-
--- an accepted act is shown by the store, which was open before
-abbrev pub StaysOpen : Kept → Kept → Type 0
-StaysOpen old new = (old.is_open ≡ true) × (new.is_open ≡ true)
+abbrev pub kept_of : Bucketed → List Act → Kept
+kept_of bucket published = record { bucket = bucket; published = published }
 
 -- the value under the lock is at a state of the model: its bucket represents it, and the acts of the state are those
 -- that are published

@@ -2,5 +2,5 @@ pub mod Feeding
 pub mod Keeping
 pub mod Known
 pub mod Owed
-pub mod Posted
+pub mod Receipts
 pub mod inside

@@ -28,7 +28,7 @@ impl<N: LiveName> Model for Cached<N> {
 
     ghost Value = { List Act };
 
-    ghost view = { λ c. c.shelf.glimpse.sight.log };
+    ghost view = { λ c. c.shelf.glimpse.acts };
 
     ghost invariant = { λ c. IsOf N.opening c.shelf };
 }
@@ -36,7 +36,7 @@ impl<N: LiveName> Model for Cached<N> {
 impl<N: LiveName> Cached<N> {
     pub(crate) fn new(shelf: Shelf) -> Cached<N>
         requires { IsOf N.opening shelf }
-        ensures { result ≡ shelf.glimpse.sight.log }
+        ensures { result ≡ shelf.glimpse.acts }
     {
         Cached {
             shelf,
@@ -70,7 +70,7 @@ impl<N: LiveName> Cached<N> {
         ensures later { IsPrefix knowledge.old.seen knowledge.new.seen }
         ensures told { knowledge.new.told ≡ knowledge.old.told }
         ensures ok { OnOk result ((self.new ≡ knowledge.new.seen) × IsPrefix knowledge.old.told knowledge.new.seen) }
-        ensures left { IfOk result (λ left. IfSome left (λ shelf. shelf.glimpse.sight.log ≡ self.old)) }
+        ensures left { IfOk result (λ left. IfSome left (λ shelf. shelf.glimpse.acts ≡ self.old)) }
         ensures unchanged { OnErr result (self.new ≡ self.old) }
         ensures err { IfErr result IsUnread }
     {

@@ -19,7 +19,7 @@ ghost use Rattle.kv_live.specs.Owed.{Owes, HasOnce};
 ghost use Rattle.kv_log.specs.Shelves.{IsOf};
 
 use crate::reader::Reader;
-use crate::receipt::Receipt;
+use crate::receipt::{Mark, Receipt};
 use kv_keys::{Filters, KvError};
 use kv_log::{LiveName, Shelf, Woken};
 use kv_model::{Event, Options, Stopped};
@@ -320,5 +320,18 @@ impl<N: LiveName> Feed<N> {
         ensures { HasLearned receipt.now self.old self.new }
     {
         self.reader.learn(receipt);
+    }
+
+    /// Takes in a mark, as a receipt.
+    pub fn learn_mark(&mut self, mark: &Mark<N>)
+        ensures { HasLearned mark.now self.old self.new }
+    {
+        self.reader.learn_mark(mark);
+    }
+
+    pub(crate) fn reader(&self) -> &Reader<N>
+        ensures { result.now ≡ self.now.reader }
+    {
+        &self.reader
     }
 }

@@ -1,6 +1,6 @@
 //! What lies under the lock: the bucket, and what publishes its acts.
 
-ghost use Rattle.std.specs.Prelude.{◌≡◌, ◌++◌, ◌∷◌, [], ⊤, true, false, List, Some, IfErr, IfOk, OnErr, OnOk, MatchResult};
+ghost use Rattle.std.specs.Prelude.{◌≡◌, ◌<◌, ◌++◌, ◌∷◌, [], ⊤, true, false, List, Some, IfErr, IfOk, OnErr, OnOk, MatchResult, length};
 ghost use Rattle.std.specs.Borrow.{sem, follows_so};
 ghost use mathlib.Core.Option.{none};
 ghost use Rattle.kv_keys.specs.Outcome.{Refuses};
@@ -10,16 +10,18 @@ ghost use Rattle.kv_model.specs.Acts.{Act, IsPrefix, Wrote, Write as AWrite, wri
 ghost use Rattle.kv_model.specs.Requests.{asked};
 ghost use Rattle.kv_store.specs.Standing.{StandsFor};
 ghost use Rattle.kv_live.specs.Known.{IsUnread};
-ghost use Rattle.kv_live.specs.Posted.{IsOpenUnlessLost, Posts, PostsNothing};
 ghost use Rattle.kv_watch.specs.Taking.{item_taken};
+ghost use Rattle.kv_bucket.specs.Stepping.{IsStep};
+ghost use Rattle.kv_model.specs.declared.call.Call.{Call as ACall};
 ghost use Rattle.kv_model.specs.declared.call.Call.TheVariants.{Write, Seal, Watch, Take, Stop, Compact};
-ghost use Rattle.kv_model.specs.Answers.{Revision, Sealed, Watching, Ended, Compacted, Refused, answer_item};
-ghost use Rattle.kv_live.specs.Keeping.{IsAt, IsSomewhere, IsKeptStep, IsLeft, PublishesWrite, StaysOpen};
+ghost use Rattle.kv_model.specs.Answers.{Answer, Revision, Sealed, Watching, Ended, Compacted, Refused, answer_item};
+ghost use Rattle.kv_live.specs.Keeping.{IsAt, IsSomewhere, IsKeptStep, PublishesWrite};
 ghost use Rattle.kv_model.specs.State.{State, answer_to, may_compact, next_number};
 
+use crate::feed::Feed;
 use crate::publisher::Publisher;
 use crate::reader::Reader;
-use crate::receipt::Receipt;
+use crate::receipt::{Mark, Receipt};
 use kv_bucket::Bucket;
 use kv_keys::{Filters, KvError};
 use kv_log::{Deed, LiveName};
@@ -30,8 +32,7 @@ use std::marker::Model;
 use std::sync::Wait;
 
 /// The bucket of the opening N, and what publishes its acts. Contracts see the bucket and the acts that are published,
-/// which are always at one state of the model, whether the store is open, and what the history has. It is not `Drop`:
-/// `Live::close` ends it.
+/// which are always at one state of the model. It is not `Drop`: `Live::close` ends it.
 pub struct Keeper<N: LiveName> {
     pub(crate) bucket: Bucket,
     pub(crate) publisher: Publisher<N>,
@@ -55,12 +56,13 @@ fn keep<N: LiveName, R: Wait>(
     deed: Deed,
     next: Version,
 ) -> Result<(), KvError>
-    requires stands { StandsFor (publisher.old.acts ++ deed ∷ []) next }
+    requires stands { StandsFor (publisher.old ++ deed ∷ []) next }
     requires config { next.config ≡ N.opening.config }
-    ensures ok { OnOk result (Posts publisher.old deed publisher.new
+    requires step { (call : ACall) × ((answer : Answer) × IsStep bucket.old call answer (record bucket.old { version = next })) }
+    ensures ok { OnOk result ((publisher.new ≡ publisher.old ++ deed ∷ [])
         × (bucket.new ≡ record bucket.old { version = next })) }
     ensures err { IfErr result (λ e. e ≡ OutOfMemory) }
-    ensures unchanged { OnErr result (PostsNothing publisher.old deed publisher.new × (bucket.new ≡ bucket.old)) }
+    ensures unchanged { OnErr result ((publisher.new ≡ publisher.old) × (bucket.new ≡ bucket.old)) }
 {
     publisher.publish(rt, deed, &next)?;
     bucket.go_on_to(next);
@@ -74,10 +76,8 @@ impl<N: LiveName> Keeper<N> {
     pub(crate) fn is_somewhere(&self)
         ensures state { IsSomewhere N.opening.config self.now }
         ensures lawful { IsLawful N.opening.config self.now.published }
-        ensures open { IsOpenUnlessLost self.now.is_open self.now.published self.now.noted }
     {
         self.bucket();
-        self.is_open();
     }
 
     /// The bucket.
@@ -97,8 +97,7 @@ impl<N: LiveName> Keeper<N> {
             self.new.published) }
         ensures refused { IfErr result (λ e. (state : State) → IsAt state self.old →
             Refuses e (accept state.config (asked request.now) state.acts)) }
-        ensures open { OnOk result (StaysOpen self.old self.new) }
-        ensures unchanged { IfErr result (λ e. IsLeft self.old e self.new) }
+        ensures unchanged { OnErr result (self.new ≡ self.old) }
     {
         let Keeper { bucket, publisher } = self;
         let next = bucket.version().apply(bucket.alloc(), request)?;
@@ -111,9 +110,8 @@ impl<N: LiveName> Keeper<N> {
     /// Ends writes, and publishes it. Reads, takes, stops and new watches go on.
     pub fn seal<R: Wait>(&mut self, rt: &R) -> Result<(), KvError>
         ensures ok { OnOk result (IsKeptStep self.old Seal Sealed self.new) }
-        ensures open { OnOk result (StaysOpen self.old self.new) }
         ensures err { IfErr result (λ e. e ≡ OutOfMemory) }
-        ensures unchanged { IfErr result (λ e. IsLeft self.old e self.new) }
+        ensures unchanged { OnErr result (self.new ≡ self.old) }
     {
         let Keeper { bucket, publisher } = self;
         let next = bucket.version().seal(bucket.alloc())?;
@@ -127,8 +125,7 @@ impl<N: LiveName> Keeper<N> {
         ensures ok { OnOk result (IsKeptStep self.old (Compact floor) (Compacted floor) self.new) }
         ensures refused { IfErr result
             (λ e. (state : State) → IsAt state self.old → Refuses e (may_compact floor state)) }
-        ensures open { OnOk result (StaysOpen self.old self.new) }
-        ensures unchanged { IfErr result (λ e. IsLeft self.old e self.new) }
+        ensures unchanged { OnErr result (self.new ≡ self.old) }
     {
         let Keeper { bucket, publisher } = self;
         bucket.may_compact(floor)?;
@@ -142,7 +139,6 @@ impl<N: LiveName> Keeper<N> {
         ensures ok { IfOk result
             (λ number. IsKeptStep self.old (Watch filters.now options) (Watching number) self.new) }
         ensures refused { IfErr result (λ e. (state : State) → IsAt state self.old → Refuses e (next_number state)) }
-        ensures open { self.new.is_open ≡ self.old.is_open }
         ensures unchanged { OnErr result (self.new ≡ self.old) }
     {
         self.bucket.watch(filters, options)
@@ -163,7 +159,7 @@ impl<N: LiveName> Keeper<N> {
     pub fn take(&mut self, number: u64) -> Result<Taken<'_>, KvError>
         ensures* after { sem 𝓛 (follows_so (the_row N.row N.LiveName) (the_row N.row N.LiveName)
             self.entry.ghost_name none (λ _ _. ⊤)
-            (λ left. (left.is_open ≡ self.old.is_open) × MatchResult result
+            (λ left. MatchResult result
             (λ taken. IsKeptStep self.old (Take number) (answer_item (item_taken taken)) left)
             (λ e. left ≡ self.old))) }
         ensures ok { IfOk result (λ taken. (state : State) → IsAt state self.old →
@@ -179,41 +175,78 @@ impl<N: LiveName> Keeper<N> {
         ensures ok { IfOk result (λ stopped. IsKeptStep self.old (Stop number) (Ended stopped.handed) self.new) }
         ensures refused { IfErr result
             (λ e. (e ≡ NoSuchWatch) × IsKeptStep self.old (Stop number) (Refused e) self.new) }
-        ensures open { self.new.is_open ≡ self.old.is_open }
         ensures unchanged { OnErr result (self.new ≡ self.old) }
     {
         self.bucket.stop(number)
     }
 
-    /// Whether the store is open. It is from the opening on, and stays so until memory is refused to a write, a seal or
-    /// a compaction; nothing is published after that.
-    pub fn is_open(&self) -> bool
-        ensures value { result ≡ self.now.is_open }
-        ensures stands { IsOpenUnlessLost self.now.is_open self.now.published self.now.noted }
+    /// Whether the reader has seen all that is published. What it has seen, and what it was told, are always beginnings
+    /// of that.
+    pub fn is_seen_by(&mut self, reader: &Reader<N>) -> bool
+        ensures same { self.new ≡ self.old }
+        ensures within { IsPrefix reader.now.seen self.old.published }
+        ensures told { IsPrefix reader.now.told self.old.published }
+        ensures yes { result ≡ true → reader.now.seen ≡ self.old.published }
+        ensures no { result ≡ false → length reader.now.seen < length self.old.published }
     {
-        self.publisher.is_open()
+        self.publisher.is_seen(reader.told());
+        self.publisher.is_seen(reader.seen())
     }
 
-    /// Whether the reader has seen all that is published.
-    pub fn is_seen_by(&self, reader: &Reader<N>) -> bool
-        ensures yes { result ≡ true → IsPrefix self.now.published reader.now.seen }
-        ensures no { result ≡ false → IsPrefix reader.now.seen self.now.published }
+    /// Whether the reader of the feed has seen all that is published. What it has seen, and what the feed went on to, are
+    /// always beginnings of that.
+    #[tactic(auto, using(kv_log::proofs::Prefixes::prefix_trans))]
+    pub fn is_followed_by(&mut self, feed: &Feed<N>) -> bool
+        ensures same { self.new ≡ self.old }
+        ensures within { IsPrefix feed.now.acts self.old.published }
+        ensures seen { IsPrefix feed.now.reader.seen self.old.published }
+        ensures told { IsPrefix feed.now.reader.told self.old.published }
+        ensures yes { result ≡ true → feed.now.reader.seen ≡ self.old.published }
+        ensures no { result ≡ false → length feed.now.reader.seen < length self.old.published }
     {
-        reader.has_seen(&self.receipt())
+        feed.handed();
+        self.is_seen_by(feed.reader())
     }
 
-    /// A receipt for all that is published.
-    pub fn receipt(&self) -> Receipt<N>
+    /// Whether the receipt tells all that is published. What it tells is always a beginning of that.
+    pub fn is_told_by(&mut self, receipt: &Receipt<N>) -> bool
+        ensures same { self.new ≡ self.old }
+        ensures within { IsPrefix receipt.now self.old.published }
+        ensures yes { result ≡ true → receipt.now ≡ self.old.published }
+        ensures no { result ≡ false → length receipt.now < length self.old.published }
+    {
+        self.publisher.is_seen(receipt.mark().front())
+    }
+
+    /// A mark behind all that is published.
+    pub fn mark(&self) -> Mark<N>
         ensures { result ≡ self.now.published }
     {
-        self.publisher.receipt(self.bucket.version().revision())
+        self.publisher.mark()
+    }
+
+    /// As `write` does, with a receipt for it.
+    pub fn write_told<R: Wait>(
+        &mut self,
+        rt: &R,
+        request: &Request,
+    ) -> Result<(u64, Receipt<N>), KvError>
+        ensures ok { IfOk result (λ r. IsKeptStep self.old (Write request.now) (Revision r.0) self.new) }
+        ensures published { IfOk result
+            (λ r. PublishesWrite N.opening.config (asked request.now) r.0 self.old.published self.new.published) }
+        ensures told { IfOk result (λ r. r.1 ≡ self.new.published) }
+        ensures refused { IfErr result (λ e. (state : State) → IsAt state self.old →
+            Refuses e (accept state.config (asked request.now) state.acts)) }
+        ensures unchanged { OnErr result (self.new ≡ self.old) }
+    {
+        let revision = self.write(rt, request)?;
+        Ok((revision, self.publisher.receipt(revision)))
     }
 
     /// Seats another reader, which has seen nothing and is told of all that is published. `NoReader` where all places
     /// of the opening are taken; a reader that is dropped frees its place.
     pub fn reader(&self) -> Result<Reader<N>, KvError>
         ensures ok { IfOk result (λ reader. (reader.seen ≡ []) × (reader.told ≡ self.now.published)) }
-        ensures open { OnOk result (self.now.is_open ≡ true) }
         ensures err { IfErr result IsUnread }
     {
         self.publisher.reader()

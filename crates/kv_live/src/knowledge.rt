@@ -8,7 +8,7 @@ ghost use Rattle.kv_store.specs.Standing.{StandsFor};
 ghost use Rattle.kv_live.specs.inside.Fed.{TellsLag, TellsLagOf, IsNotShown};
 ghost use Rattle.kv_log.specs.Shelves.{IsOf};
 
-use crate::receipt::Receipt;
+use crate::receipt::Mark;
 use kv_keys::KvError;
 use kv_log::{Front, Glimpse, LiveName, Shelf};
 use kv_watch::Cursor;
@@ -43,7 +43,7 @@ impl<N: LiveName> Model for Knowledge<N> {
 impl<N: LiveName> Knowledge<N> {
     /// Of who has seen nothing and was told this. The empty shelf shows which history it is of.
     pub fn new(empty: &Shelf, told: Front<N>) -> Knowledge<N>
-        requires { IsOf N.opening empty.now × (empty.now.glimpse.sight.log ≡ []) }
+        requires { IsOf N.opening empty.now × (empty.now.glimpse.acts ≡ []) }
         ensures { (result.seen ≡ []) × (result.told ≡ told) }
     {
         Knowledge {
@@ -68,7 +68,7 @@ impl<N: LiveName> Knowledge<N> {
         ensures later { IsPrefix self.old.seen self.new.seen }
         ensures told { self.new.told ≡ self.old.told }
         ensures ok { IfOk result
-            (λ s. (s.glimpse.sight.log ≡ self.new.seen) × IsOf N.opening s × IsPrefix self.old.told self.new.seen) }
+            (λ s. (s.glimpse.acts ≡ self.new.seen) × IsOf N.opening s × IsPrefix self.old.told self.new.seen) }
         ensures stands { IfOk result (λ s. StandsFor self.new.seen s.version) }
         ensures ahead { IfOk result
             (λ _. TellsLagOf (option_map (λ f. (f.0.now, f.1.now)) follower.entry) (floor_of self.new.seen) false) }
@@ -87,7 +87,7 @@ impl<N: LiveName> Knowledge<N> {
         requires { IsOf N.opening shelf.now }
         ensures later { IsPrefix self.old.seen self.new.seen }
         ensures told { self.new.told ≡ self.old.told }
-        ensures ok { OnOk result ((self.new.seen ≡ shelf.now.glimpse.sight.log)
+        ensures ok { OnOk result ((self.new.seen ≡ shelf.now.glimpse.acts)
             × IsPrefix self.old.told self.new.seen) }
         ensures err { IfErr result (λ e. e ≡ NoReader) }
     {
@@ -101,8 +101,8 @@ impl<N: LiveName> Knowledge<N> {
 
     /// Whether it has seen all of this glimpse, and no more.
     pub fn has_seen_just(&self, glimpse: &Glimpse) -> bool
-        requires { glimpse.now.sight.book ≡ N.opening.book }
-        ensures { result ≡ true → glimpse.now.sight.log ≡ self.now.seen }
+        requires { glimpse.now.book ≡ N.opening.book }
+        ensures { result ≡ true → glimpse.now.acts ≡ self.now.seen }
     {
         let front: Front<N> = Front::of(glimpse);
         front.covers(&self.seen) && self.seen.covers(&front)
@@ -122,14 +122,14 @@ impl<N: LiveName> Knowledge<N> {
         self.taken_in = shelf.acts();
     }
 
-    /// Takes in a receipt.
-    pub fn learn(&mut self, receipt: &Receipt<N>)
+    /// Takes in a mark.
+    pub fn learn(&mut self, mark: &Mark<N>)
         ensures seen { self.new.seen ≡ self.old.seen }
         ensures told { IsPrefix self.old.told self.new.told }
-        ensures learned { IsPrefix receipt.now self.new.told }
-        ensures one_list { (self.new.told ≡ self.old.told) ⊎ (self.new.told ≡ receipt.now) }
+        ensures learned { IsPrefix mark.now self.new.told }
+        ensures one_list { (self.new.told ≡ self.old.told) ⊎ (self.new.told ≡ mark.now) }
     {
-        self.told = self.told.longer(&receipt.front);
+        self.told = self.told.longer(mark.front());
     }
 
     /// Whether it has seen all that the other one has. Of the two lists the shorter begins the longer.
@@ -140,24 +140,38 @@ impl<N: LiveName> Knowledge<N> {
         self.seen.covers(&other.seen)
     }
 
-    /// Whether it has seen what the receipt tells.
-    pub fn has_seen(&self, receipt: &Receipt<N>) -> bool
-        ensures yes { result ≡ true → IsPrefix receipt.now self.now.seen }
-        ensures no { result ≡ false → IsPrefix self.now.seen receipt.now }
+    /// Whether it has seen what the mark tells.
+    pub fn has_seen(&self, mark: &Mark<N>) -> bool
+        ensures yes { result ≡ true → IsPrefix mark.now self.now.seen }
+        ensures no { result ≡ false → IsPrefix self.now.seen mark.now }
     {
-        self.seen.covers(&receipt.front)
+        self.seen.covers(mark.front())
+    }
+
+    /// What it has seen.
+    pub fn seen(&self) -> &Front<N>
+        ensures { result.now ≡ self.now.seen }
+    {
+        &self.seen
+    }
+
+    /// What it was told.
+    pub fn told(&self) -> &Front<N>
+        ensures { result.now ≡ self.now.told }
+    {
+        &self.told
     }
 }
 
 // A copy of the shelf, unless this follower, if any, lags behind it.
 fn copy_for(follower: Option<(&Shelf, &Cursor)>, shelf: &Shelf) -> Result<Shelf, KvError>
-    ensures ok { IfOk result (λ s. (s.glimpse.sight ≡ shelf.now.glimpse.sight)
+    ensures ok { IfOk result (λ s. (s.glimpse ≡ shelf.now.glimpse)
         × (s.version.config ≡ shelf.now.version.config)) }
-    ensures stands { IfOk result (λ s. StandsFor shelf.now.glimpse.sight.log s.version) }
+    ensures stands { IfOk result (λ s. StandsFor shelf.now.glimpse.acts s.version) }
     ensures ahead { IfOk result (λ _. TellsLagOf (option_map (λ f. (f.0.now, f.1.now)) follower.entry)
-        (floor_of shelf.now.glimpse.sight.log) false) }
+        (floor_of shelf.now.glimpse.acts) false) }
     ensures err { IfErr result
-        (IsNotShown (option_map (λ f. (f.0.now, f.1.now)) follower.entry) shelf.now.glimpse.sight.log) }
+        (IsNotShown (option_map (λ f. (f.0.now, f.1.now)) follower.entry) shelf.now.glimpse.acts) }
 {
     if let Some((current, cursor)) = follower {
         let floor = shelf.version().floor();

@@ -22,4 +22,4 @@ pub use kv_bucket::{
 pub use kv_log::{LiveName, Woken};
 pub use live::{Live, Opened};
 pub use reader::Reader;
-pub use receipt::Receipt;
+pub use receipt::{Mark, Receipt};

@@ -8,7 +8,6 @@ ghost use Rattle.kv_model.specs.Acceptance.{IsLawful};
 ghost use Rattle.kv_model.specs.Acts.{Act};
 ghost use Rattle.kv_model.specs.Requests.{asked};
 ghost use Rattle.kv_live.specs.Known.{IsUnread};
-ghost use Rattle.kv_live.specs.Posted.{IsOpenUnlessLost};
 ghost use Rattle.kv_live.specs.Keeping.{IsSomewhere, PublishesWrite, WritesSomewhere, RefusedSomewhere, CompactsSomewhere, UncompactedSomewhere, may_open};
 
 use crate::keeper::Keeper;
@@ -83,10 +82,13 @@ impl Live<Brand> {
             return Err(KvError::NoReader);
         }
         let bucket = Bucket::open(alloc, config)?;
+        let Some(blank) = Blank::new() else {
+            return Err(KvError::OutOfMemory);
+        };
         Ok(Opened {
             alloc,
             bucket,
-            blank: Blank::new(),
+            blank,
             readers,
         })
     }
@@ -98,7 +100,7 @@ fn readers_and_bell<N: LiveName>(
 ) -> Result<(Vec<Reader<N>>, Bell<N>), KvError>
     ensures ok { IfOk result
         (λ r. (length r.0.items ≡ readers)
-        × All (λ reader. (reader.seen ≡ []) × (reader.told ≡ publisher.now.acts)) r.0.items) }
+        × All (λ reader. (reader.seen ≡ []) × (reader.told ≡ publisher.now)) r.0.items) }
     ensures err { IfErr result IsUnread }
 {
     let readers = publisher.readers(readers)?;
@@ -178,9 +180,10 @@ fn write_and_tell<N: LiveName, R: Wait>(
     ensures lawful { IfOk result (λ r. IsLawful N.opening.config r.1) }
     ensures refused { IfErr result (λ e. RefusedSomewhere N.opening.config (asked request.now) e) }
 {
-    let revision = write_on(rt, keeper, request)?;
     keeper.is_somewhere();
-    Ok((revision, keeper.receipt()))
+    let told = keeper.write_told(rt, request)?;
+    keeper.is_somewhere();
+    Ok(told)
 }
 
 // Compacts. What is answered is what the rules give at a state of the acts that were published before, which are
@@ -198,12 +201,10 @@ fn compact_on<N: LiveName, R: Wait>(
 }
 
 impl<N: LiveName> Live<N> {
-    /// The keeper, for several calls in a row, at a state of the model. The store is open unless an act could not be
-    /// published. It waits until the lock is free.
+    /// The keeper, for several calls in a row, at a state of the model, whose acts are those that are published. It waits
+    /// until the lock is free.
     pub fn lock<R: Wait>(&self, rt: &R) -> MutexGuard<'_, Keeper<N>>
         ensures state { IsSomewhere N.opening.config (mutex_guard_value result) }
-        ensures open { IsOpenUnlessLost (mutex_guard_value result).is_open (mutex_guard_value result).published
-            (mutex_guard_value result).noted }
     {
         let keeper = self.keeper.lock(rt);
         keeper.is_somewhere();

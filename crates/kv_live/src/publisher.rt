@@ -1,17 +1,17 @@
 //! What publishes the acts of an opening. It lies under the lock, beside the bucket.
 
-ghost use Rattle.std.specs.Prelude.{◌≡◌, ◌⊎◌, ◌<◌, ◌^◌, ◌++◌, ◌∷◌, [], true, IfOk, IfErr, IfSome, IsSome, IsNone, OnOk, OnErr, MatchResult, All, length};
+ghost use Rattle.std.specs.Prelude.{◌≡◌, ◌<◌, ◌^◌, ◌++◌, ◌∷◌, [], true, false, IfOk, IfErr, OnOk, OnErr, MatchResult, All, length};
 ghost use Rattle.kv_keys.specs.declared.error.KvError.TheVariants.{OutOfMemory};
-ghost use Rattle.kv_model.specs.Acts.{writes_of};
+ghost use Rattle.kv_model.specs.Acts.{IsPrefix};
 ghost use Rattle.kv_store.specs.Standing.{StandsFor};
 ghost use Rattle.kv_live.specs.Known.{IsUnread};
-ghost use Rattle.kv_live.specs.Posted.{IsOpenUnlessLost, Posts, PostsNothing, showing};
+ghost use Rattle.kv_live.specs.Receipts.{EndsAt};
 ghost use Rattle.kv_log.specs.Shelves.{IsOf};
 
 use crate::reader::Reader;
-use crate::receipt::Receipt;
+use crate::receipt::{Mark, Receipt};
 use kv_keys::KvError;
-use kv_log::{Bell, Blank, Copies, Deed, Front, Head, Last, LiveName, Shelf};
+use kv_log::{Bell, Blank, Copies, Deed, Front, Last, LiveName, Right, Shelf, Whole};
 use kv_store::Version;
 use std::alloc::Global;
 use std::marker::Model;
@@ -21,95 +21,70 @@ use std::sync::Wait;
 // No bucket comes near so many acts.
 const MOST_ACTS: u64 = 1 << 61;
 
-/// Publishes the acts of the opening N. Contracts see it as the acts that are published, whether the store is open, and
-/// what the history has. It is not `Drop`: end it by `close`.
+/// Publishes the acts of the opening N. Contracts see it as the acts that are published, which are all that the history
+/// has. It is not `Drop`: end it by `close`.
 pub struct Publisher<N: LiveName> {
     alloc: Global,
     /// It tells the readers.
     bell: Bell<N>,
     /// What a reader begins on that has not entered.
     empty: Shelf,
-    /// The history of what is published.
-    front: Front<N>,
-    /// The history. It is longer by one act where that could not be published.
-    noted: Front<N>,
-    /// `None` once an act could not be published that the history has. That never comes.
+    /// The history of what is published, whole.
+    whole: Whole<N>,
+    /// It is `None` within a publish alone.
     copies: Option<Copies<N>>,
 }
 
 impl<N: LiveName> Model for Publisher<N> {
-    ghost use Rattle.std.specs.Prelude.{◌≡◌, [], IfSome};
-    ghost use Rattle.std.specs.Option.{is_some};
-    ghost use Rattle.kv_live.specs.Posted.{IsOpenUnlessLost, Posted};
+    ghost use Rattle.std.specs.Prelude.{◌≡◌, [], List, IfSome, IsSome};
+    ghost use Rattle.kv_model.specs.Acts.{Act};
     ghost use Rattle.kv_log.specs.Shelves.{IsOf};
 
-    ghost Value = { Posted };
+    ghost Value = { List Act };
 
-    ghost view = { λ p. record { acts = p.front; is_open = is_some p.copies; noted = p.noted } };
+    ghost view = { λ p. p.whole };
 
-    ghost invariant = { λ p. IfSome p.copies (λ c. c ≡ p.front) ×
-        IsOpenUnlessLost (is_some p.copies) p.front p.noted × IsOf N.opening p.empty ×
-        (p.empty.glimpse.sight.log ≡ []) };
+    ghost invariant = { λ p. IsSome p.copies × IfSome p.copies (λ c. c ≡ p.whole) × IsOf N.opening p.empty ×
+        (p.empty.glimpse.acts ≡ []) };
 }
 
-// Adds an act to the history, publishes the version after it, and wakes those who sleep until then. All that can be
-// refused is asked for before that: what the history has is published, or nothing more ever is.
-fn show<N: LiveName, R: Wait>(
-    rt: &R,
-    bell: &Bell<N>,
-    front: &mut Front<N>,
-    noted: &mut Front<N>,
-    copies: Copies<N>,
-    deed: Deed,
-    next: &Version,
-) -> (Option<Copies<N>>, Result<(), KvError>)
-    requires published { copies ≡ front.old }
-    requires stands { StandsFor (front.old ++ deed ∷ []) next.now }
-    requires config { next.now.config ≡ N.opening.config }
-    ensures published { IfSome result.0 (λ c. c ≡ front.new) }
-    ensures open { OnOk result.1 (IsSome result.0 × (noted.new ≡ front.old ++ deed ∷ [])) }
-    ensures lost { OnErr result.1 ((IsSome result.0 × (noted.new ≡ noted.old))
-        ⊎ (IsNone result.0 × (noted.new ≡ front.old ++ deed ∷ []))) }
-    ensures shown { MatchResult result.1 (λ _. front.new ≡ front.old ++ deed ∷ [])
-        (λ e. (front.new ≡ front.old) × (e ≡ OutOfMemory)) }
-{
-    let version = match next.snapshot() {
-        Ok(version) => version,
-        Err(refusal) => return (Some(copies), Err(refusal)),
-    };
-    let mut later = front.again();
-    if later.len() >= MOST_ACTS || !copies.note(&mut later, deed) {
-        return (Some(copies), Err(KvError::OutOfMemory));
-    }
-    *noted = later.again();
-    let shelf = Shelf::new(version, later.glimpse());
-    let Some(copies) = copies.publish(rt, shelf) else {
-        return (None, Err(KvError::OutOfMemory));
-    };
-    *front = later;
-    bell.ring();
-    (Some(copies), Ok(()))
-}
-
-// What a publisher begins with besides its copies: its bell, the empty shelf, and the two ends of its history, of which
-// nothing is published.
+// What a publisher begins with besides its copies: its bell, the empty shelf, its history, of which nothing is
+// published, and the rights of the copies.
 fn beginning<N: LiveName>(
     alloc: Global,
     blank: Blank,
     version: &Version,
-) -> Result<(Bell<N>, Shelf, Front<N>, Head<N>), KvError>
+) -> Result<(Bell<N>, Shelf, Whole<N>, Right<N>, Right<N>), KvError>
     requires book { blank.sight.book ≡ N.opening.book }
     requires config { version.now.config ≡ N.opening.config }
     requires stands { StandsFor [] version.now }
-    ensures { MatchResult result (λ r. IsOf N.opening r.1 × (r.1.glimpse.sight.log ≡ []) × (r.2 ≡ []))
+    ensures { MatchResult result (λ r. IsOf N.opening r.1 × (r.1.glimpse.acts ≡ []) × (r.2 ≡ []))
         (λ e. e ≡ OutOfMemory) }
 {
     let bell = Bell::new(alloc)?;
     let version = version.snapshot()?;
-    let Blank { length, sight } = blank;
-    let front: Front<N> = Front::new(sight);
-    let empty = Shelf::new(version, front.glimpse());
-    Ok((bell, empty, front, Head::new(length)))
+    let (whole, first, second) = blank.named::<N>();
+    let empty = Shelf::new(version, whole.glimpse());
+    Ok((bell, empty, whole, first, second))
+}
+
+// Adds an act to the history, and publishes the version after it.
+fn show<N: LiveName, R: Wait>(
+    rt: &R,
+    whole: &mut Whole<N>,
+    copies: Copies<N>,
+    deed: Deed,
+    version: Version,
+) -> Copies<N>
+    requires room { length whole.old < 2 ^ 62 }
+    requires stands { StandsFor (whole.old ++ deed ∷ []) version }
+    requires config { version.config ≡ N.opening.config }
+    ensures added { whole.new ≡ whole.old ++ deed ∷ [] }
+    ensures shown { result ≡ whole.new }
+{
+    whole.add(deed);
+    let shelf = Shelf::new(version, whole.glimpse());
+    copies.publish(rt, shelf)
 }
 
 // Puts the copies in their place, which is empty. What stands there would end.
@@ -140,63 +115,70 @@ impl<N: LiveName> Publisher<N> {
         requires config { version.now.config ≡ N.opening.config }
         requires stands { StandsFor [] version.now }
         requires readers { (0 < readers) × (readers < 2 ^ 16) }
-        ensures { MatchResult result (λ p. p ≡ showing []) (λ e. e ≡ OutOfMemory) }
+        ensures { MatchResult result (λ p. p ≡ []) (λ e. e ≡ OutOfMemory) }
     {
-        let (bell, empty, front, head) = beginning(alloc, blank, version)?;
-        let copies = Copies::new(rt, alloc, head, &empty, readers)?;
+        let (bell, empty, whole, first, second) = beginning(alloc, blank, version)?;
+        let copies = Copies::new(rt, alloc, first, second, &empty, readers)?;
         Ok(Publisher {
             alloc,
             bell,
             empty,
-            noted: front.again(),
-            front,
+            whole,
             copies: Some(copies),
         })
     }
 
-    /// Publishes an act, with the version after it. It waits for readers that are inside the copy that is to change.
-    /// Where it is refused nothing is published.
+    /// Publishes an act, with the version after it, and wakes those who sleep until then. It waits for readers that are
+    /// inside the copy that is to change. All that can be refused is asked for before the history has the act; where it
+    /// is refused nothing has changed.
     pub fn publish<R: Wait>(&mut self, rt: &R, deed: Deed, next: &Version) -> Result<(), KvError>
-        requires stands { StandsFor (self.old.acts ++ deed ∷ []) next.now }
+        requires stands { StandsFor (self.old ++ deed ∷ []) next.now }
         requires config { next.now.config ≡ N.opening.config }
-        ensures ok { OnOk result (Posts self.old deed self.new) }
+        ensures ok { OnOk result (self.new ≡ self.old ++ deed ∷ []) }
         ensures err { IfErr result (λ e. e ≡ OutOfMemory) }
-        ensures nothing { OnErr result (PostsNothing self.old deed self.new) }
+        ensures unchanged { OnErr result (self.new ≡ self.old) }
     {
-        let Some(copies) = self.copies.take() else {
+        let version = next.snapshot()?;
+        if self.whole.len() >= MOST_ACTS {
             return Err(KvError::OutOfMemory);
+        }
+        let Some(copies) = self.copies.take() else {
+            unreachable!()
         };
-        let Publisher {
-            bell,
-            front,
-            noted,
-            copies: place,
-            ..
-        } = self;
-        let (copies, shown) = show::<N, R>(rt, bell, front, noted, copies, deed, next);
-        put(rt, place, copies);
-        shown
+        let copies = show(rt, &mut self.whole, copies, deed, version);
+        put(rt, &mut self.copies, Some(copies));
+        self.bell.ring();
+        Ok(())
+    }
+
+    /// Whether all that is published was seen. What was seen is always a beginning of that.
+    pub fn is_seen(&mut self, front: &Front<N>) -> bool
+        ensures same { self.new ≡ self.old }
+        ensures within { IsPrefix front.now self.old }
+        ensures yes { result ≡ true → front.now ≡ self.old }
+        ensures no { result ≡ false → length front.now < length self.old }
+    {
+        self.whole.is_seen(front)
     }
 
     /// A new reader, which is told of all that is published.
     pub fn reader(&self) -> Result<Reader<N>, KvError>
-        ensures { MatchResult result
-            (λ r. (r.seen ≡ []) × (r.told ≡ self.now.acts) × (self.now.is_open ≡ true)) IsUnread }
+        ensures { MatchResult result (λ r. (r.seen ≡ []) × (r.told ≡ self.now)) IsUnread }
     {
         let Some(copies) = &self.copies else {
-            return Err(KvError::NoReader);
+            unreachable!()
         };
         let empty = self.empty.again()?;
         let bell = self.bell.again()?;
         let seat = copies.seat()?;
-        Ok(Reader::new(self.alloc, bell, seat, self.front.again(), empty))
+        Ok(Reader::new(self.alloc, bell, seat, self.whole.front(), empty))
     }
 
     /// As many readers.
     pub fn readers(&self, count: usize) -> Result<Vec<Reader<N>>, KvError>
         ensures ok { IfOk result
             (λ readers. (length readers.items ≡ count)
-            × All (λ r. (r.seen ≡ []) × (r.told ≡ self.now.acts)) readers.items) }
+            × All (λ r. (r.seen ≡ []) × (r.told ≡ self.now)) readers.items) }
         ensures err { IfErr result IsUnread }
     {
         let mut readers = Vec::with_capacity(self.alloc, count)?;
@@ -209,7 +191,7 @@ impl<N: LiveName> Publisher<N> {
         requires { readers.old.items ≡ [] }
         ensures ok { OnOk result
             ((length readers.new.items ≡ count)
-            × All (λ r. (r.seen ≡ []) × (r.told ≡ self.now.acts)) readers.new.items) }
+            × All (λ r. (r.seen ≡ []) × (r.told ≡ self.now)) readers.new.items) }
         ensures err { IfErr result IsUnread }
     {
         while readers.len() < count {
@@ -228,26 +210,25 @@ impl<N: LiveName> Publisher<N> {
         self.bell.again()
     }
 
-    /// A receipt for all that is published, of which a write with this revision is the last.
-    pub fn receipt(&self, revision: u64) -> Receipt<N>
-        requires { revision ≡ length (writes_of self.now.acts) }
-        ensures { result ≡ self.now.acts }
+    /// A mark behind all that is published.
+    pub fn mark(&self) -> Mark<N>
+        ensures { result ≡ self.now }
     {
-        Receipt::new(self.front.again(), revision)
+        Mark::new(self.whole.front())
     }
 
-    /// Whether the store is open.
-    pub fn is_open(&self) -> bool
-        ensures value { result ≡ self.now.is_open }
-        ensures stands { IsOpenUnlessLost self.now.is_open self.now.acts self.now.noted }
+    /// A receipt for all that is published, of which the write with this revision is the last.
+    pub fn receipt(&self, revision: u64) -> Receipt<N>
+        requires { EndsAt revision self.now }
+        ensures { result ≡ self.now }
     {
-        self.copies.is_some()
+        Receipt::new(self.mark(), revision)
     }
 
     /// Ends it, leaves the version of what is published for readers that come later, and wakes those that sleep. It
     /// waits for the readers that are reading.
     pub fn close<R: Wait>(self, rt: &R, version: &Version)
-        requires stands { StandsFor self.acts version.now }
+        requires stands { StandsFor self version.now }
         requires config { version.now.config ≡ N.opening.config }
     {
         self.leave(version);
@@ -262,8 +243,7 @@ impl<N: LiveName> Publisher<N> {
             alloc: _,
             bell,
             empty: _,
-            front: _,
-            noted: _,
+            whole: _,
             copies,
         } = self;
         (bell, copies)
@@ -271,12 +251,12 @@ impl<N: LiveName> Publisher<N> {
 
     // Leaves the version of what is published for readers that come later.
     fn leave(&self, version: &Version)
-        requires stands { StandsFor self.now.acts version.now }
+        requires stands { StandsFor self.now version.now }
         requires config { version.now.config ≡ N.opening.config }
     {
         if let Ok(version) = version.snapshot() {
             self.bell
-                .leave(Last::new(Shelf::new(version, self.front.glimpse())));
+                .leave(Last::new(Shelf::new(version, self.whole.glimpse())));
         }
     }
 }

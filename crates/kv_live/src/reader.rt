@@ -11,9 +11,9 @@ ghost use Rattle.kv_log.specs.Shelves.{IsOf};
 
 use crate::cached::Cached;
 use crate::knowledge::Knowledge;
-use crate::receipt::Receipt;
+use crate::receipt::{Mark, Receipt};
 use kv_keys::KvError;
-use kv_log::{Bell, Front, Gets, LiveName, Published, Shelf, Woken};
+use kv_log::{Bell, Front, Gets, LiveName, Published, Shelf, Side, Woken};
 use kv_store::Version;
 use kv_watch::Cursor;
 use left_right::reader::Reader as Seat;
@@ -28,7 +28,7 @@ use std::time::Duration;
 pub struct Reader<N: LiveName> {
     alloc: Global,
     bell: Bell<N>,
-    seat: Option<Seat<Shelf, (), Published<N>>>,
+    seat: Option<Seat<Side, (), Published<N>>>,
     knowledge: Knowledge<N>,
     empty: Shelf,
 }
@@ -54,18 +54,18 @@ impl<N: LiveName> Model for Reader<N> {
 
     ghost view = { λ r. r.knowledge };
 
-    ghost invariant = { λ r. IsSome r.seat × IsOf N.opening r.empty × (r.empty.glimpse.sight.log ≡ []) };
+    ghost invariant = { λ r. IsSome r.seat × IsOf N.opening r.empty × (r.empty.glimpse.acts ≡ []) };
 }
 
 impl<N: LiveName> Reader<N> {
     pub(crate) fn new(
         alloc: Global,
         bell: Bell<N>,
-        seat: Seat<Shelf, (), Published<N>>,
+        seat: Seat<Side, (), Published<N>>,
         told: Front<N>,
         empty: Shelf,
     ) -> Reader<N>
-        requires { IsOf N.opening empty × (empty.glimpse.sight.log ≡ []) }
+        requires { IsOf N.opening empty × (empty.glimpse.acts ≡ []) }
         ensures { (result.seen ≡ []) × (result.told ≡ told) }
     {
         Reader {
@@ -126,7 +126,7 @@ impl<N: LiveName> Reader<N> {
         ensures later { IsPrefix self.old.seen self.new.seen }
         ensures told { self.new.told ≡ self.old.told }
         ensures ok { OnOk result ((cached.new ≡ self.new.seen) × IsPrefix self.old.told self.new.seen) }
-        ensures left { IfOk result (λ left. IfSome left (λ shelf. shelf.glimpse.sight.log ≡ cached.old)) }
+        ensures left { IfOk result (λ left. IfSome left (λ shelf. shelf.glimpse.acts ≡ cached.old)) }
         ensures unchanged { OnErr result (cached.new ≡ cached.old) }
         ensures err { IfErr result IsUnread }
     {
@@ -135,7 +135,7 @@ impl<N: LiveName> Reader<N> {
         };
         match seat.enter_as::<Gets<N>>() {
             Ok(reading) => {
-                let done = cached.go_on(&mut self.knowledge, reading.get());
+                let done = cached.go_on(&mut self.knowledge, reading.get().shelf());
                 self.seat = Some(reading.leave());
                 done
             }
@@ -205,7 +205,7 @@ impl<N: LiveName> Reader<N> {
         ensures later { IsPrefix self.old.seen self.new.seen }
         ensures told { self.new.told ≡ self.old.told }
         ensures ok { IfOk result
-            (λ s. (s.glimpse.sight.log ≡ self.new.seen) × IsOf N.opening s × IsPrefix self.old.told self.new.seen) }
+            (λ s. (s.glimpse.acts ≡ self.new.seen) × IsOf N.opening s × IsPrefix self.old.told self.new.seen) }
         ensures stands { IfOk result (λ s. StandsFor self.new.seen s.version) }
         ensures err { IfErr result IsUnread }
     {
@@ -217,7 +217,7 @@ impl<N: LiveName> Reader<N> {
         ensures later { IsPrefix self.old.seen self.new.seen }
         ensures told { self.new.told ≡ self.old.told }
         ensures ok { IfOk result
-            (λ s. (s.glimpse.sight.log ≡ self.new.seen) × IsOf N.opening s × IsPrefix self.old.told self.new.seen) }
+            (λ s. (s.glimpse.acts ≡ self.new.seen) × IsOf N.opening s × IsPrefix self.old.told self.new.seen) }
         ensures stands { IfOk result (λ s. StandsFor self.new.seen s.version) }
         ensures ahead { IfOk result (λ _. TellsLag current.now cursor.now (floor_of self.new.seen) false) }
         ensures err { IfErr result (IsNotShown (Some (current.now, cursor.now)) self.new.seen) }
@@ -231,7 +231,7 @@ impl<N: LiveName> Reader<N> {
         ensures later { IsPrefix self.old.seen self.new.seen }
         ensures told { self.new.told ≡ self.old.told }
         ensures ok { IfOk result
-            (λ s. (s.glimpse.sight.log ≡ self.new.seen) × IsOf N.opening s × IsPrefix self.old.told self.new.seen) }
+            (λ s. (s.glimpse.acts ≡ self.new.seen) × IsOf N.opening s × IsPrefix self.old.told self.new.seen) }
         ensures stands { IfOk result (λ s. StandsFor self.new.seen s.version) }
         ensures ahead { IfOk result
             (λ _. TellsLagOf (option_map (λ f. (f.0.now, f.1.now)) follower.entry) (floor_of self.new.seen) false) }
@@ -243,7 +243,7 @@ impl<N: LiveName> Reader<N> {
         };
         match seat.enter_as::<Gets<N>>() {
             Ok(reading) => {
-                let shelf = self.knowledge.take_in(follower, reading.get());
+                let shelf = self.knowledge.take_in(follower, reading.get().shelf());
                 self.seat = Some(reading.leave());
                 shelf
             }
@@ -257,6 +257,18 @@ impl<N: LiveName> Reader<N> {
         }
     }
 
+    pub(crate) fn seen(&self) -> &Front<N>
+        ensures { result.now ≡ self.now.seen }
+    {
+        self.knowledge.seen()
+    }
+
+    pub(crate) fn told(&self) -> &Front<N>
+        ensures { result.now ≡ self.now.told }
+    {
+        self.knowledge.told()
+    }
+
     pub(crate) fn bell(&self) -> &Bell<N> {
         &self.bell
     }
@@ -267,7 +279,7 @@ impl<N: LiveName> Reader<N> {
 
     /// The empty version, as a shelf.
     pub(crate) fn empty_shelf(&self) -> Result<Shelf, KvError>
-        ensures { MatchResult result (λ s. IsOf N.opening s × (s.glimpse.sight.log ≡ [])) (λ e. e ≡ OutOfMemory) }
+        ensures { MatchResult result (λ s. IsOf N.opening s × (s.glimpse.acts ≡ [])) (λ e. e ≡ OutOfMemory) }
     {
         self.empty.again()
     }
@@ -279,7 +291,17 @@ impl<N: LiveName> Reader<N> {
         ensures learned { IsPrefix receipt.now self.new.told }
         ensures one_list { (self.new.told ≡ self.old.told) ⊎ (self.new.told ≡ receipt.now) }
     {
-        self.knowledge.learn(receipt);
+        self.knowledge.learn(receipt.mark());
+    }
+
+    /// Takes in a mark, as a receipt.
+    pub fn learn_mark(&mut self, mark: &Mark<N>)
+        ensures seen { self.new.seen ≡ self.old.seen }
+        ensures told { IsPrefix self.old.told self.new.told }
+        ensures learned { IsPrefix mark.now self.new.told }
+        ensures one_list { (self.new.told ≡ self.old.told) ⊎ (self.new.told ≡ mark.now) }
+    {
+        self.knowledge.learn(mark);
     }
 
     /// Whether it has seen all that the other reader has. What the readers of one opening have seen are beginnings of
@@ -296,6 +318,6 @@ impl<N: LiveName> Reader<N> {
         ensures yes { result ≡ true → IsPrefix receipt.now self.now.seen }
         ensures no { result ≡ false → IsPrefix self.now.seen receipt.now }
     {
-        self.knowledge.has_seen(receipt)
+        self.knowledge.has_seen(receipt.mark())
     }
 }

@@ -1,4 +1,5 @@
-pub mod Adding
 pub mod Prefixes
 pub mod Publishing
+pub mod Seeing
 pub mod Sent
+pub mod Stepping

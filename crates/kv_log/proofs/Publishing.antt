@@ -1,7 +1,16 @@
 -- What a change of what is published leaves.
-use Rattle.std.proofs.Common.{◌≡◌, List, [], ◌∷◌, ◌++◌, refl, fold}
+use Rattle.std.proofs.Common.{◌≡◌, true, List, [], ◌∷◌, ◌++◌, Result, Ok, Err, is_ok, refl, fold}
+use Rattle.std.specs.Prelude.{MatchResult}
+use Rattle.logbook.specs.Pages.{Named}
+use Rattle.kv_model.specs.Configuration.{Configuration}
+use Rattle.kv_log.specs.Glimpses.{Glimpsed}
+use Rattle.kv_log.specs.Shelves.{Shelved, common_after}
 
 -- what is absorbed last stands alone
-pub fold_last : {S O : Type 0} (of : O → S) (s : S) (ops : List O) (op : O) → fold (λ (before : S) (next : O). of next) s (ops ++ op ∷ []) ≡ of op
-fold_last of s [] op = refl
-fold_last of s (x ∷ ops) op = fold_last of (of x) ops op
+pub common_last : (s : Glimpsed × Configuration × Named) (ops : List Shelved) (op : Shelved) → fold common_after s (ops ++ op ∷ []) ≡ common_after s op
+common_last s [] op = refl
+common_last s (x ∷ ops) op = common_last (common_after s x) ops op
+
+pub at_ok : {X E : Type 0} (r : Result X E) (P : X → Type 0) (Q : E → Type 0) (R : Type 0) → ((x : X) → P x → R) → is_ok r ≡ true → MatchResult r P Q → R
+at_ok (Ok x) P Q R f ok h = f x h
+at_ok (Err e) P Q R f ok h = absurd (cc ok)

@@ -13,14 +13,21 @@ use Rattle.kv_log.specs.contracts.copies.Copies as Copies
 use Rattle.kv_log.specs.contracts.last.Last as Last
 use Rattle.kv_log.specs.contracts.shelf.Shelf as Shelf
 use Rattle.kv_log.proofs.front.Glimpse.TheSendSync as glimpse
-use Rattle.kv_log.proofs.history.Head.TheSendSync as head
+use Rattle.kv_log.specs.contracts.side.Side as Side
+use Rattle.logbook.proofs.word.Word.TheSendSync as word
 use Rattle.left_right.proofs.writer.Writer.TheSendSync as writer
 
 pub shelf_send : IsSend Shelf.the_row
-shelf_send = let v = version_send in search (sendable, glimpse.the_field_send) depth 20
+shelf_send = let v = version_send in search (sendable, glimpse.the_send) depth 20
 
 pub shelf_sync : IsSync Shelf.the_row
-shelf_sync = let v = version_sync in search (sendable, glimpse.the_field_sync) depth 20
+shelf_sync = let v = version_sync in search (sendable, glimpse.the_sync) depth 20
+
+pub side_send : IsSend (Side.the_field).row
+side_send = let h = shelf_send in search (sendable, crosses, word.the_send) depth 20
+
+pub side_sync : IsSync (Side.the_field).row
+side_sync = let i = shelf_sync in search (sendable, crosses, word.the_sync) depth 20
 
 module _ (N : RattleType) (g : live_name.Ghosts N.Denot) (s : IsSend N) (y : IsSync N) where
   last_send : IsSend (Last.the_field N g).row
@@ -42,4 +49,4 @@ module _ (N : RattleType) (g : live_name.Ghosts N.Denot) (s : IsSend N) (y : IsS
   bell_sync = let b = board_send in let c = board_sync in search (sendable, crosses) depth 20
 
   pub copies_send : IsSend (Copies.the_row N g)
-  copies_send = let h = shelf_send in let i = shelf_sync in search (sendable, crosses, writer.the_send, writer.the_field_send, head.the_field_send) depth 20
+  copies_send = let h = side_send in let i = side_sync in let k = shelf_send in search (sendable, crosses, writer.the_send, writer.the_field_send) depth 20

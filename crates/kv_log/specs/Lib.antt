@@ -1,3 +1,4 @@
+pub mod Glimpses
 pub mod Openings
 pub mod Rules
 pub mod Shelves

@@ -1,14 +1,13 @@
-//! The two copies of what is published, and the end of them that publishes.
+//! The end of the two copies that publishes.
 
-ghost use Rattle.std.specs.Prelude.{◌≡◌, ◌<◌, ◌^◌, ◌++◌, ◌∷◌, [], true, IfSome, IfErr, MatchResult, length};
+ghost use Rattle.std.specs.Prelude.{◌≡◌, ◌<◌, ◌^◌, ◌++◌, ◌∷◌, [], IfSome, IfErr, MatchResult, drop};
 ghost use Rattle.kv_keys.specs.declared.error.KvError.TheVariants.{OutOfMemory, NoReader};
 ghost use Rattle.kv_log.specs.Shelves.{IsOf};
 
-use crate::deed::Deed;
-use crate::front::Front;
-use crate::history::{Head, LiveName};
+use crate::history::LiveName;
 use crate::rule::{Published, Shows};
 use crate::shelf::Shelf;
+use crate::side::{Right, Side};
 use kv_keys::KvError;
 use left_right::reader::Reader as Seat;
 use left_right::writer::Writer;
@@ -17,12 +16,11 @@ use std::marker::Model;
 use std::mem::ManuallyDrop;
 use std::sync::Wait;
 
-/// The store of the opening N, with the right end of its history: there is one such end for a name, and so one store.
-/// Contracts see it as the acts that are published. It is not `Drop`: end it by `close`. The writer lies in a
-/// `ManuallyDrop`, since a lock asks how to drop what it holds, and no code can drop a writer.
+/// The store of the opening N: it takes both rights of a copy, so there is one for a name. Contracts see it as the acts
+/// that are published. It is not `Drop`: end it by `close`. The writer lies in a `ManuallyDrop`, since a lock asks how to
+/// drop what it holds, and no code can drop a writer.
 pub struct Copies<N: LiveName> {
-    writer: ManuallyDrop<Writer<Shelf, Shelf, (), Published<N>>>,
-    head: Head<N>,
+    writer: ManuallyDrop<Writer<Side, Shelf, (), Published<N>>>,
 }
 
 impl<N: LiveName> Model for Copies<N> {
@@ -32,32 +30,75 @@ impl<N: LiveName> Model for Copies<N> {
 
     ghost Value = { List Act };
 
-    ghost view = { λ p. (manually_drop_value p.writer).desk.shown.value.glimpse.sight.log };
+    ghost view = { λ p. (manually_drop_value p.writer).desk.shown.value.shelf.glimpse.acts };
 }
 
 // A writer that shows two copies of a shelf.
 fn writer_on<N: LiveName>(
     alloc: Global,
+    first: Right<N>,
+    second: Right<N>,
     shelf: &Shelf,
     readers: usize,
-) -> Result<Writer<Shelf, Shelf, (), Published<N>>, KvError>
+) -> Result<Writer<Side, Shelf, (), Published<N>>, KvError>
     requires of { IsOf N.opening shelf.now }
     requires readers { (0 < readers) × (readers < 2 ^ 32) }
-    ensures { MatchResult result (λ w. w.desk.shown.value.glimpse.sight.log ≡ shelf.now.glimpse.sight.log)
+    ensures { MatchResult result (λ w. w.desk.shown.value.shelf.glimpse.acts ≡ shelf.now.glimpse.acts)
         (λ e. e ≡ OutOfMemory) }
 {
-    let first = shelf.again()?;
-    let second = shelf.again()?;
+    let first = Side::new(shelf.again()?, first);
+    let second = Side::new(shelf.again()?, second);
     Ok(Writer::new(alloc, first, second, readers)?)
 }
 
+// Appends a shelf to what is pending, however often that is refused. It never is: there is room for what is pending
+// since the beginning.
+fn append<N: LiveName, R: Wait>(
+    rt: &R,
+    writer: Writer<Side, Shelf, (), Published<N>>,
+    shelf: Shelf,
+) -> Writer<Side, Shelf, (), Published<N>>
+    ensures shown { result.desk.shown.value ≡ writer.desk.shown.value }
+    ensures pending { drop result.behind result.log.items ≡ drop writer.behind writer.log.items ++ shelf ∷ [] }
+{
+    let mut writer = writer;
+    let mut shelf = shelf;
+    for _ in rt.forever() {
+        match writer.append(shelf) {
+            Ok(()) => return writer,
+            Err(refused) => shelf = refused,
+        }
+    }
+    unreachable!()
+}
+
+// Shows what is pending, however often that is refused. It never is: no version is shared as often as can be counted.
+fn show<N: LiveName, R: Wait>(
+    rt: &R,
+    writer: Writer<Side, Shelf, (), Published<N>>,
+    shelf: Shelf,
+) -> Copies<N>
+    requires { IsOf N.opening shelf }
+    ensures { result ≡ shelf.glimpse.acts }
+{
+    let mut writer = append(rt, writer, shelf);
+    for _ in rt.forever() {
+        let (left, shown) = writer.publish_as::<Shows, R>(rt);
+        if shown.is_ok() {
+            return Copies::of(left);
+        }
+        writer = left;
+    }
+    unreachable!()
+}
+
 impl<N: LiveName> Copies<N> {
-    fn of(writer: Writer<Shelf, Shelf, (), Published<N>>, head: Head<N>) -> Copies<N>
-        ensures { result ≡ writer.desk.shown.value.glimpse.sight.log }
+    fn of(writer: Writer<Side, Shelf, (), Published<N>>) -> Copies<N>
+        ensures { result ≡ writer.desk.shown.value.shelf.glimpse.acts }
     {
         // `close` and `publish` take it out again.
         let writer = unsafe { ManuallyDrop::new_unchecked(writer) };
-        Copies { writer, head }
+        Copies { writer }
     }
 
     /// Two copies of a shelf, with room for so many readers. The third is the first that is pending: it makes the room
@@ -65,30 +106,30 @@ impl<N: LiveName> Copies<N> {
     pub fn new<R: Wait>(
         rt: &R,
         alloc: Global,
-        head: Head<N>,
+        first: Right<N>,
+        second: Right<N>,
         shelf: &Shelf,
         readers: usize,
     ) -> Result<Copies<N>, KvError>
         requires of { IsOf N.opening shelf.now }
         requires readers { (0 < readers) × (readers < 2 ^ 32) }
-        ensures { MatchResult result (λ p. p ≡ shelf.now.glimpse.sight.log) (λ e. e ≡ OutOfMemory) }
+        ensures { MatchResult result (λ p. p ≡ shelf.now.glimpse.acts) (λ e. e ≡ OutOfMemory) }
     {
         let third = shelf.again()?;
-        let writer = writer_on(alloc, shelf, readers)?;
-        Copies::pending(rt, writer, head, third).ok_or(KvError::OutOfMemory)
+        let writer = writer_on(alloc, first, second, shelf, readers)?;
+        Copies::pending(rt, writer, third).ok_or(KvError::OutOfMemory)
     }
 
     // The copies with a shelf that is pending. Where it is refused they have ended.
     fn pending<R: Wait>(
         rt: &R,
-        mut writer: Writer<Shelf, Shelf, (), Published<N>>,
-        head: Head<N>,
+        mut writer: Writer<Side, Shelf, (), Published<N>>,
         shelf: Shelf,
     ) -> Option<Copies<N>>
-        ensures { IfSome result (λ p. p ≡ writer.desk.shown.value.glimpse.sight.log) }
+        ensures { IfSome result (λ p. p ≡ writer.desk.shown.value.shelf.glimpse.acts) }
     {
         let refused = writer.append(shelf).is_err();
-        let copies = Copies::of(writer, head);
+        let copies = Copies::of(writer);
         if refused {
             copies.close(rt);
             return None;
@@ -97,7 +138,7 @@ impl<N: LiveName> Copies<N> {
     }
 
     /// A new place for a reader.
-    pub fn seat(&self) -> Result<Seat<Shelf, (), Published<N>>, KvError>
+    pub fn seat(&self) -> Result<Seat<Side, (), Published<N>>, KvError>
         ensures { IfErr result (λ e. e ≡ NoReader) }
     {
         match self.writer.factory().reader() {
@@ -106,42 +147,19 @@ impl<N: LiveName> Copies<N> {
         }
     }
 
-    /// Adds an act to all that was seen of the history, and says whether it did. It did not where the history is
-    /// longer.
-    pub fn note(&self, seen: &mut Front<N>, deed: Deed) -> bool
-        requires { length seen.old < 2 ^ 62 }
-        ensures { result ≡ true → seen.new ≡ seen.old ++ deed ∷ [] }
-    {
-        seen.add(&self.head, deed)
-    }
-
-    /// Publishes a shelf. What is pending is replaced by it. It waits for those that read the other copy.
-    ///
-    /// Where it is refused the copies have ended. It never is: there is room for what is pending since the beginning,
-    /// and no version is shared as often as can be counted.
-    pub fn publish<R: Wait>(self, rt: &R, shelf: Shelf) -> Option<Copies<N>>
+    /// Publishes a shelf. What is pending is replaced by it. It waits for those that read the other copy, and, where the
+    /// store refuses it, until it doesn't. It never refuses it.
+    pub fn publish<R: Wait>(self, rt: &R, shelf: Shelf) -> Copies<N>
         requires { IsOf N.opening shelf }
-        ensures { IfSome result (λ p. p ≡ shelf.glimpse.sight.log) }
+        ensures { result ≡ shelf.glimpse.acts }
     {
-        let Copies { writer, head } = self;
-        let mut writer = ManuallyDrop::into_inner(writer);
-        if writer.append(shelf).is_err() {
-            Copies::of(writer, head).close(rt);
-            return None;
-        }
-        let (writer, published) = writer.publish_as::<Shows, R>(rt);
-        match published {
-            Ok(()) => Some(Copies::of(writer, head)),
-            Err(_) => {
-                Copies::of(writer, head).close(rt);
-                None
-            }
-        }
+        let Copies { writer } = self;
+        show(rt, ManuallyDrop::into_inner(writer), shelf)
     }
 
     /// Ends it. It waits for the readers that are reading.
     pub fn close<R: Wait>(self, rt: &R) {
-        let Copies { writer, head: _ } = self;
+        let Copies { writer } = self;
         drop(ManuallyDrop::into_inner(writer).take(rt));
     }
 }

@@ -1,29 +1,77 @@
 //! A beginning of a history that was seen.
-ghost use Rattle.std.specs.Prelude.{◌≡◌, ◌⊎◌, ◌^◌, ◌<◌, ◌++◌, ◌∷◌, [], true, false, length};
-ghost use Rattle.kv_model.specs.Acts.{IsPrefix};
 
-use crate::deed::Deed;
-use crate::history::{Adds, Head, LiveName, Noted, Nothing, Sight};
-use logbook::Offer;
+ghost use Rattle.std.specs.Prelude.{◌≡◌, ◌⊎◌, [], true, false, length};
+ghost use Rattle.kv_model.specs.Acts.{IsPrefix};
+ghost use Rattle.kv_log.specs.Rules.{acts_in};
+
+use crate::history::{LiveName, Sight};
 use std::marker::{Model, PhantomData};
 
-/// A beginning of some history, with its length.
+/// A beginning of some history, with its length. Contracts see its acts, and which history it is of.
 #[derive(Drop)]
 pub struct Glimpse {
-    pub acts: u64,
-    pub sight: Sight,
-    pub ghost counted: { acts ≡ length sight.log },
+    acts: u64,
+    sight: Sight,
+}
+
+impl Model for Glimpse {
+    ghost use Rattle.std.specs.Prelude.{◌≡◌, length};
+    ghost use Rattle.kv_log.specs.Rules.{acts_in};
+    ghost use Rattle.kv_log.specs.Glimpses.{Glimpsed};
+
+    ghost Value = { Glimpsed };
+
+    ghost view = { λ g. record { acts = acts_in g.sight.log; book = g.sight.book } };
+
+    ghost invariant = { λ g. g.acts ≡ length g.sight.log };
 }
 
 impl Glimpse {
+    pub(crate) fn new(acts: u64, sight: Sight) -> Glimpse
+        requires { acts ≡ length sight.log }
+        ensures { (result.acts ≡ acts_in sight.log) × (result.book ≡ sight.book) }
+    {
+        Glimpse { acts, sight }
+    }
+
+    /// How many acts it has.
+    pub fn len(&self) -> u64
+        ensures { result ≡ length self.now.acts }
+    {
+        self.acts
+    }
+
     /// A copy.
     pub fn again(&self) -> Glimpse
-        ensures { result.sight ≡ self.now.sight }
+        ensures { result ≡ self.now }
     {
         Glimpse {
             acts: self.acts,
             sight: self.sight.again(),
         }
+    }
+
+    // What this and that sight have seen together.
+    pub(crate) fn with(&self, sight: &Sight) -> Sight
+        requires { sight.now.book ≡ self.now.book }
+        ensures book { result.book ≡ sight.now.book }
+        ensures that { IsPrefix sight.now.log result.log }
+        ensures this { IsPrefix self.now.acts (acts_in result.log) }
+    {
+        let mut both = sight.again();
+        both.learn(&self.sight);
+        both
+    }
+
+    // Whether it is as long as the other one of the same history, or longer.
+    fn covers(&self, other: &Glimpse) -> bool
+        requires { other.now.book ≡ self.now.book }
+        ensures yes { result ≡ true → IsPrefix other.now.acts self.now.acts }
+        ensures no { result ≡ false → IsPrefix self.now.acts other.now.acts }
+    {
+        let mut both = self.sight.again();
+        both.learn(&other.sight);
+        other.acts <= self.acts
     }
 }
 
@@ -40,30 +88,19 @@ impl<N: LiveName> Model for Front<N> {
 
     ghost Value = { List Act };
 
-    ghost view = { λ f. f.glimpse.sight.log };
+    ghost view = { λ f. f.glimpse.acts };
 
-    ghost invariant = { λ f. f.glimpse.sight.book ≡ N.opening.book };
+    ghost invariant = { λ f. f.glimpse.book ≡ N.opening.book };
 }
 
 impl<N: LiveName> Front<N> {
     /// What was glimpsed of the history of N.
     pub fn of(glimpse: &Glimpse) -> Front<N>
-        requires { glimpse.now.sight.book ≡ N.opening.book }
-        ensures { result ≡ glimpse.now.sight.log }
+        requires { glimpse.now.book ≡ N.opening.book }
+        ensures { result ≡ glimpse.now.acts }
     {
         Front {
             glimpse: glimpse.again(),
-            of: PhantomData,
-        }
-    }
-
-    /// The front that has seen nothing.
-    pub fn new(sight: Sight) -> Front<N>
-        requires { (sight.log ≡ []) × (sight.book ≡ N.opening.book) }
-        ensures { result ≡ [] }
-    {
-        Front {
-            glimpse: Glimpse { acts: 0, sight },
             of: PhantomData,
         }
     }
@@ -72,7 +109,7 @@ impl<N: LiveName> Front<N> {
     pub fn len(&self) -> u64
         ensures { result ≡ length self.now }
     {
-        self.glimpse.acts
+        self.glimpse.len()
     }
 
     /// A copy.
@@ -85,11 +122,11 @@ impl<N: LiveName> Front<N> {
         }
     }
 
-    /// A copy that does not name the history.
-    pub fn glimpse(&self) -> Glimpse
-        ensures { (result.sight.log ≡ self.now) × (result.sight.book ≡ N.opening.book) }
+    /// What was seen.
+    pub(crate) fn glimpse(&self) -> &Glimpse
+        ensures { (result.now.acts ≡ self.now) × (result.now.book ≡ N.opening.book) }
     {
-        self.glimpse.again()
+        &self.glimpse
     }
 
     /// Whether this front is as long as the other one, or longer. Of two fronts the shorter begins the longer.
@@ -97,9 +134,7 @@ impl<N: LiveName> Front<N> {
         ensures yes { result ≡ true → IsPrefix other.now self.now }
         ensures no { result ≡ false → IsPrefix self.now other.now }
     {
-        let mut both = self.glimpse.sight.again();
-        both.learn(&other.glimpse.sight);
-        other.glimpse.acts <= self.glimpse.acts
+        self.glimpse.covers(&other.glimpse)
     }
 
     /// The longer of two fronts.
@@ -113,23 +148,5 @@ impl<N: LiveName> Front<N> {
         } else {
             other.again()
         }
-    }
-
-    /// Adds an act to all that was seen, and says whether it did. It did not where the history is longer.
-    pub fn add(&mut self, head: &Head<N>, deed: Deed) -> bool
-        requires { length self.old < 2 ^ 62 }
-        ensures { result ≡ true → self.new ≡ self.old ++ deed ∷ [] }
-    {
-        let mut sight = self.glimpse.sight.again();
-        let mut offer: Offer<Deed, u64, Noted, Nothing> = sight.plain::<Nothing, Deed, Adds>(&deed);
-        let mut pen = sight.no_pen();
-        let acts = self.glimpse.acts;
-        let found = head
-            .length
-            .compare_exchange::<Adds, Nothing>(acts, acts + 1, &mut sight, &mut offer, &mut pen);
-        let added = found == acts;
-        let acts = if added { acts + 1 } else { found };
-        self.glimpse = Glimpse { acts, sight };
-        added
     }
 }

@@ -1,17 +1,15 @@
-//! The history of an opening: the acts that were published, in order, and perhaps one more that is about to be. It
-//! exists in proofs alone, beside one word with its length.
-
-ghost use Rattle.std.specs.Prelude.{◌≡◌, []};
-ghost use Rattle.kv_log.specs.Rules.{head_of};
+//! The history of an opening: the acts that are published, in order. It exists in proofs alone, beside a word on which its
+//! steps are made.
 
 use crate::deed::Deed;
-use logbook::{Gain, Plain, Play, Rule, Seen, Start, Word};
-use std::marker::{Brand, PhantomData};
+use crate::entry::Entry;
+use logbook::{Gain, Opening, Pen, Plain, Play, Rule, Seen, Word};
+use std::marker::Brand;
 
 /// The rule of the history.
 pub struct Noted;
 
-impl Rule<Deed, u64> for Noted {
+impl Rule<Entry, u64> for Noted {
     ghost use Rattle.std.specs.Prelude.{[]};
     ghost use base.Fml.{ftrue};
     ghost use Rattle.kv_log.specs.Rules.{IsKept};
@@ -29,31 +27,86 @@ impl Rule<Deed, u64> for Noted {
     ghost moves = { λ ask before after answer. Unit {0} };
 }
 
+/// A history begins with nothing.
+pub struct Empty;
+
+impl Opening<(), Entry> for Empty {
+    ghost use Rattle.std.specs.Prelude.{[]};
+
+    ghost log = { λ count about. [] };
+}
+
 /// Callers trade nothing.
 pub struct Nothing;
 
-impl Gain<Deed, u64> for Nothing {
+impl Gain<Entry, u64> for Nothing {
     ghost use base.Fml.{ftrue};
 
     ghost after = { λ names about answer. ftrue };
 }
 
-/// A step that adds an act.
+/// A step that makes a right to add an entry later, and adds nothing.
+pub struct Makes;
+
+impl Play<Entry, u64> for Makes {
+    ghost use Rattle.kv_log.specs.Rules.{Making};
+
+    ghost then = { Making };
+}
+
+/// It asks for nothing.
+impl Plain<(), Entry, u64> for Makes {
+    ghost use Rattle.std.specs.Prelude.{None};
+    ghost use Rattle.kv_log.specs.Rules.{no_entry};
+
+    ghost ask = { λ about. no_entry };
+
+    ghost state = { λ about. None };
+}
+
+/// An act, and the right to add the next one.
+#[derive(Drop)]
+pub struct Claim {
+    pub deed: Deed,
+    pub pen: Pen,
+}
+
+/// A step that adds an act, by the right to add the next one.
 pub struct Adds;
 
-impl Play<Deed, u64> for Adds {
+impl Play<Entry, u64> for Adds {
     ghost use Rattle.kv_log.specs.Rules.{Adding};
 
     ghost then = { Adding };
 }
 
-/// What a step asks for: the act.
-impl Plain<Deed, Deed, u64> for Adds {
+/// What it asks for: the act, and which right is the next one.
+impl Plain<Claim, Entry, u64> for Adds {
     ghost use Rattle.std.specs.Prelude.{None};
+    ghost use Rattle.kv_log.specs.Rules.{entry};
 
-    ghost ask = { λ act. act };
+    ghost ask = { λ claim. entry claim.deed claim.pen.nib.key };
 
-    ghost state = { λ act. None };
+    ghost state = { λ claim. None };
+}
+
+/// A step of who has the right to add the next entry, who learns that there is none yet.
+pub struct Looks;
+
+impl Play<Entry, u64> for Looks {
+    ghost use Rattle.kv_log.specs.Rules.{Looking};
+
+    ghost then = { Looking };
+}
+
+/// It asks for nothing.
+impl Plain<(), Entry, u64> for Looks {
+    ghost use Rattle.std.specs.Prelude.{None};
+    ghost use Rattle.kv_log.specs.Rules.{no_entry};
+
+    ghost ask = { λ about. no_entry };
+
+    ghost state = { λ about. None };
 }
 
 /// Stands for one opening of a bucket, which is its history and its configuration. What has one name has one published
@@ -76,47 +129,8 @@ impl LiveName for Brand {
 }
 
 /// What was seen of a history that has no name yet. It has no bytes.
-pub type Sight = Seen<Deed, u64, Noted>;
+pub type Sight = Seen<Entry, u64, Noted>;
 
-/// The word with the history's length.
-pub type Length = Word<Deed, u64, Noted>;
-
-/// An empty history, which has no name yet.
-#[derive(Drop)]
-pub struct Blank {
-    pub length: Length,
-    pub sight: Sight,
-    pub ghost empty: { sight.log ≡ [] },
-    pub ghost length_is: { length ≡ head_of sight.book },
-}
-
-impl Blank {
-    /// A history without acts, under a name of its own.
-    pub fn new() -> Blank {
-        let (sight, mut first, _second) = Seen::open(Start::alone(), 0, 0);
-        Blank {
-            length: Word::tracked(0, &mut first),
-            sight,
-        }
-    }
-}
-
-/// The right end of the history of N. It lies under the lock, beside the front that knows the whole history.
-#[derive(Drop)]
-pub struct Head<N: LiveName> {
-    pub(crate) length: Length,
-    of: PhantomData<N>,
-    ghost length_is: { length ≡ head_of N.opening.book },
-}
-
-impl<N: LiveName> Head<N> {
-    /// The right end of the history that has this length.
-    pub fn new(length: Length) -> Head<N>
-        requires { length ≡ head_of N.opening.book }
-    {
-        Head {
-            length,
-            of: PhantomData,
-        }
-    }
-}
+/// A word of the history. What it holds says nothing when the program runs. The first is there for steps to be made on,
+/// and each of the two others is the right to be one of the two copies of what is published.
+pub type Anchor = Word<Entry, u64, Noted>;

@@ -6,17 +6,22 @@
 mod bell;
 mod copies;
 mod deed;
+mod entry;
 mod front;
 mod history;
 mod last;
 mod rule;
 mod shelf;
+mod side;
+mod whole;
 
 pub use bell::{Bell, Woken};
 pub use copies::Copies;
 pub use deed::Deed;
 pub use front::{Front, Glimpse};
-pub use history::{Blank, Head, LiveName, Sight};
+pub use history::{LiveName, Sight};
 pub use last::Last;
 pub use rule::{Gets, Published};
 pub use shelf::Shelf;
+pub use side::{Right, Side};
+pub use whole::{Blank, Whole};

@@ -1,7 +1,7 @@
-//! The rule of what is published: it is of one opening.
+//! The rule of what is published: it is of one opening, and has one of its two rights.
 
 use crate::history::LiveName;
-use crate::shelf::Shelf;
+use crate::side::Side;
 use crossbeam_utils::rule::{Outcome, Protocol};
 use std::marker::PhantomData;
 
@@ -11,10 +11,11 @@ pub struct Published<N: LiveName> {
     of: PhantomData<N>,
 }
 
-impl<N: LiveName> Protocol<Shelf, ()> for Published<N> {
+impl<N: LiveName> Protocol<Side, ()> for Published<N> {
+    ghost use Rattle.std.specs.Prelude.{◌≡◌};
     ghost use Rattle.kv_log.specs.Shelves.{IsOf};
 
-    ghost holds = { λ shelf views. IsOf N.opening shelf };
+    ghost holds = { λ side views. IsOf N.opening side.shelf × (side.right.book ≡ N.opening.book) };
 
     ghost first = { tt };
 }
@@ -24,16 +25,16 @@ pub struct Gets<N: LiveName> {
     of: PhantomData<N>,
 }
 
-impl<N: LiveName> Outcome<Shelf, ()> for Gets<N> {
+impl<N: LiveName> Outcome<Side, ()> for Gets<N> {
     ghost use Rattle.kv_log.specs.Shelves.{IsOf};
 
-    ghost then = { λ v x y w. IsOf N.opening y };
+    ghost then = { λ v x y w. IsOf N.opening y.shelf };
 }
 
 /// A step of the writer, which tells it nothing.
 pub struct Shows;
 
-impl Outcome<Shelf, ()> for Shows {
+impl Outcome<Side, ()> for Shows {
     ghost use Rattle.std.specs.Prelude.{⊤};
 
     ghost then = { λ v x y w. ⊤ };

@@ -5,12 +5,8 @@ ghost use Rattle.kv_keys.specs.declared.error.KvError.TheVariants.{OutOfMemory};
 ghost use Rattle.kv_store.specs.Standing.{StandsFor};
 
 use crate::front::Glimpse;
-use crate::history::Sight;
 use kv_keys::KvError;
-use kv_model::Config;
 use kv_store::Version;
-use left_right::Absorb;
-use std::alloc::AllocError;
 use std::marker::Model;
 
 /// A version, and a glimpse of the history: the version stands for its acts.
@@ -36,13 +32,13 @@ impl Model for Shelf {
 
     ghost view = { λ s. record { version = s.version; glimpse = s.glimpse } };
 
-    ghost invariant = { λ s. StandsFor s.glimpse.sight.log s.version };
+    ghost invariant = { λ s. StandsFor s.glimpse.acts s.version };
 }
 
 impl Shelf {
     /// A version, with the beginning of the history that it stands for.
     pub fn new(version: Version, glimpse: Glimpse) -> Shelf
-        requires { StandsFor glimpse.sight.log version }
+        requires { StandsFor glimpse.acts version }
         ensures { result ≡ record { version = version; glimpse = glimpse } }
     {
         Shelf { version, glimpse }
@@ -51,7 +47,7 @@ impl Shelf {
     /// The version.
     pub fn version(&self) -> &Version
         ensures value { result.now ≡ self.now.version }
-        ensures stands { StandsFor self.now.glimpse.sight.log self.now.version }
+        ensures stands { StandsFor self.now.glimpse.acts self.now.version }
     {
         &self.version
     }
@@ -65,15 +61,15 @@ impl Shelf {
 
     /// How many acts that beginning has.
     pub fn acts(&self) -> u64
-        ensures { result ≡ length self.now.glimpse.sight.log }
+        ensures { result ≡ length self.now.glimpse.acts }
     {
-        self.glimpse.acts
+        self.glimpse.len()
     }
 
     /// The version, which leaves the rest behind.
     pub fn into_version(self) -> Version
         ensures value { result ≡ self.version }
-        ensures stands { StandsFor self.glimpse.sight.log self.version }
+        ensures stands { StandsFor self.glimpse.acts self.version }
     {
         let Shelf {
             version,
@@ -84,8 +80,8 @@ impl Shelf {
 
     /// An equal shelf: one snapshot of the version.
     pub fn again(&self) -> Result<Shelf, KvError>
-        ensures ok { IfOk result (λ s. (s.version ≡ self.now.version) × (s.glimpse.sight ≡ self.now.glimpse.sight)) }
-        ensures stands { IfOk result (λ s. StandsFor self.now.glimpse.sight.log s.version) }
+        ensures ok { IfOk result (λ s. (s.version ≡ self.now.version) × (s.glimpse ≡ self.now.glimpse)) }
+        ensures stands { IfOk result (λ s. StandsFor self.now.glimpse.acts s.version) }
         ensures err { IfErr result (λ e. e ≡ OutOfMemory) }
     {
         let version = self.version.snapshot()?;
@@ -93,30 +89,5 @@ impl Shelf {
             version,
             glimpse: self.glimpse.again(),
         })
-    }
-}
-
-/// An operation is the whole next shelf. The two copies have the sight in common, and so what they stand for, and the
-/// configuration.
-impl Absorb<Shelf> for Shelf {
-    type State = (Sight, Config);
-
-    ghost state = { λ s. (s.glimpse.sight, s.version.config) };
-
-    ghost applied = { λ before next. (next.glimpse.sight, next.version.config) };
-
-    fn absorb_first(&mut self, next: &Shelf, _other: &Shelf) -> Result<(), AllocError> {
-        match next.again() {
-            Ok(next) => {
-                *self = next;
-                Ok(())
-            }
-            Err(_) => Err(AllocError),
-        }
-    }
-
-    fn absorb_second(&mut self, next: Shelf, _other: &Shelf) -> Result<(), Shelf> {
-        *self = next;
-        Ok(())
     }
 }

@@ -13,7 +13,7 @@ use Rattle.kv_log.specs.Shelves.{Shelved}
 
 -- the acts that a shelf's version stands for
 abbrev pub acts_on : Shelved → List Act
-acts_on shelf = shelf.glimpse.sight.log
+acts_on shelf = shelf.glimpse.acts
 
 -- the cursor of a feed is in reach for the version of its opening and the one that it went on to, under this
 -- configuration; its reader has seen what it went on to

@@ -11,7 +11,7 @@ use Rattle.kv_live.proofs.knowledge.copy_for.Goals.{in-Some+else-lags_behind, in
 
 pub returns-clause-ahead : goal.returns-clause-ahead
 returns-clause-ahead c =
-    let acts = c.args.shelf.now.glimpse.sight.log in
+    let acts = c.args.shelf.now.glimpse.acts in
     let follower : Option (Shelved × Following) = option_map (λ f. (f.0.now, f.1.now)) c.args.follower in
     let near : TellsLagOf follower (floor_of acts) false = elim c.match-follower.branch [
       | in-Some+else-lags_behind w ↦
@@ -24,7 +24,7 @@ returns-clause-ahead c =
 
 pub returns-then-lags_behind : goal.returns-then-lags_behind
 returns-then-lags_behind c =
-    let acts = c.args.shelf.now.glimpse.sight.log in
+    let acts = c.args.shelf.now.glimpse.acts in
     let follower : Option (Shelved × Following) = option_map (λ f. (f.0.now, f.1.now)) c.args.follower in
     let some : follower ≡ Some (c.in-Some.current.now, c.in-Some.cursor.now) = ap (option_map (λ f. (f.0.now, f.1.now))) c.in-Some.is in
     let same : c.floor-floor.result ≡ floor_of acts = c.floor-floor.ensures.acts acts (subst (StandsFor acts) (sym c.version.ensures.value) c.version.ensures.stands) in

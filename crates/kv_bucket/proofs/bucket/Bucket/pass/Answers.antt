@@ -1,18 +1,22 @@
-use Rattle.std.proofs.Common.{◌≡◌, Some, None, sym, ap, ◌∙◌}
+use Rattle.std.proofs.Common.{◌≡◌, Some, None, sym, ap, ◌∙◌, subst}
 use Rattle.std.specs.List.{position, slice_get}
 use Rattle.std.proofs.lemmas.Option.{get_or_from_slice_get}
-use Rattle.kv_bucket.specs.Held.{Holding, Bucketed, has_number}
+use Rattle.kv_bucket.specs.Held.{Holding, Bucketed, Represents, has_number}
+use Rattle.kv_model.specs.State.{answer_to}
+use Rattle.kv_model.specs.further.Events.{event_answered}
+use Rattle.kv_model.specs.declared.call.Call.TheVariants.{Take}
 use Rattle.kv_bucket.proofs.Answering.{pass_none, passed}
 use Rattle.kv_model.proofs.Finds.{found_there}
 use Rattle.kv_bucket.proofs.bucket.Bucket.pass.Goals as goal
 
 pub returns-in_default : goal.returns-in_default
-returns-in_default c = rw (← c.self.view_is) (λ state r e.
+returns-in_default c = rw (← c.self.view_is) (λ state r.
     let none : position (has_number c.args.number) c.self.inside.watches.items ≡ None = sym (rw c.deref.ensures.value at c.in_default.ensures) in
     pass_none state _ c.args.number none r)
 
 pub returns-in-Some : goal.returns-in-Some
-returns-in-Some c = rw (← c.self.view_is) (λ state r e.
+returns-in-Some c = rw (← c.self.view_is) (λ state r.
+    let e : c.args.peeked ≡ event_answered (answer_to state (Take c.args.number)) = c.requires.next state (subst (Represents state) c.self.view_is r) in
     let watches = c.self.inside.watches.items in
     let place = c.in-Some.place in
     let now : Bucketed = record { version = c.self.inside.version; watches = watches; opened = c.self.inside.opened } in

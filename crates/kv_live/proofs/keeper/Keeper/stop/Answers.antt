@@ -1,4 +1,3 @@
-use Rattle.std.proofs.Common.{ap}
 use Rattle.kv_keys.specs.declared.error.KvError.TheVariants.{NoSuchWatch}
 use Rattle.kv_model.specs.declared.stopped.Stopped.{Stopped}
 use Rattle.kv_model.specs.declared.call.Call.TheVariants as calls
@@ -18,9 +17,6 @@ returns-clause-ok g c = quiet_ok (calls.Stop c.args.number) (λ (stopped : Stopp
 
 pub returns-clause-refused : goal.returns-clause-refused
 returns-clause-refused g c = quiet_refused (calls.Stop c.args.number) c.args.self.now c.self.inside.bucket c.stop.new.self c.self.inside.publisher NoSuchWatch c.stop.result c.self.view_is (quiet_stop c.args.number) c.stop.ensures.refused
-
-pub returns-clause-open : goal.returns-clause-open
-returns-clause-open g c = ap (λ (k : Kept). k.is_open) c.self.view_is
 
 pub returns-clause-unchanged : goal.returns-clause-unchanged
 returns-clause-unchanged g c = quiet_unchanged c.args.self.now c.self.inside.bucket c.stop.new.self c.self.inside.publisher c.stop.result c.self.view_is c.stop.ensures.unchanged

@@ -1,4 +1,4 @@
-use Rattle.std.proofs.Common.{refl, ap}
+use Rattle.std.proofs.Common.{refl}
 use Rattle.kv_keys.specs.declared.error.KvError.TheVariants.{NoSuchWatch}
 use Rattle.kv_watch.specs.declared.taken.Taken.{Taken}
 use Rattle.kv_watch.specs.Taking.{item_taken}
@@ -21,7 +21,7 @@ returns g c =
     let answer = λ (taken : Taken). answer_item (item_taken taken) in
     let was = c.self.inside in
     let left = c.take.follows.lender-at-none in (
-      (refl, λ _. tt, (ap (λ (k : Kept). k.is_open) c.self.view_is, quiet_taken call answer c.args.self.now was.bucket left was.publisher c.take.result c.self.view_is (quiet_take c.args.number) c.take.follows.holds-at-none)),
+      (refl, λ _. tt, (quiet_taken call answer c.args.self.now was.bucket left was.publisher c.take.result c.self.view_is (quiet_take c.args.number) c.take.follows.holds-at-none)),
       record {
         after = tt;
         ok = answers_ok call answer c.args.self.now was.bucket was.publisher c.take.result c.self.view_is c.take.ensures.ok;
