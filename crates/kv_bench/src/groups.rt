@@ -4,7 +4,7 @@ use crate::round::Task;
 use crate::{beside, live_rounds, map_rounds};
 use kv_gauge::fault::Fault;
 use kv_gauge::plan::Plan;
-use kv_gauge::{calls, compacting, memory};
+use kv_gauge::{calls, colliding, compacting, memory};
 use std::alloc::Global;
 use std::rt::{Clock, Files};
 use std::sync::Wait;
@@ -18,6 +18,8 @@ pub enum Group {
     Calls(calls::Part),
     /// Compactions.
     Compact,
+    /// Gets and puts among keys of one place.
+    Collide,
     /// Puts, gets and copies beside maps under a lock.
     Beside(beside::Part),
     /// Memory for each key or write.
@@ -35,6 +37,7 @@ pub fn of_word(word: &str) -> Option<Group> {
         "calls-reads" => Some(Group::Calls(calls::Part::Reads)),
         "calls-writes" => Some(Group::Calls(calls::Part::Writes)),
         "compact" => Some(Group::Compact),
+        "collide" => Some(Group::Collide),
         "beside-reads" => Some(Group::Beside(beside::Part::Live(beside::Asked::Reads))),
         "beside-writes" => Some(Group::Beside(beside::Part::Live(beside::Asked::Writes))),
         "beside-maps" => Some(Group::Beside(beside::Part::Maps)),
@@ -90,6 +93,7 @@ fn all<R: Clock + CpuClock + Print + Wait + Threads + Sync + Files + AllocGlobal
 ) -> Result<(), Fault> {
     all_calls(rt, alloc, plan)?;
     compacting::run(rt, alloc, plan)?;
+    colliding::run(rt, alloc, plan)?;
     all_beside(rt, alloc, plan)?;
     rounds(rt, alloc, plan, Task::Read)?;
     rounds(rt, alloc, plan, Task::Follow)?;
@@ -107,6 +111,7 @@ pub fn run<R: Clock + CpuClock + Print + Wait + Threads + Sync + Files + AllocGl
     match group {
         Group::Calls(part) => calls::run(rt, alloc, plan, part),
         Group::Compact => compacting::run(rt, alloc, plan),
+        Group::Collide => colliding::run(rt, alloc, plan),
         Group::Beside(part) => beside::run(rt, alloc, plan, part),
         Group::Memory(what) => memory::run(rt, alloc, plan, what),
         Group::Threads(task) => rounds(rt, alloc, plan, task),

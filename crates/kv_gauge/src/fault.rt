@@ -22,6 +22,8 @@ pub enum Answer {
     Items,
     #[error("what a copy has")]
     Copy,
+    #[error("the places of keys")]
+    Place,
 }
 
 /// Why a measurement gave no figure.

@@ -4,6 +4,7 @@
 
 pub mod calls;
 pub mod clock;
+pub mod colliding;
 pub mod compacting;
 pub mod fault;
 pub mod keys;

@@ -2,6 +2,7 @@ pub mod Feeds
 pub mod Follow
 pub mod Keeping
 pub mod Going
+pub mod Histories
 pub mod Once
 pub mod Owing
 pub mod Sent

@@ -1,4 +1,5 @@
 pub mod Feeding
+pub mod Histories
 pub mod Keeping
 pub mod Known
 pub mod Owed

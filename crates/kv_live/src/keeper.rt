@@ -15,6 +15,7 @@ ghost use Rattle.kv_bucket.specs.Stepping.{IsStep};
 ghost use Rattle.kv_model.specs.declared.call.Call.{Call as ACall};
 ghost use Rattle.kv_model.specs.declared.call.Call.TheVariants.{Write, Seal, Watch, Take, Stop, Compact};
 ghost use Rattle.kv_model.specs.Answers.{Answer, Revision, Sealed, Watching, Ended, Compacted, Refused, answer_item};
+ghost use Rattle.kv_live.specs.Histories.{IsPublishedHistory};
 ghost use Rattle.kv_live.specs.Keeping.{IsAt, IsSomewhere, IsKeptStep, PublishesWrite};
 ghost use Rattle.kv_model.specs.State.{State, answer_to, may_compact, next_number};
 
@@ -32,7 +33,9 @@ use std::marker::Model;
 use std::sync::Wait;
 
 /// The bucket of the opening N, and what publishes its acts. Contracts see the bucket and the acts that are published,
-/// which are always at one state of the model. It is not `Drop`: `Live::close` ends it.
+/// which are always at one state of the model. What is published is one history: all that readers and feeds of N have
+/// seen, and all that receipts and marks of N tell, are beginnings of it (`is_seen_by`, `is_followed_by`, `is_told_by`).
+/// It is not `Drop`: `Live::close` ends it.
 pub struct Keeper<N: LiveName> {
     pub(crate) bucket: Bucket,
     pub(crate) publisher: Publisher<N>,
@@ -76,8 +79,10 @@ impl<N: LiveName> Keeper<N> {
     pub(crate) fn is_somewhere(&self)
         ensures state { IsSomewhere N.opening.config self.now }
         ensures lawful { IsLawful N.opening.config self.now.published }
+        ensures history { IsPublishedHistory N.opening.config self.now.published }
     {
         self.bucket();
+        self.publisher.history();
     }
 
     /// The bucket.

@@ -8,6 +8,7 @@ ghost use Rattle.kv_model.specs.Acceptance.{IsLawful};
 ghost use Rattle.kv_model.specs.Acts.{Act};
 ghost use Rattle.kv_model.specs.Requests.{asked};
 ghost use Rattle.kv_live.specs.Known.{IsUnread};
+ghost use Rattle.kv_live.specs.Histories.{IsPublishedHistory};
 ghost use Rattle.kv_live.specs.Keeping.{IsSomewhere, PublishesWrite, WritesSomewhere, RefusedSomewhere, CompactsSomewhere, UncompactedSomewhere, may_open};
 
 use crate::keeper::Keeper;
@@ -201,10 +202,11 @@ fn compact_on<N: LiveName, R: Wait>(
 }
 
 impl<N: LiveName> Live<N> {
-    /// The keeper, for several calls in a row, at a state of the model, whose acts are those that are published. It waits
-    /// until the lock is free.
+    /// The keeper, for several calls in a row, at a state of the model, whose acts are those that are published: one
+    /// history, of which all that anybody has seen or was told is a beginning. It waits until the lock is free.
     pub fn lock<R: Wait>(&self, rt: &R) -> MutexGuard<'_, Keeper<N>>
         ensures state { IsSomewhere N.opening.config (mutex_guard_value result) }
+        ensures history { IsPublishedHistory N.opening.config (mutex_guard_value result).published }
     {
         let keeper = self.keeper.lock(rt);
         keeper.is_somewhere();

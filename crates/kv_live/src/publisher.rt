@@ -5,6 +5,7 @@ ghost use Rattle.kv_keys.specs.declared.error.KvError.TheVariants.{OutOfMemory};
 ghost use Rattle.kv_model.specs.Acts.{IsPrefix};
 ghost use Rattle.kv_store.specs.Standing.{StandsFor};
 ghost use Rattle.kv_live.specs.Known.{IsUnread};
+ghost use Rattle.kv_live.specs.Histories.{IsPublishedHistory};
 ghost use Rattle.kv_live.specs.Receipts.{EndsAt};
 ghost use Rattle.kv_log.specs.Shelves.{IsOf};
 
@@ -18,8 +19,21 @@ use std::marker::Model;
 use std::mem;
 use std::sync::Wait;
 
-// No bucket comes near so many acts.
+// As many acts as are counted. A bucket that does a thousand million acts a second comes to that in 73 years.
 const MOST_ACTS: u64 = 1 << 61;
+
+// Waits for room for one act more. There always is; where there were none, this would wait for ever, as a call that waits
+// may: no refusal stands for it.
+fn await_room<N: LiveName, R: Wait>(rt: &R, whole: &Whole<N>)
+    ensures { length whole.now < 2 ^ 61 }
+{
+    for _ in rt.forever() {
+        if whole.len() < MOST_ACTS {
+            return;
+        }
+    }
+    unreachable!()
+}
 
 /// Publishes the acts of the opening N. Contracts see it as the acts that are published, which are all that the history
 /// has. It is not `Drop`: end it by `close`.
@@ -39,13 +53,14 @@ impl<N: LiveName> Model for Publisher<N> {
     ghost use Rattle.std.specs.Prelude.{◌≡◌, [], List, IfSome, IsSome};
     ghost use Rattle.kv_model.specs.Acts.{Act};
     ghost use Rattle.kv_log.specs.Shelves.{IsOf};
+    ghost use Rattle.kv_live.specs.Histories.{IsPublishedHistory};
 
     ghost Value = { List Act };
 
     ghost view = { λ p. p.whole };
 
     ghost invariant = { λ p. IsSome p.copies × IfSome p.copies (λ c. c ≡ p.whole) × IsOf N.opening p.empty ×
-        (p.empty.glimpse.acts ≡ []) };
+        (p.empty.glimpse.acts ≡ []) × IsPublishedHistory N.opening.config p.whole };
 }
 
 // What a publisher begins with besides its copies: its bell, the empty shelf, its history, of which nothing is
@@ -139,9 +154,7 @@ impl<N: LiveName> Publisher<N> {
         ensures unchanged { OnErr result (self.new ≡ self.old) }
     {
         let version = next.snapshot()?;
-        if self.whole.len() >= MOST_ACTS {
-            return Err(KvError::OutOfMemory);
-        }
+        await_room(rt, &self.whole);
         let Some(copies) = self.copies.take() else {
             unreachable!()
         };
@@ -149,6 +162,13 @@ impl<N: LiveName> Publisher<N> {
         put(rt, &mut self.copies, Some(copies));
         self.bell.ring();
         Ok(())
+    }
+
+    // It does nothing: who calls it knows that what is published is a published history.
+    pub fn history(&self)
+        ensures { IsPublishedHistory N.opening.config self.now }
+    {
+        self.whole.len();
     }
 
     /// Whether all that is published was seen. What was seen is always a beginning of that.

@@ -3,6 +3,7 @@
 ghost use Rattle.std.specs.Prelude.{◌≡◌, ◌<◌, ◌^◌, ◌++◌, ◌∷◌, [], IfSome, IfErr, MatchResult, drop};
 ghost use Rattle.kv_keys.specs.declared.error.KvError.TheVariants.{OutOfMemory, NoReader};
 ghost use Rattle.kv_log.specs.Shelves.{IsOf};
+ghost use Rattle.kv_log.specs.inside.Waiting.{waiting};
 
 use crate::history::LiveName;
 use crate::rule::{Published, Shows};
@@ -51,28 +52,24 @@ fn writer_on<N: LiveName>(
     Ok(Writer::new(alloc, first, second, readers)?)
 }
 
-// Appends a shelf to what is pending, however often that is refused. It never is: there is room for what is pending
-// since the beginning.
-fn append<N: LiveName, R: Wait>(
-    rt: &R,
-    writer: Writer<Side, Shelf, (), Published<N>>,
-    shelf: Shelf,
-) -> Writer<Side, Shelf, (), Published<N>>
-    ensures shown { result.desk.shown.value ≡ writer.desk.shown.value }
-    ensures pending { drop result.behind result.log.items ≡ drop writer.behind writer.log.items ++ shelf ∷ [] }
+// Appends a shelf, if there is one, to what is pending. It answers the shelf where that is refused.
+fn append<N: LiveName>(
+    writer: &mut Writer<Side, Shelf, (), Published<N>>,
+    shelf: Option<Shelf>,
+) -> Option<Shelf>
+    ensures shown { writer.new.desk.shown.value ≡ writer.old.desk.shown.value }
+    ensures pending { drop writer.new.behind writer.new.log.items ++ waiting result
+        ≡ drop writer.old.behind writer.old.log.items ++ waiting shelf }
 {
-    let mut writer = writer;
-    let mut shelf = shelf;
-    for _ in rt.forever() {
-        match writer.append(shelf) {
-            Ok(()) => return writer,
-            Err(refused) => shelf = refused,
-        }
+    match shelf {
+        Some(shelf) => writer.append(shelf).err(),
+        None => None,
     }
-    unreachable!()
 }
 
-// Shows what is pending, however often that is refused. It never is: no version is shared as often as can be counted.
+// Shows a shelf, however often that is refused. It never is: what is pending has its room since the beginning, and no
+// version is shared as often as can be counted. But no clause of the store says so, and behind the history's entry there
+// is no way back: what the history has has to be shown. So this is tried until it is done, as a call that waits may.
 fn show<N: LiveName, R: Wait>(
     rt: &R,
     writer: Writer<Side, Shelf, (), Published<N>>,
@@ -81,8 +78,13 @@ fn show<N: LiveName, R: Wait>(
     requires { IsOf N.opening shelf }
     ensures { result ≡ shelf.glimpse.acts }
 {
-    let mut writer = append(rt, writer, shelf);
+    let mut writer = writer;
+    let mut offered = Some(shelf);
     for _ in rt.forever() {
+        offered = append(&mut writer, offered);
+        if offered.is_some() {
+            continue;
+        }
         let (left, shown) = writer.publish_as::<Shows, R>(rt);
         if shown.is_ok() {
             return Copies::of(left);
