@@ -3,53 +3,73 @@
 ghost use Rattle.std.specs.Prelude.{◌≡◌};
 
 use std::alloc::{AllocError, AllocFailed};
-use std::error::Error;
-use std::fmt;
+use thiserror::Error;
 
 /// Why a call was refused. Its text is its name.
-#[derive(Clone, Copy, Debug, PartialEq, Eq)]
+#[derive(Clone, Copy, Debug, PartialEq, Eq, Error)]
 pub enum KvError {
     /// A request for memory, or a thread of a race, was refused.
+    #[error("OutOfMemory")]
     OutOfMemory,
     /// A bucket's name is not 1 to 64 letters, digits, `_` and `-`.
+    #[error("BadBucket")]
     BadBucket,
     /// A number of the configuration is outside its limits.
+    #[error("BadConfig")]
     BadConfig,
     /// A text is no key.
+    #[error("BadKey")]
     BadKey,
     /// A text is no filter.
+    #[error("BadFilter")]
     BadFilter,
     /// Two of history, updates and a start from a revision were asked for.
+    #[error("OptionsClash")]
     OptionsClash,
     /// The value has more bytes than the bucket allows.
+    #[error("ValueTooLarge")]
     ValueTooLarge,
     /// The bucket is sealed.
+    #[error("Sealed")]
     Sealed,
     /// The bucket stores as many writes as it may, or its revisions are used up.
+    #[error("JournalFull")]
     JournalFull,
     /// The latest entry of the key to be created is a put.
+    #[error("KeyExists")]
     KeyExists,
     /// The last revision of the key is `last`, and not the one that the write asks for.
+    #[error("WrongLastRevision")]
     WrongLastRevision { last: u64 },
     /// There is no such entry.
+    #[error("KeyNotFound")]
     KeyNotFound,
     /// The number was never given, or its watch was stopped.
+    #[error("NoSuchWatch")]
     NoSuchWatch,
     /// 64 watches are open, or all numbers were given.
+    #[error("TooManyWatches")]
     TooManyWatches,
     /// The number of readers is not 1 to 32, or the reader store lets no reader in.
+    #[error("NoReader")]
     NoReader,
     /// A line of a script is no command.
+    #[error("BadCommand")]
     BadCommand,
     /// The reader failed, or gave no end within its bound of calls.
+    #[error("ReadFault")]
     ReadFault,
     /// The writer failed, or took no byte.
+    #[error("WriteFault")]
     WriteFault,
     /// No compaction can go to this floor.
+    #[error("BadFloor")]
     BadFloor,
     /// The watch still owes an entry at or below the floor.
+    #[error("WatchBehind")]
     WatchBehind { watch: u64 },
     /// The feed still owes an entry at or below the floor.
+    #[error("Lagged")]
     Lagged { floor: u64 },
 }
 
@@ -114,14 +134,6 @@ impl KvError {
         }
     }
 }
-
-impl fmt::Display for KvError {
-    fn fmt<W: fmt::Write>(&self, f: &mut fmt::Formatter<W>) -> fmt::Result {
-        f.write_str(self.name())
-    }
-}
-
-impl Error for KvError {}
 
 impl From<AllocError> for KvError {
     ghost use Rattle.std.specs.Prelude.{◌≡◌};
