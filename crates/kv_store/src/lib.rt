@@ -22,6 +22,7 @@ mod wanted;
 mod writing;
 
 pub use kept::Kept;
+pub use kv_model::{Config, Op, Request, Status, Write};
 pub use rev::Rev;
 pub use version::Version;
 pub use wanted::Wanted;

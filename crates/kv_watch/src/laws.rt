@@ -8,6 +8,8 @@ ghost use Rattle.kv_watch.specs.Following.{Following, InPlace, InReach};
 ghost use Rattle.kv_model.specs.Given.{is_behind};
 ghost use Rattle.kv_model.specs.declared.options.Options.{Options};
 
+pub use kv_model::laws::watches::{given_goes_on, one_kept_is_latest, revisions_rise};
+
 /// A cursor that is in place stays so for each later version of the bucket, with nothing done to it.
 pub fn in_place_later()
     ensures { (n : ℕ) (began acts later : List Act) (base now newer : Stored) (cursor : Following) →

@@ -11,5 +11,6 @@ mod taken;
 
 pub use audit::given;
 pub use cursor::Cursor;
+pub use kv_model::{Event, Options, Start};
 pub use shown::Shown;
 pub use taken::Taken;
