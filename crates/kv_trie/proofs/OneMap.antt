@@ -69,13 +69,13 @@ AllZip-weaker Q R f (x ∷ xs) (y ∷ ys) h = (f x y h.0, AllZip-weaker Q R f xs
 
 module _ {K V : Type 0} {cmp : K → K → Ordering} (total : IsTotalOrder cmp) (place : K → ℕ) (respects : (a b : K) → cmp a b ≡ Equal → place a ≡ place b) where
   -- entries that ascend in the trie's own order, with the same value at each key, are alike at each place
-  pub same_entries_in_order : (xs ys : List (K × V)) → Ascends (order cmp place 8) xs → Ascends (order cmp place 8) ys → ((q : K) → lookup (is_at (cmp q)) xs ≡ lookup (is_at (cmp q)) ys) → AllZip (HaveOneEntry cmp) xs ys
+  pub same_entries_in_order : (xs ys : List (K × V)) → Ascends (order cmp place 7) xs → Ascends (order cmp place 7) ys → ((q : K) → lookup (is_at (cmp q)) xs ≡ lookup (is_at (cmp q)) ys) → AllZip (HaveOneEntry cmp) xs ys
   same_entries_in_order xs ys a b h =
-      AllZip-weaker (HaveOneEntry (order cmp place 8)) (HaveOneEntry cmp) (λ x y e. (order_tied cmp place 8 x.0 y.0 e.0, e.1)) xs ys
-      (same_entries (order_total total place 8) xs ys a b (λ q. found_in_order total place respects 8 q q xs ∙ h q ∙ sym (found_in_order total place respects 8 q q ys)))
+      AllZip-weaker (HaveOneEntry (order cmp place 7)) (HaveOneEntry cmp) (λ x y e. (order_tied cmp place 7 x.0 y.0 e.0, e.1)) xs ys
+      (same_entries (order_total total place 7) xs ys a b (λ q. found_in_order total place respects 7 q q xs ∙ h q ∙ sym (found_in_order total place respects 7 q q ys)))
 
   -- where a key is tied with itself alone, they are one list
-  pub one_list : ((a b : K) → cmp a b ≡ Equal → a ≡ b) → (xs ys : List (K × V)) → Ascends (order cmp place 8) xs → Ascends (order cmp place 8) ys → ((q : K) → lookup (is_at (cmp q)) xs ≡ lookup (is_at (cmp q)) ys) → xs ≡ ys
+  pub one_list : ((a b : K) → cmp a b ≡ Equal → a ≡ b) → (xs ys : List (K × V)) → Ascends (order cmp place 7) xs → Ascends (order cmp place 7) ys → ((q : K) → lookup (is_at (cmp q)) xs ≡ lookup (is_at (cmp q)) ys) → xs ≡ ys
   one_list strict xs ys a b h =
       sym (same_from_all_zip (HaveOneEntry cmp) xs ys (same_entries_in_order xs ys a b h) (λ x y e. sym (pair_same x y (strict x.0 y.0 e.0) e.1)))
     where

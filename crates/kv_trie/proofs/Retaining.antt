@@ -247,15 +247,15 @@ module _ {K V : Type 0} (cmp : K → K → Ordering) (place : K → ℕ) (keep :
         count = refl;
       }
 
-  pub partly_all : (left i before gone : ℕ) (all slots : Slots (K × V)) → 16 ≤ i → IsPartly left i before gone all slots → pairs_in slots ≡ filter keep (pairs_in all)
+  pub partly_all : (left i before gone : ℕ) (all slots : Slots (K × V)) → 32 ≤ i → IsPartly left i before gone all slots → pairs_in slots ≡ filter keep (pairs_in all)
   partly_all left i before gone all slots l p =
       p.kept ∙ filter_agree (below left i) keep (λ x. below_all (key_index place left x.0) i (keep x) (omega (arith, index_below left (place x.0)))) (pairs_in all)
 
-  pub partly_count : (left i before gone : ℕ) (all slots : Slots (K × V)) → 16 ≤ i → IsPartly left i before gone all slots → gone + length (filter keep (pairs_in all)) ≡ before + length (pairs_in all)
+  pub partly_count : (left i before gone : ℕ) (all slots : Slots (K × V)) → 32 ≤ i → IsPartly left i before gone all slots → gone + length (filter keep (pairs_in all)) ≡ before + length (pairs_in all)
   partly_count left i before gone all slots l p = omega (arith, p.count, ap length (partly_all left i before gone all slots l p))
 
   -- what is left of a branch
-  pub branch_left : (left i before gone : ℕ) (all slots : Slots (K × V)) (new : Node K V) → 0 < left → 16 ≤ i → IsPartly (left - 1) i before gone all slots → shape_of new ≡ whole slots → IsRetained cmp place keep left (pairs_in all) (Some new)
+  pub branch_left : (left i before gone : ℕ) (all slots : Slots (K × V)) (new : Node K V) → 0 < left → 32 ≤ i → IsPartly (left - 1) i before gone all slots → shape_of new ≡ whole slots → IsRetained cmp place keep left (pairs_in all) (Some new)
   branch_left left i before gone all slots new n l p s =
       let f = whole_form cmp place (left - 1) slots p.forms in
       let up : suc (left - 1) ≡ left = omega arith in
@@ -274,7 +274,7 @@ module _ {K V : Type 0} (cmp : K → K → Ordering) (place : K → ℕ) (keep :
   all_left left pairs e = record { form = tt; kept = sym (filter_all keep pairs e) }
 
   -- nothing has changed
-  pub whole_left : (left i before gone : ℕ) (all : Slots (K × V)) → 16 ≤ i → IsPartly (left - 1) i before gone all all → IsRetained cmp place keep left (pairs_in all) None
+  pub whole_left : (left i before gone : ℕ) (all : Slots (K × V)) → 32 ≤ i → IsPartly (left - 1) i before gone all all → IsRetained cmp place keep left (pairs_in all) None
   whole_left left i before gone all l p = record { form = tt; kept = partly_all (left - 1) i before gone all all l p }
 
   -- one index more

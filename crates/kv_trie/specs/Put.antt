@@ -17,4 +17,4 @@ module _ {K V : Type 0} (cmp : K → K → Ordering) (place : K → ℕ) where
   -- the new map is the old one with this pair in the place of any with an equal key: its entries are those, and at each
   -- key it has what it had, but at the pair's key the pair's value
   abbrev pub IsMapWith : K × V → List (K × V) → List (K × V) → Type 0
-  IsMapWith pair old new = (new ≡ put_pair (order cmp place 8) pair old) × ((q : K) → lookup (is_at (cmp q)) new ≡ (if is_at (cmp pair.0) q then Some pair.1 else lookup (is_at (cmp q)) old))
+  IsMapWith pair old new = (new ≡ put_pair (order cmp place 7) pair old) × ((q : K) → lookup (is_at (cmp q)) new ≡ (if is_at (cmp pair.0) q then Some pair.1 else lookup (is_at (cmp q)) old))

@@ -26,7 +26,7 @@ impl<K: Drop, V: Drop> Clone for Node<K, V> {
 
 // Reads how many owners the children have, before they are copied. A copy adds one to each of these numbers, and such
 // additions wait for one another; reads don't, so numbers that lie in slow memory come at the same time.
-fn fetch_owners<K, V>(children: &[Node<K, V>; 16]) {
+fn fetch_owners<K, V>(children: &[Node<K, V>; 32]) {
     for child in children.iter() {
         let _owners = match child {
             Node::Empty => 0,
@@ -39,12 +39,12 @@ fn fetch_owners<K, V>(children: &[Node<K, V>; 16]) {
 
 // Has these children share what those have.
 fn share<K: Drop, V: Drop>(
-    children: &mut [Node<K, V>; 16],
-    others: &[Node<K, V>; 16],
+    children: &mut [Node<K, V>; 32],
+    others: &[Node<K, V>; 32],
 ) -> Result<(), AllocError>
     ensures { OnOk result (child_slots children.new ≡ child_slots others.now) }
 {
-    for at in 0..16 {
+    for at in 0..32 {
         children[at] = others[at].clone()?;
     }
     Ok(())
@@ -55,8 +55,8 @@ fn share<K: Drop, V: Drop>(
 #[inline(never)]
 fn copy<K: Drop, V: Drop>(
     alloc: Global,
-    branch: &Padded<[Node<K, V>; 16]>,
-) -> Result<Arc<Padded<[Node<K, V>; 16]>>, AllocError>
+    branch: &Padded<[Node<K, V>; 32]>,
+) -> Result<Arc<Padded<[Node<K, V>; 32]>>, AllocError>
     ensures { IfOk result (λ new. child_slots (arc_value new).value ≡ child_slots branch.now.value) }
 {
     fetch_owners(&branch.value);
@@ -69,7 +69,7 @@ fn copy<K: Drop, V: Drop>(
 // Puts a copy of a branch in its place where it has other owners, who keep theirs.
 pub fn unshare<K: Drop, V: Drop>(
     alloc: Global,
-    branch: &mut Arc<Padded<[Node<K, V>; 16]>>,
+    branch: &mut Arc<Padded<[Node<K, V>; 32]>>,
 ) -> Result<(), AllocError>
     ensures { child_slots (arc_value branch.new).value ≡ child_slots (arc_value branch.old).value }
 {

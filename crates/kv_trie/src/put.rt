@@ -23,8 +23,8 @@ use std::alloc::Global;
 use std::sync::Arc;
 
 // The children of a branch over one pair.
-fn alone<K: Drop, V: Drop>(pair: Arc<Pair<K, V>>, at: usize) -> [Node<K, V>; 16]
-    requires { at < 16 }
+fn alone<K: Drop, V: Drop>(pair: Arc<Pair<K, V>>, at: usize) -> [Node<K, V>; 32]
+    requires { at < 32 }
     ensures { child_slots result ≡ more at (leaf (arc_value pair)) none }
 {
     let mut children = no_children();
@@ -62,7 +62,7 @@ fn put_beside<K: Place + Drop, V: Drop, C: Companion>(
     pending: &mut Pending<K, V>,
     companion: &mut C,
 ) -> Result<Node<K, V>, KvError>
-    requires levels { left ≤ 8 }
+    requires levels { left ≤ 7 }
     requires place { place ≡ K.place_of pending.old.pair.0 }
     requires apart { K.cmp pending.old.pair.0 (arc_value old.now).0 ≡ Equal → ⊥ }
     requires there { pending.old.there ≡ true }
@@ -86,13 +86,13 @@ fn put_beside<K: Place + Drop, V: Drop, C: Companion>(
 #[cycle(put)]
 fn put_below<K: Place + Drop, V: Drop, C: Companion>(
     alloc: Global,
-    children: &mut [Node<K, V>; 16],
+    children: &mut [Node<K, V>; 32],
     left: u32,
     place: u32,
     pending: &mut Pending<K, V>,
     companion: &mut C,
 ) -> Result<bool, KvError>
-    requires levels { left ≤ 8 }
+    requires levels { left ≤ 7 }
     requires some { 0 < left }
     requires forms { AreForms K.cmp K.place_of (left - 1) 0 (child_slots children.old) }
     requires place { place ≡ K.place_of pending.old.pair.0 }
@@ -123,13 +123,13 @@ fn put_below<K: Place + Drop, V: Drop, C: Companion>(
 #[cycle(put)]
 fn put_in_branch<K: Place + Drop, V: Drop, C: Companion>(
     alloc: Global,
-    children: &mut Arc<Padded<[Node<K, V>; 16]>>,
+    children: &mut Arc<Padded<[Node<K, V>; 32]>>,
     left: u32,
     place: u32,
     pending: &mut Pending<K, V>,
     companion: &mut C,
 ) -> Result<bool, KvError>
-    requires levels { left ≤ 8 }
+    requires levels { left ≤ 7 }
     requires some { 0 < left }
     requires forms { AreForms K.cmp K.place_of (left - 1) 0 (child_slots (arc_value children.old).value) }
     requires place { place ≡ K.place_of pending.old.pair.0 }
@@ -161,7 +161,7 @@ pub fn put<K: Place + Drop, V: Drop, C: Companion>(
     pending: &mut Pending<K, V>,
     companion: &mut C,
 ) -> Result<bool, KvError>
-    requires levels { left ≤ 8 }
+    requires levels { left ≤ 7 }
     requires form { IsNode K.cmp K.place_of left (shape_of node.old) }
     requires place { place ≡ K.place_of pending.old.pair.0 }
     requires there { pending.old.there ≡ true }

@@ -104,12 +104,12 @@ fn retain_listed<K: Place + Drop, V: Drop, W: Wants<K, V>>(
 // The children of a branch as far as they have changed, with this one at the index. They are copied at the first
 // change.
 fn changed<K: Drop, V: Drop>(
-    rest: Option<[Node<K, V>; 16]>,
-    children: &[Node<K, V>; 16],
+    rest: Option<[Node<K, V>; 32]>,
+    children: &[Node<K, V>; 32],
     index: usize,
     child: Node<K, V>,
-) -> Result<[Node<K, V>; 16], AllocError>
-    requires { index < 16 }
+) -> Result<[Node<K, V>; 32], AllocError>
+    requires { index < 32 }
     ensures { IfOk result (λ new. map shape_of new
         ≡ slice_set (map shape_of (children_so_far rest children.now)) index (shape_of child)) }
 {
@@ -124,7 +124,7 @@ fn changed<K: Drop, V: Drop>(
 // The node of these children.
 fn node_of_children<K: Drop, V: Drop>(
     alloc: Global,
-    children: [Node<K, V>; 16],
+    children: [Node<K, V>; 32],
 ) -> Result<Node<K, V>, AllocError>
     ensures { IfOk result (λ node. shape_of node ≡ whole (child_slots children)) }
 {
@@ -139,12 +139,12 @@ fn node_of_children<K: Drop, V: Drop>(
 #[cycle(retain)]
 fn retain_below<K: Place + Drop, V: Drop, W: Wants<K, V>>(
     alloc: Global,
-    children: &[Node<K, V>; 16],
+    children: &[Node<K, V>; 32],
     left: u32,
     wants: &W,
     gone: &mut u64,
 ) -> Result<Option<Node<K, V>>, AllocError>
-    requires levels { left ≤ 8 }
+    requires levels { left ≤ 7 }
     requires some { 0 < left }
     requires forms { AreForms K.cmp K.place_of (left - 1) 0 (child_slots children.now) }
     requires count { gone.old + length (pairs_in (child_slots children.now)) < 2 ^ 64 }
@@ -155,7 +155,7 @@ fn retain_below<K: Place + Drop, V: Drop, W: Wants<K, V>>(
         (pairs_in (child_slots children.now))) }
 {
     let mut rest = None;
-    for index in 0..16 {
+    for index in 0..32 {
         match retain(alloc, &children[index], left - 1, wants, gone)? {
             Some(new) => rest = Some(changed(rest, children, index, new)?),
             None => {}
@@ -176,7 +176,7 @@ pub fn retain<K: Place + Drop, V: Drop, W: Wants<K, V>>(
     wants: &W,
     gone: &mut u64,
 ) -> Result<Option<Node<K, V>>, AllocError>
-    requires levels { left ≤ 8 }
+    requires levels { left ≤ 7 }
     requires form { IsNode K.cmp K.place_of left (shape_of node.now) }
     requires count { gone.old + length (node_pairs (shape_of node.now)) < 2 ^ 64 }
     ensures retained { IfOk result (IsRetained K.cmp K.place_of (is_wanted (W.wanted wants.now)) left
@@ -214,7 +214,7 @@ pub fn retain_at_root<K: Place + Drop, V: Drop, W: Wants<K, V>>(
     ensures count { OnOk result (gone.new + length (filter (is_wanted (W.wanted wants.now)) (root_pairs root.now))
         ≡ gone.old + length (root_pairs root.now)) }
 {
-    match retain(alloc, root, 8, wants, gone)? {
+    match retain(alloc, root, 7, wants, gone)? {
         Some(new) => Ok(new),
         None => root.clone(),
     }

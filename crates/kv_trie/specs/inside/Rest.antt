@@ -11,5 +11,5 @@ module _ {K V : Type 0} where
   -- this is what the children make
   abbrev pub IsRest : List (Node K V) → Rest → Type 0
   IsRest children Nothing = whole (child_slots children) ≡ None
-  IsRest children (Leaf at) = (at < 16) × (slice_get (map shape_of children) at ≡ Some (whole (child_slots children)))
+  IsRest children (Leaf at) = (at < 32) × (slice_get (map shape_of children) at ≡ Some (whole (child_slots children)))
   IsRest children Branch = whole (child_slots children) ≡ Some (branch (child_slots children))

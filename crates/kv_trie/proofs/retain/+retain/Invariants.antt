@@ -12,6 +12,6 @@ decreases-retain_below g l = 2 * l.left
 
 abbrev pub invariant-retain_below-loop-index : goal.invariant-retain_below-loop-index
 invariant-retain_below-loop-index g l =
-    (length (children_so_far l.rest l.children) ≡ 16)
+    (length (children_so_far l.rest l.children) ≡ 32)
     × IsPartly g.K.Ord.cmp g.K.Place.place_of (is_wanted (g.W.Wants.wanted l.wants)) (l.left - 1) l.index l.initial.gone l.gone
     (child_slots l.children) (child_slots (children_so_far l.rest l.children))

@@ -28,5 +28,5 @@ invariant_of-self-2 g c =
 
 pub returns-clause-map : goal.returns-clause-map
 returns-clause-map g c = λ q.
-    let ascends = subst (Ascends (order g.K.Ord.cmp g.K.Place.place_of 8)) c.self.view_is (Ascends-node g.K.Ord.cmp g.K.Place.place_of 8 (shape_of c.self.inside.root) c.self.invariant.1) in
-    rw (left g c) (lookup-remove g.met.K.Ord.total g.K.Place.place_of g.met.K.Place.respects_equal 8 c.args.key.now q c.args.self.now ascends)
+    let ascends = subst (Ascends (order g.K.Ord.cmp g.K.Place.place_of 7)) c.self.view_is (Ascends-node g.K.Ord.cmp g.K.Place.place_of 7 (shape_of c.self.inside.root) c.self.invariant.1) in
+    rw (left g c) (lookup-remove g.met.K.Ord.total g.K.Place.place_of g.met.K.Place.respects_equal 7 c.args.key.now q c.args.self.now ascends)
