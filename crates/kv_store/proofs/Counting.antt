@@ -58,11 +58,11 @@ revision_found q (w ∷ ws) = ap (λ b. b || is_member eqb (revisions ws) q) (fl
     by_test false rest = rest
 
 -- entries in which each of these writes is found by its revision, and nothing else, are as many
-pub length_found : (p : Write → Bool) (ws : List Write) (es : List (ℕ × Write)) → CountsFrom 1 ws → Ascends (order nat_cmp place_of_revision 8) es → ((r : ℕ) → lookup (λ n. r == n) es ≡ find (λ w. w.revision == r) (filter p ws)) → length es ≡ length (filter p ws)
+pub length_found : (p : Write → Bool) (ws : List Write) (es : List (ℕ × Write)) → CountsFrom 1 ws → Ascends (order nat_cmp place_of_revision 7) es → ((r : ℕ) → lookup (λ n. r == n) es ≡ find (λ w. w.revision == r) (filter p ws)) → length es ≡ length (filter p ws)
 length_found p ws es counts ascends found =
     let left : length (keys_of es) ≡ length es = length-map es (λ e. e.0) in
     let right : length (revisions (filter p ws)) ≡ length (filter p ws) = length-map (filter p ws) (λ w. w.revision) in
     sym left
-    ∙ length-from_same_keys nat_eq_equiv (keys_of es) (revisions (filter p ws)) (distinct_numbers place_of_revision 8 es ascends) (distinct_rising (revisions (filter p ws)) (increasing_counted p ws counts))
+    ∙ length-from_same_keys nat_eq_equiv (keys_of es) (revisions (filter p ws)) (distinct_numbers place_of_revision 7 es ascends) (distinct_rising (revisions (filter p ws)) (increasing_counted p ws counts))
     (λ q. member_found q es ∙ ap is_some (found q) ∙ sym (revision_found q (filter p ws)))
     ∙ right

@@ -82,7 +82,7 @@ of_entries wants start ks asked [] = refl
 of_entries wants start ks asked (e ∷ es) = rw (asked e.0, of_entries wants start ks asked es) refl
 
 -- the entries of the key trie have what is looked up of the keys that are asked for
-pub looked_up_all : (wants : List ℕ → Bool) (start : Start) (ks : List (List ℕ)) (place : List ℕ → ℕ) (es : List (List ℕ × Kept)) → AreAsked wants ks → Ascends (order (slice_cmp nat_cmp) place 8) es → IsPermutation (flat_map (initial_of wants start) es) (flat_map (initial_at start es) ks)
+pub looked_up_all : (wants : List ℕ → Bool) (start : Start) (ks : List (List ℕ)) (place : List ℕ → ℕ) (es : List (List ℕ × Kept)) → AreAsked wants ks → Ascends (order (slice_cmp nat_cmp) place 7) es → IsPermutation (flat_map (initial_of wants start) es) (flat_map (initial_at start es) ks)
 looked_up_all wants start ks place es asked ascends =
     subst (λ l. IsPermutation l (flat_map (initial_at start es) ks)) (sym (of_entries wants start ks asked.each es))
     (by_keys (initial_revisions start) (initial_none start) ks (kept_entries es) asked.once (distinct_kept place es ascends))

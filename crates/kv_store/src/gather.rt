@@ -121,7 +121,7 @@ fn found_of<W: Wanted>(
     wanted: &W,
     start: Start,
 ) -> Result<Vec<u64>, KvError>
-    requires { Ascends (order (slice_cmp nat_cmp) fnv32_of 8) by_key.now }
+    requires { Ascends (order (slice_cmp nat_cmp) fnv32_of 7) by_key.now }
     ensures same { IfOk result
         (λ found. IsPermutation (flat_map (initial_of (W.wants_key wanted.now) start) by_key.now) found.items) }
     ensures err { IfErr result (λ error. error ≡ OutOfMemory) }
@@ -139,7 +139,7 @@ fn selected_revisions_of<W: Wanted>(
     wanted: &W,
     start: Start,
 ) -> Result<Vec<u64>, KvError>
-    ensures keys { Ascends (order (slice_cmp nat_cmp) fnv32_of 8) by_key.now }
+    ensures keys { Ascends (order (slice_cmp nat_cmp) fnv32_of 7) by_key.now }
     ensures same { IfOk result
         (λ found. IsPermutation (flat_map (initial_of (W.wants_key wanted.now) start) by_key.now) found.items) }
     ensures sorted { IfOk result (λ found. IsSorted nat_cmp found.items) }

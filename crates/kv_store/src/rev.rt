@@ -7,9 +7,10 @@ use kv_keys::Place;
 use std::cmp::Ordering;
 use std::marker::Model;
 
-/// A revision as a key of a trie. Its place is its number with the five lowest of its digits of four bits turned, the
+/// A revision as a key of a trie. Its place is its number with the five lowest of its digits of five bits turned, the
 /// highest of them first: so writes that follow one another stand side by side, and who walks the trie meets them in the
-/// order in which their memory was taken. A bucket stores a million writes at most, so the digits above part few.
+/// order in which their memory was taken. A bucket stores a million writes at most, so the digits above part few. No two
+/// revisions share a place.
 ///
 /// Contracts see it as its number.
 #[derive(Debug, Drop)]
@@ -93,24 +94,24 @@ impl Ord for Rev {
     }
 }
 
-// A digit of four bits, where the digits below it count to this number.
+// A digit of five bits, where the digits below it count to this number.
 fn digit(number: u32, below: u32) -> u32
     requires { 0 < below }
-    ensures value { result ≡ number / below % 16 }
-    ensures small { result < 16 }
+    ensures value { result ≡ number / below % 32 }
+    ensures small { result < 32 }
 {
-    number / below % 16
+    number / below % 32
 }
 
 #[tactic(auto, unfolding(crate::specs::Places::place_of_revision))]
 fn place_of(number: u32) -> u32
     ensures { result ≡ place_of_revision number }
 {
-    digit(number, 1) * 65_536
-        + (digit(number, 16) * 4_096
-            + (digit(number, 256) * 256
-                + (digit(number, 4_096) * 16
-                    + (digit(number, 65_536) + number / 1_048_576 * 1_048_576))))
+    digit(number, 1) * 1_048_576
+        + (digit(number, 32) * 32_768
+            + (digit(number, 1_024) * 1_024
+                + (digit(number, 32_768) * 32
+                    + (digit(number, 1_048_576) + number / 33_554_432 * 33_554_432))))
 }
 
 impl Place for Rev {

@@ -37,7 +37,7 @@ returns-clause-len c =
       length-kept_entries c.put_both.new.first,
       length-kept_entries c.args.parts.now.by_key,
       ap length c.in_ok-put_both.ensures.both.0.0,
-      length-put_pair (order (slice_cmp nat_cmp) fnv32_of 8) (c.args.key, c.new-kept.result) c.args.parts.now.by_key,
+      length-put_pair (order (slice_cmp nat_cmp) fnv32_of 7) (c.args.key, c.new-kept.result) c.args.parts.now.by_key,
     )
 
 pub returns-clause-put : goal.returns-clause-put
@@ -49,8 +49,8 @@ returns-clause-put c =
     let pairs = rw is at c.in_ok-put_both.ensures.both.1.0 in
     record {
       found = λ r. written_more c.args.write.revision r c.args.write old c.put_both.new.second (map r);
-      len = omega (arith, ap length pairs, length-put_pair (order nat_cmp place_of_revision 8) pair old);
+      len = omega (arith, ap length pairs, length-put_pair (order nat_cmp place_of_revision 7) pair old);
       revisions = λ last l all.
           let Small : ℕ × Write → Type 0 = λ e. e.0 ≤ last in
-          subst (All Small) (sym pairs) (All-put_pair Small (order nat_cmp place_of_revision 8) pair old l all);
+          subst (All Small) (sym pairs) (All-put_pair Small (order nat_cmp place_of_revision 7) pair old l all);
     }

@@ -12,7 +12,7 @@ use Rattle.kv_store.proofs.version.Version.stored.Goals as goal
 pub returns-clause-acts : goal.returns-clause-acts
 returns-clause-acts c = λ acts s.
     let version = c.args.self.now in
-    let ascends = subst (λ (v : Stored). Ascends (order nat_cmp place_of_revision 8) v.by_revision) c.self.view_is (rw c.deref.ensures at c.len.ensures.ordered) in
+    let ascends = subst (λ (v : Stored). Ascends (order nat_cmp place_of_revision 7) v.by_revision) c.self.view_is (rw c.deref.ensures at c.len.ensures.ordered) in
     (rw c.deref.ensures at c.len.ensures.count)
     ∙ ap (λ (v : Stored). length v.by_revision) c.self.view_is
     ∙ length_found (is_stored version.config.history acts) (writes_of acts) version.by_revision (counts_from_lawful version.config acts s.lawful) ascends s.written
