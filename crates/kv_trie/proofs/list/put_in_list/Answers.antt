@@ -21,7 +21,7 @@ pub returns-in_ok-replace-in-Ok-clause-found : goal.returns-in_ok-replace-in-Ok-
 returns-in_ok-replace-in-Ok-clause-found g c =
     let place = rw (c.deref.ensures.value, c.key.ensures) at c.in-Ok.ensures.found in
     let there = slice_get-get_or (map arc_value c.args.pairs.now.items) c.in-Ok.at c.args.pending.now.pair place.within in
-    λ order. sym (ap is_some (place.found ∙ ap (option_map (λ p. p.1)) there))
+    sym (ap is_some (place.found ∙ ap (option_map (λ p. p.1)) there))
 
 pub returns-in-Ok-insert-clause-pairs : goal.returns-in-Ok-insert-clause-pairs
 returns-in-Ok-insert-clause-pairs g c =
@@ -47,4 +47,4 @@ unreachable-requires g c = omega (arith, c.in-Err-insert.ensures.full, c.in_ok-r
 pub returns-in-Ok-insert-clause-found : goal.returns-in-Ok-insert-clause-found
 returns-in-Ok-insert-clause-found g c =
     let gap = rw (c.deref.ensures.value, c.key.ensures) at c.in-Err.ensures.absent in
-    λ order. sym (ap is_some (gap.absent order))
+    sym (ap is_some (gap.absent c.requires.order))

@@ -25,3 +25,8 @@ returns-clause-unchanged g c =
     let same = kept_list (arc_value c.args.list.now) c.in_ok-own.own.now c.in_ok-own.ensures.value in
     let ok : IsOk c.make_mut.result = rw c.in_ok-own.was refl in
     rw (c.make_mut.follows.holds c.put_in_list.new.pairs ok, ← same) c.put_in_list.ensures.unchanged
+
+pub put_in_list-requires-clause-order : goal.put_in_list-requires-clause-order
+put_in_list-requires-clause-order g c =
+    let same = kept_list (arc_value c.args.list.now) c.in_ok-own.own.now c.in_ok-own.ensures.value in
+    rw same c.requires.order
