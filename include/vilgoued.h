@@ -4,7 +4,9 @@
  * names are read during the call alone. No pointer is null, also for a length of 0. The memory that a call names does
  * not overlap. A handle is used by one call at a time, and never through two copies.
  *
- * Each function that returns a number returns KV_OK or why it was refused. A refused call leaves the bucket as it was.
+ * Each function that returns a number returns KV_OK or why it was refused. A refused call leaves the bucket as it was,
+ * and copies nothing. What it would have told it leaves as it was too, but for what is said here of
+ * KV_WRONG_LAST_REVISION, KV_WATCH_BEHIND, KV_LAGGED and KV_TOO_LITTLE_ROOM.
  */
 #ifndef VILGOUED_H
 #define VILGOUED_H
@@ -86,7 +88,7 @@ typedef struct kv_item {
     uint64_t revision;
     size_t key_size;
     uint64_t size;     /* of the value, also where it isn't shown */
-    size_t value_size; /* how much of it is copied: all, or 0 where it isn't shown */
+    size_t value_size; /* how much of it is copied: all, or 0 where it isn't shown; with too little room, would be */
     bool has_value;
 } kv_item;
 
@@ -113,19 +115,21 @@ uint64_t kv_seal(kv_bucket *bucket);
 
 /* Compacts to a floor: of the writes at or below it only the retained ones stay stored. KV_BAD_FLOOR where the floor is
  * 0, above the last revision, or below the floor so far; else KV_WATCH_BEHIND where a watch has still to be handed an
- * entry at or below it that came after its opening: *watch is then the least number of such a watch. */
+ * entry at or below it that came after its opening: *watch is then the least number of such a watch, and else stays as
+ * it was. */
 uint64_t kv_compact(kv_bucket *bucket, uint64_t floor, uint64_t *watch);
 /* The highest floor to which the bucket can be compacted, 0 where there is none. */
 uint64_t kv_reach(kv_bucket *bucket, uint64_t *floor);
 
-/* The value is copied to the room; where that is too little, *size tells how much is needed. */
+/* The value is copied to the room. *size tells how many bytes it has, and *revision its revision, also where there is
+ * too little room. */
 uint64_t kv_get(kv_bucket *bucket, const uint8_t *key, size_t key_size, uint8_t *room, size_t room_size, size_t *size,
                 uint64_t *revision);
 uint64_t kv_get_at(kv_bucket *bucket, const uint8_t *key, size_t key_size, uint64_t at, uint8_t *room,
                    size_t room_size, size_t *size, uint64_t *revision);
 /* The retained entry of the key that has this index, oldest first, without the key; past the last, item->kind is
- * KV_EMPTY. *count tells how many there are: 64 at the most. Where there is too little room, item->value_size tells how
- * much is needed. */
+ * KV_EMPTY. *count tells how many there are: 64 at the most. Where there is too little room, *count and the item are
+ * told as with enough, and item->value_size is how much is needed. */
 uint64_t kv_history(kv_bucket *bucket, const uint8_t *key, size_t key_size, size_t index, uint8_t *room,
                     size_t room_size, kv_item *item, size_t *count);
 uint64_t kv_get_status(kv_bucket *bucket, kv_status *status);
@@ -162,15 +166,17 @@ void kv_view_close(kv_view *view);
 uint64_t kv_feed_open(kv_view *view, const uint8_t *filters, size_t filters_size, const kv_options *options,
                       kv_feed *feed);
 /* KV_LAGGED where entries that the feed has still to hand out may be gone from the view, which has been compacted: its
- * floor, to which *floor is set, is above the last revision that the feed has gone on to, or the feed has still to hand
- * out an entry at or below it that came after its opening. The feed stays where it is, and can be taken to its end. */
+ * floor, to which *floor is set then and only then, is above the last revision that the feed has gone on to, or the
+ * feed has still to hand out an entry at or below it that came after its opening. The feed stays where it is, and can
+ * be taken to its end. */
 uint64_t kv_feed_refresh(kv_feed *feed, kv_view *view, uint64_t *floor);
+/* As kv_take. */
 uint64_t kv_feed_take(kv_feed *feed, uint8_t *keys, size_t keys_size, uint8_t *values, size_t values_size,
                       kv_item *item);
 void kv_feed_close(kv_feed *feed);
 
-/* The name of a code, such as WrongLastRevision, with no zero byte behind it: at most 17 bytes. Where there is too little
- * room, *size tells how much is needed. KV_NO_SUCH_CODE where the number is no refusal's, as KV_OK is none. */
+/* The name of a code, such as WrongLastRevision, with no zero byte behind it: at most 17 bytes. *size tells how many,
+ * also where there is too little room. KV_NO_SUCH_CODE where the number is no refusal's, as KV_OK is none. */
 uint64_t kv_code_name(uint64_t code, uint8_t *room, size_t room_size, size_t *size);
 
 #ifdef __cplusplus

@@ -1,4 +1,4 @@
-/* Each function and each code once. */
+/* Each function and each code once, what is told with too little room, and what a refused call leaves as it was. */
 #include "vilgoued.h"
 #include <stdio.h>
 #include <stdlib.h>
@@ -16,6 +16,49 @@
 static const kv_limits largest = {3, 1048576, 1000000, 4294967295};
 static uint8_t key[255], value[64];
 static kv_item item;
+
+/* What a call tells beside its item. */
+static struct {
+    uint64_t number;
+    size_t size, count;
+} told;
+
+/* Each byte that a call may write to is set to this before it. It is a bool, too. */
+enum { MARK = 1 };
+
+static void mark(void) {
+    memset(key, MARK, sizeof key);
+    memset(value, MARK, sizeof value);
+    memset(&item, MARK, sizeof item);
+    memset(&told, MARK, sizeof told);
+}
+
+static bool marked(const void *at, size_t size) {
+    for (size_t i = 0; i < size; i++)
+        if (((const uint8_t *)at)[i] != MARK)
+            return false;
+    return true;
+}
+
+static bool nothing_copied(void) {
+    return marked(key, sizeof key) && marked(value, sizeof value);
+}
+
+/* A call that is refused has copied nothing and told nothing. */
+#define REFUSED(call, code) (mark(), (call) == (code) && nothing_copied() && NOTHING_TOLD)
+#define NOTHING_TOLD (marked(&item, sizeof item) && marked(&told, sizeof told))
+
+/* One that tells a number with its refusal has told nothing else. */
+#define TELLS(call, code, n) \
+    (mark(), (call) == (code) && nothing_copied() && marked(&item, sizeof item) && told.number == (n) && \
+     marked(&told.size, sizeof told.size) && marked(&told.count, sizeof told.count))
+
+/* Where there is too little room nothing is copied. What is told is looked at behind it. */
+#define LITTLE(call) (mark(), (call) == KV_TOO_LITTLE_ROOM && nothing_copied())
+
+/* Where the room just suffices it is filled, and nothing is written behind it. */
+#define FILLS(call, room) \
+    (mark(), (call) == KV_OK && !marked(value + (room)-1, 1) && marked(value + (room), sizeof value - (room)))
 
 static uint64_t take(kv_bucket *b, uint64_t number) {
     return kv_take(b, number, key, sizeof key, value, sizeof value, &item);
@@ -338,6 +381,159 @@ static void names(void) {
     WANT(kv_code_name(UINT64_MAX, value, sizeof value, &size) == KV_NO_SUCH_CODE);
 }
 
+/* An item without a key, of the put of "123" that is the second entry of "app.port". */
+static bool tells_second(void) {
+    return item.kind == KV_ENTRY && item.op == KV_PUT && item.revision == 2 && item.key_size == 0 && item.size == 3 &&
+           item.value_size == 3 && item.has_value && told.count == 2;
+}
+
+static void reads_want_room(kv_bucket *b, kv_view *view) {
+    WANT(LITTLE(kv_get(b, B("app.port"), value, 2, &told.size, &told.number)) && told.size == 3 && told.number == 2);
+    WANT(FILLS(kv_get(b, B("app.port"), value, 3, &told.size, &told.number), 3) && told.size == 3 && told.number == 2);
+    WANT(LITTLE(kv_get_at(b, B("app.port"), 1, value, 1, &told.size, &told.number)));
+    WANT(told.size == 2 && told.number == 1);
+    WANT(FILLS(kv_get_at(b, B("app.port"), 1, value, 2, &told.size, &told.number), 2) && told.size == 2);
+    WANT(LITTLE(kv_history(b, B("app.port"), 1, value, 2, &item, &told.count)) && tells_second());
+    WANT(FILLS(kv_history(b, B("app.port"), 1, value, 3, &item, &told.count), 3) && tells_second());
+    WANT(LITTLE(kv_keys(b, B("app.*"), value, 17, &told.size, &told.count)) && told.size == 18 && told.count == 2);
+    WANT(FILLS(kv_keys(b, B("app.*"), value, 18, &told.size, &told.count), 18) && told.size == 18 && told.count == 2);
+    WANT(LITTLE(kv_view_get(view, B("app.port"), value, 2, &told.size, &told.number)));
+    WANT(told.size == 3 && told.number == 2);
+    WANT(FILLS(kv_view_get(view, B("app.port"), value, 3, &told.size, &told.number), 3) && told.size == 3);
+    WANT(LITTLE(kv_view_get_at(view, B("app.port"), 1, value, 0, &told.size, &told.number)));
+    WANT(told.size == 2 && told.number == 1);
+    WANT(FILLS(kv_view_get_at(view, B("app.port"), 1, value, 2, &told.size, &told.number), 2) && told.size == 2);
+    WANT(LITTLE(kv_view_history(view, B("app.port"), 1, value, 0, &item, &told.count)) && tells_second());
+    WANT(FILLS(kv_view_history(view, B("app.port"), 1, value, 3, &item, &told.count), 3) && tells_second());
+    WANT(LITTLE(kv_view_keys(view, B("app.*"), value, 0, &told.size, &told.count)) && told.size == 18 && told.count == 2);
+    WANT(FILLS(kv_view_keys(view, B("app.*"), value, 18, &told.size, &told.count), 18) && told.count == 2);
+    WANT(LITTLE(kv_code_name(KV_BAD_KEY, value, 5, &told.size)) && told.size == 6);
+    WANT(FILLS(kv_code_name(KV_BAD_KEY, value, 6, &told.size), 6) && told.size == 6);
+    WANT(LITTLE(kv_code_name(KV_CLOSED, value, 0, &told.size)) && told.size == 6);
+    WANT(FILLS(kv_code_name(KV_CLOSED, value, 6, &told.size), 6) && told.size == 6);
+}
+
+/* The sizes of "app.port" and "123". */
+static bool tells_sizes(void) {
+    return item.key_size == 8 && item.value_size == 3;
+}
+
+static void takes_want_room(kv_bucket *b, kv_feed *feed) {
+    WANT(LITTLE(kv_take(b, 1, key, 7, value, sizeof value, &item)) && tells_sizes());
+    WANT(LITTLE(kv_take(b, 1, key, sizeof key, value, 2, &item)) && tells_sizes());
+    WANT(FILLS(kv_take(b, 1, key, 8, value, 3, &item), 3) && tells_sizes() && marked(key + 8, sizeof key - 8));
+    WANT(LITTLE(kv_feed_take(feed, key, 7, value, sizeof value, &item)) && tells_sizes());
+    WANT(LITTLE(kv_feed_take(feed, key, sizeof key, value, 2, &item)) && tells_sizes());
+    WANT(FILLS(kv_feed_take(feed, key, 8, value, 3, &item), 3) && tells_sizes() && marked(key + 8, sizeof key - 8));
+}
+
+static void wanted(void) {
+    kv_bucket b = {0};
+    kv_view view = {0};
+    kv_feed feed = {0};
+    kv_options latest = {KV_LATEST, 0, false, false};
+    uint64_t n = 0;
+    WANT(kv_open(&b, B("settings"), &largest) == KV_OK && kv_put(&b, B("app.port"), B("12"), &n) == KV_OK);
+    WANT(kv_put(&b, B("app.port"), B("123"), &n) == KV_OK && kv_put(&b, B("app.host"), B("h"), &n) == KV_OK);
+    WANT(kv_watch(&b, B("app.port"), &latest, &n) == KV_OK && n == 1 && kv_snapshot(&b, &view) == KV_OK);
+    WANT(kv_feed_open(&view, B("app.port"), &latest, &feed) == KV_OK);
+    reads_want_room(&b, &view);
+    takes_want_room(&b, &feed);
+    kv_feed_close(&feed);
+    kv_view_close(&view);
+    kv_close(&b);
+}
+
+static void reads_are_refused(kv_bucket *b, kv_view *view) {
+    WANT(REFUSED(kv_get(b, B("no"), value, sizeof value, &told.size, &told.number), KV_KEY_NOT_FOUND));
+    WANT(REFUSED(kv_get(b, B("n o"), value, sizeof value, &told.size, &told.number), KV_BAD_KEY));
+    WANT(REFUSED(kv_get_at(b, B("a"), 9, value, sizeof value, &told.size, &told.number), KV_KEY_NOT_FOUND));
+    WANT(REFUSED(kv_history(b, B("no"), 0, value, sizeof value, &item, &told.count), KV_KEY_NOT_FOUND));
+    WANT(REFUSED(kv_keys(b, B("n o"), value, sizeof value, &told.size, &told.count), KV_BAD_FILTER));
+    WANT(REFUSED(kv_view_get(view, B("no"), value, sizeof value, &told.size, &told.number), KV_KEY_NOT_FOUND));
+    WANT(REFUSED(kv_view_get_at(view, B("a"), 9, value, sizeof value, &told.size, &told.number), KV_KEY_NOT_FOUND));
+    WANT(REFUSED(kv_view_history(view, B("n o"), 0, value, sizeof value, &item, &told.count), KV_BAD_KEY));
+    WANT(REFUSED(kv_view_keys(view, B("n o"), value, sizeof value, &told.size, &told.count), KV_BAD_FILTER));
+    WANT(REFUSED(kv_code_name(22, value, sizeof value, &told.size), KV_NO_SUCH_CODE));
+}
+
+static void writes_are_refused(kv_bucket *b) {
+    WANT(REFUSED(kv_put(b, B("n o"), B("1"), &told.number), KV_BAD_KEY));
+    WANT(REFUSED(kv_put(b, B("a"), B("123"), &told.number), KV_VALUE_TOO_LARGE));
+    WANT(REFUSED(kv_create(b, B("a"), B("1"), &told.number), KV_KEY_EXISTS));
+    WANT(TELLS(kv_update(b, B("a"), B("1"), 9, &told.number), KV_WRONG_LAST_REVISION, 1));
+    WANT(TELLS(kv_delete(b, B("a"), true, 9, &told.number), KV_WRONG_LAST_REVISION, 1));
+    WANT(TELLS(kv_purge(b, B("a"), true, 9, &told.number), KV_WRONG_LAST_REVISION, 1));
+    WANT(REFUSED(kv_update(b, B("n o"), B("1"), 9, &told.number), KV_BAD_KEY));
+    WANT(REFUSED(kv_delete(b, B("n o"), true, 9, &told.number), KV_BAD_KEY));
+    WANT(REFUSED(kv_purge(b, B("n o"), true, 9, &told.number), KV_BAD_KEY));
+}
+
+static void watches_are_refused(kv_bucket *b) {
+    kv_options latest = {KV_LATEST, 0, false, false}, other = {4, 0, false, false};
+    uint64_t n = 0;
+    WANT(REFUSED(kv_watch(b, B("n o"), &latest, &told.number), KV_BAD_FILTER));
+    WANT(REFUSED(kv_watch(b, B("a"), &other, &told.number), KV_NO_SUCH_START));
+    WANT(REFUSED(kv_take(b, 9, key, sizeof key, value, sizeof value, &item), KV_NO_SUCH_WATCH));
+    WANT(REFUSED(kv_stop(b, 9, &told.number), KV_NO_SUCH_WATCH));
+    WANT(REFUSED(kv_compact(b, 9, &told.number), KV_BAD_FLOOR));
+    WANT(kv_watch(b, B("a"), &latest, &n) == KV_OK && n == 1 && kv_put(b, B("a"), B("2"), &n) == KV_OK && n == 2);
+    WANT(TELLS(kv_compact(b, 2, &told.number), KV_WATCH_BEHIND, 1));
+    WANT((mark(), kv_compact(b, 1, &told.number) == KV_OK) && NOTHING_TOLD);
+}
+
+static void refreshes_are_refused(kv_bucket *b, kv_view *view) {
+    kv_options latest = {KV_LATEST, 0, false, false};
+    kv_view later = {0};
+    kv_feed feed = {0}, ahead = {0};
+    uint64_t n = 0;
+    WANT(kv_feed_open(view, B("a"), &latest, &feed) == KV_OK);
+    WANT(take(b, 1) == KV_OK && take(b, 1) == KV_OK && take(b, 1) == KV_OK && shows("a", KV_PUT, 2, "2"));
+    WANT(kv_compact(b, 2, &n) == KV_OK && kv_snapshot(b, &later) == KV_OK);
+    WANT(TELLS(kv_feed_refresh(&feed, &later, &told.number), KV_LAGGED, 2));
+    WANT((mark(), kv_feed_refresh(&feed, view, &told.number) == KV_OK) && NOTHING_TOLD);
+    WANT(kv_feed_open(&later, B("a"), &latest, &ahead) == KV_OK);
+    WANT(REFUSED(kv_feed_refresh(&ahead, view, &told.number), KV_OLDER_VIEW));
+    kv_feed_close(&ahead);
+    kv_feed_close(&feed);
+    kv_view_close(&later);
+}
+
+static void closed_ones_tell_nothing(kv_bucket *b, kv_view *view, kv_feed *feed) {
+    kv_options latest = {KV_LATEST, 0, false, false};
+    kv_status status, before;
+    memset(&status, MARK, sizeof status);
+    memset(&before, MARK, sizeof before);
+    WANT(kv_get_status(b, &status) == KV_CLOSED && kv_view_get_status(view, &status) == KV_CLOSED);
+    WANT(!memcmp(&status, &before, sizeof status));
+    WANT(REFUSED(kv_put(b, B("a"), B("1"), &told.number), KV_CLOSED));
+    WANT(REFUSED(kv_get(b, B("a"), value, sizeof value, &told.size, &told.number), KV_CLOSED));
+    WANT(REFUSED(kv_history(b, B("a"), 0, value, sizeof value, &item, &told.count), KV_CLOSED));
+    WANT(REFUSED(kv_keys(b, B(">"), value, sizeof value, &told.size, &told.count), KV_CLOSED));
+    WANT(REFUSED(kv_watch(b, B(">"), &latest, &told.number), KV_CLOSED));
+    WANT(REFUSED(kv_take(b, 1, key, sizeof key, value, sizeof value, &item), KV_CLOSED));
+    WANT(REFUSED(kv_feed_take(feed, key, sizeof key, value, sizeof value, &item), KV_CLOSED));
+    WANT(REFUSED(kv_stop(b, 1, &told.number), KV_CLOSED) && REFUSED(kv_compact(b, 1, &told.number), KV_CLOSED));
+    WANT(REFUSED(kv_reach(b, &told.number), KV_CLOSED) && REFUSED(kv_feed_refresh(feed, view, &told.number), KV_CLOSED));
+}
+
+static void refused(void) {
+    kv_bucket b = {0};
+    kv_view view = {0};
+    kv_feed feed = {0};
+    kv_limits small = {3, 2, 6, 100};
+    uint64_t n = 0;
+    closed_ones_tell_nothing(&b, &view, &feed);
+    WANT(kv_open(&b, B("settings"), &small) == KV_OK && kv_put(&b, B("a"), B("1"), &n) == KV_OK);
+    WANT(kv_snapshot(&b, &view) == KV_OK);
+    reads_are_refused(&b, &view);
+    writes_are_refused(&b);
+    watches_are_refused(&b);
+    refreshes_are_refused(&b, &view);
+    kv_view_close(&view);
+    kv_close(&b);
+}
+
 int main(void) {
     layout();
     closed();
@@ -351,6 +547,8 @@ int main(void) {
     compacted();
     lagged();
     names();
+    wanted();
+    refused();
     puts("each function and each code: as the header says");
     return 0;
 }

@@ -1,7 +1,7 @@
 -- The number of a refusal is that of the outcome that the rules give, but for want of memory.
 use Rattle.std.proofs.Common.{◌≡◌, ℕ, refl, ap, sym, ◌∙◌}
-use Rattle.std.specs.Prelude.{Result, Ok, Err, unwrap_or}
-use Rattle.kv_c.specs.Codes.{accepted, code_by, number_in}
+use Rattle.std.specs.Prelude.{Result, Ok, Err}
+use Rattle.kv_c.specs.Codes.{accepted, code_by}
 use Rattle.kv_model.specs.Answers.{Compacted}
 use Rattle.kv_model.specs.State.{answer_compact}
 use Rattle.kv_keys.specs.Outcome.{Refuses}
@@ -67,39 +67,6 @@ configured_or e config refuses other = outcome_of e (configure config) refuses (
 
 pub code_memory : (e : KvError) → ¬ (code_of e ≡ 1) → ¬ (e ≡ OutOfMemory)
 code_memory e other one = other (ap code_of one)
-
--- the watch that is told is the one of the refusal
-watch_told : (e : KvError) (number old : ℕ) → code_of e ≡ 20 → number ≡ unwrap_or (number_in e) old → e ≡ WatchBehind number
-watch_told OutOfMemory number old code told = cc
-watch_told BadBucket number old code told = cc
-watch_told BadConfig number old code told = cc
-watch_told BadKey number old code told = cc
-watch_told BadFilter number old code told = cc
-watch_told OptionsClash number old code told = cc
-watch_told ValueTooLarge number old code told = cc
-watch_told Sealed number old code told = cc
-watch_told JournalFull number old code told = cc
-watch_told KeyExists number old code told = cc
-watch_told (WrongLastRevision last) number old code told = cc
-watch_told KeyNotFound number old code told = cc
-watch_told NoSuchWatch number old code told = cc
-watch_told TooManyWatches number old code told = cc
-watch_told NoReader number old code told = cc
-watch_told BadCommand number old code told = cc
-watch_told ReadFault number old code told = cc
-watch_told WriteFault number old code told = cc
-watch_told BadFloor number old code told = cc
-watch_told (WatchBehind watch) number old code told = sym (ap WatchBehind told)
-watch_told (Lagged floor) number old code told = cc
-
-not_memory : (e : KvError) → code_of e ≡ 20 → ¬ (code_of e ≡ 1)
-not_memory e code one = absurd (twenty (sym code ∙ one))
-  where
-    twenty : ◌≡◌ {A = ℕ} 20 1 → ⊥
-    twenty h = cc
-
-pub watch_from : {X : Type 0} (e : KvError) (outcome : Result X KvError) (number old : ℕ) → Refuses e outcome → code_of e ≡ 20 → number ≡ unwrap_or (number_in e) old → outcome ≡ Err (WatchBehind number)
-watch_from e outcome number old refuses code told = outcome_of e outcome refuses (not_memory e code) ∙ ap Err (watch_told e number old code told)
 
 -- a compaction that was answered was accepted
 pub compacted_from : (outcome : Result ℕ KvError) (floor : ℕ) → answer_compact outcome ≡ Compacted floor → code_by accepted outcome ≡ 0

@@ -133,18 +133,28 @@ abbrev pub IsAsked : Asked → Result Request KvError → Type 0
 IsAsked what (Ok request) = (asked request ≡ what) × IsTrue (is_key (key_of what))
 IsAsked what (Err e) = ¬ (e ≡ OutOfMemory) → (e ≡ BadKey) × (is_key (key_of what) ≡ false)
 
--- this write was found, and its value and its revision are handed out
+-- this write was found, and its value, how many bytes that has, and its revision are handed out
 abbrev pub IsValue : Option Write → List ℕ → ℕ → ℕ → Type 0
-IsValue found room size revision = (w : Write) × (found ≡ Some w) × (take size room ≡ w.value) × (revision ≡ w.revision)
+IsValue found room size revision = (w : Write) × (found ≡ Some w) × (size ≡ length w.value) ×
+    (take size room ≡ w.value) × (revision ≡ w.revision)
+
+-- how much room its value needs is told, and its revision
+abbrev pub WantsRead : Option Write → ℕ → ℕ → Type 0
+WantsRead None size revision = ⊥
+WantsRead (Some w) size revision = (size ≡ length w.value) × (revision ≡ w.revision)
 
 -- these entries were found, and the one of an index is handed out, without its key
 abbrev pub IsHistory : Option (List Write) → ℕ → ℕ → Item → List ℕ → Type 0
 IsHistory found index count item room = (ws : List Write) × (found ≡ Some ws) × (count ≡ length ws) ×
     IsEntry (slice_get ws index) item room
 
--- these keys are handed out
+-- how many these keys are is told, and how much room they need
+abbrev pub WantsKeys : List (List ℕ) → ℕ → ℕ → Type 0
+WantsKeys keys count size = (count ≡ length keys) × (size ≡ length (listed keys))
+
+-- and they are handed out
 abbrev pub AreKeys : List (List ℕ) → ℕ → ℕ → List ℕ → Type 0
-AreKeys keys count size room = (count ≡ length keys) × (take size room ≡ listed keys)
+AreKeys keys count size room = (count ≡ length keys) × (size ≡ length (listed keys)) × (take size room ≡ listed keys)
 
 -- the configuration that C asks for
 abbrev pub configured : List ℕ → Limits → Configuration

@@ -5,7 +5,7 @@ use Rattle.std.specs.Option.{ok_or}
 use Rattle.kv_keys.specs.Grammar.{is_key, is_filter, are_filters, parts}
 use Rattle.kv_keys.specs.Refusals.{code_of}
 use Rattle.kv_keys.specs.declared.error.KvError.{KvError}
-use Rattle.kv_keys.specs.declared.error.KvError.TheVariants.{BadKey, BadFilter, KeyNotFound, Lagged, WatchBehind, WrongLastRevision}
+use Rattle.kv_keys.specs.declared.error.KvError.TheVariants.{BadKey, BadFilter, KeyNotFound}
 use Rattle.kv_model.specs.Acceptance.{accept}
 use Rattle.kv_model.specs.Acts.{Write}
 use Rattle.kv_model.specs.Answers.{Answer, AnsweredEntry, Refused}
@@ -17,14 +17,6 @@ use Rattle.kv_model.specs.State.{State, next_number}
 abbrev pub code_by : {X : Type 0} → (X → ℕ) → Result X KvError → ℕ
 code_by {X} code (Ok x) = code x
 code_by {X} code (Err e) = code_of e
-
--- the number that a refusal tells: the key's last revision, the watch that is behind, or the floor that a feed lags
--- behind
-abbrev pub number_in : KvError → Option ℕ
-number_in (WrongLastRevision last) = Some last
-number_in (WatchBehind watch) = Some watch
-number_in (Lagged floor) = Some floor
-number_in other = None
 
 -- the names of C's own codes
 abbrev pub own_name : ℕ → Option (List ℕ)

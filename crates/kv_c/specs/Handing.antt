@@ -35,11 +35,16 @@ numbers_told n = Told (record {
   values = n.values;
 }) n.watches
 
--- the item tells of this write, without its key, or that there is none
+-- the item tells of this write, without its key
+abbrev pub TellsWrite : Write → Item → Type 0
+TellsWrite w item = (item.kind ≡ 2) × (op_named item.op ≡ w.op) × (item.revision ≡ w.revision) ×
+    (item.key_size ≡ 0) × (item.size ≡ length w.value) × (item.value_size ≡ length w.value) ×
+    (item.has_value ≡ is_put w.op)
+
+-- the same, and its value is handed out, or that there is none
 abbrev pub IsEntry : Option Write → Item → List ℕ → Type 0
-IsEntry None item room = item.kind ≡ 0
-IsEntry (Some w) item room = (item.kind ≡ 2) × (op_named item.op ≡ w.op) × (item.revision ≡ w.revision)
-    × (item.size ≡ length w.value) × (item.has_value ≡ is_put w.op) × (take item.value_size room ≡ w.value)
+IsEntry None item room = (item.kind ≡ 0) × (item.key_size ≡ 0) × (item.value_size ≡ 0)
+IsEntry (Some w) item room = TellsWrite w item × (take item.value_size room ≡ w.value)
 
 -- these bytes begin with the value, if one is shown
 abbrev pub IsValueCopied : List ℕ → Option (List ℕ) → Type 0
@@ -56,12 +61,18 @@ Wants item (AnsweredEntry entry) = (item.key_size ≡ length entry.key) ×
     (item.value_size ≡ option_map_or length entry.value 0)
 Wants item answer = ⊥
 
--- the same of the value of a write
+-- the item has the sizes of what is handed out: those of the key and the value of the entry, or 0
+abbrev pub HasSizes : Item → Answer → Type 0
+HasSizes item (AnsweredEntry entry) = (item.key_size ≡ length entry.key) ×
+    (item.value_size ≡ option_map_or length entry.value 0)
+HasSizes item answer = (item.key_size ≡ 0) × (item.value_size ≡ 0)
+
+-- the item tells how much room the value of a write needs, and the rest of it
 abbrev pub WantsValue : Option Write → Item → Type 0
 WantsValue None item = ⊥
-WantsValue (Some w) item = item.value_size ≡ length w.value
+WantsValue (Some w) item = TellsWrite w item
 
--- and of the write of an index among those that were found
-abbrev pub WantsAt : Option (List Write) → ℕ → Item → Type 0
-WantsAt None index item = ⊥
-WantsAt (Some ws) index item = WantsValue (slice_get ws index) item
+-- the same of the write of an index among those that were found, and how many these are
+abbrev pub WantsAt : Option (List Write) → ℕ → ℕ → Item → Type 0
+WantsAt None index count item = ⊥
+WantsAt (Some ws) index count item = (count ≡ length ws) × WantsValue (slice_get ws index) item

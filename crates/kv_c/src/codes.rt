@@ -1,9 +1,10 @@
 //! The numbers that calls answer: 0, those of the rules, and C's own.
 
-ghost use Rattle.std.specs.Prelude.{◌≡◌, MatchResult, unwrap_or};
+ghost use Rattle.std.specs.Prelude.{◌≡◌, MatchResult};
 ghost use Rattle.std.specs.Option.{option_copied};
-ghost use Rattle.kv_c.specs.Codes.{number_in, own_name};
+ghost use Rattle.kv_c.specs.Codes.{own_name};
 ghost use Rattle.kv_keys.specs.Refusals.{code_of};
+ghost use Rattle.kv_keys.specs.declared.error.KvError.TheVariants.{Lagged, WatchBehind, WrongLastRevision};
 
 use kv_bucket::KvError;
 
@@ -40,38 +41,53 @@ pub(crate) fn own_name(code: u64) -> Option<&'static str>
     }
 }
 
-// The number that a refusal tells, if it tells one.
-fn number_in(refusal: KvError) -> Option<u64>
-    ensures { result ≡ number_in refusal }
-{
-    match refusal {
-        KvError::WrongLastRevision { last } => Some(last),
-        KvError::WatchBehind { watch } => Some(watch),
-        KvError::Lagged { floor } => Some(floor),
-        _ => None,
-    }
-}
-
-/// The code of a refusal. The number that it tells, if it tells one, is handed out.
-pub(crate) fn refuse(refusal: KvError, number: &mut u64) -> u64
+/// The code of the refusal of a write. The key's last revision, if it tells that, is handed out.
+pub(crate) fn refuse_write(refusal: KvError, last: &mut u64) -> u64
     ensures code { result ≡ code_of refusal }
-    ensures number { number.new ≡ unwrap_or (number_in refusal) number.old }
+    ensures last { result ≡ 11 → refusal ≡ WrongLastRevision last.new }
+    ensures untold { ¬ (result ≡ 11) → last.new ≡ last.old }
 {
-    *number = number_in(refusal).unwrap_or(*number);
+    if let KvError::WrongLastRevision { last: told } = refusal {
+        *last = told;
+    }
     refusal.code()
 }
 
-/// Hands out the number that a call gave, or else the one that its refusal tells.
+/// The code of the refusal of a compaction. The watch that is behind, if it tells one, is handed out.
+pub(crate) fn refuse_compaction(refusal: KvError, watch: &mut u64) -> u64
+    ensures code { result ≡ code_of refusal }
+    ensures watch { result ≡ 20 → refusal ≡ WatchBehind watch.new }
+    ensures untold { ¬ (result ≡ 20) → watch.new ≡ watch.old }
+{
+    if let KvError::WatchBehind { watch: told } = refusal {
+        *watch = told;
+    }
+    refusal.code()
+}
+
+/// The code of a feed's refusal to go on. The floor that it lags behind, if it tells one, is handed out.
+pub(crate) fn refuse_refresh(refusal: KvError, floor: &mut u64) -> u64
+    ensures code { result ≡ code_of refusal }
+    ensures floor { result ≡ 21 → refusal ≡ Lagged floor.new }
+    ensures untold { ¬ (result ≡ 21) → floor.new ≡ floor.old }
+{
+    if let KvError::Lagged { floor: told } = refusal {
+        *floor = told;
+    }
+    refusal.code()
+}
+
+/// Hands out the number that a call gave. Where it was refused, the number stays.
 pub(crate) fn hand_out(done: Result<u64, KvError>, number: &mut u64) -> u64
     ensures { MatchResult done
         (λ n. (result ≡ 0) × (number.new ≡ n))
-        (λ e. (result ≡ code_of e) × (number.new ≡ unwrap_or (number_in e) number.old)) }
+        (λ e. (result ≡ code_of e) × (number.new ≡ number.old)) }
 {
     match done {
         Ok(given) => {
             *number = given;
             0
         }
-        Err(refusal) => refuse(refusal, number),
+        Err(refusal) => refusal.code(),
     }
 }

@@ -10,24 +10,25 @@ ghost use Rattle.kv_model.specs.Answers.{Compacted};
 ghost use Rattle.kv_model.specs.State.{State, may_compact};
 ghost use Rattle.kv_model.specs.declared.call.Call.TheVariants.{Compact};
 
-use crate::codes::{CLOSED, refuse};
+use crate::codes::{CLOSED, refuse_compaction};
 use crate::content::Content;
 use crate::handle::Handle;
 use kv_bucket::Bucket;
 use std::alloc::Global;
 
-#[tactic(auto, using(crate::proofs::Refusing::code_from, crate::proofs::Refusing::watch_from, crate::proofs::Refusing::compacted_from))]
+#[tactic(auto, using(crate::proofs::Refusing::code_from, crate::proofs::Refusing::code_memory, crate::proofs::Refusing::compacted_from))]
 fn compact(bucket: &mut Bucket, floor: u64, watch: &mut u64) -> u64
     ensures compacted { result ≡ 0 → IsStep bucket.old (Compact floor) (Compacted floor) bucket.new }
     ensures code { (state : State) → Represents state bucket.old → ¬ (result ≡ 1) →
         result ≡ code_by accepted (may_compact floor state) }
     ensures watch { result ≡ 20 → (state : State) → Represents state bucket.old →
         may_compact floor state ≡ Err (WatchBehind watch.new) }
+    ensures untold { ¬ (result ≡ 20) → watch.new ≡ watch.old }
     ensures refused { ¬ (result ≡ 0) → bucket.new ≡ bucket.old }
 {
     match bucket.compact(floor) {
         Ok(()) => 0,
-        Err(refusal) => refuse(refusal, watch),
+        Err(refusal) => refuse_compaction(refusal, watch),
     }
 }
 
@@ -37,6 +38,7 @@ fn compact_in(content: &mut Content, floor: u64, watch: &mut u64) -> u64
         result ≡ code_by accepted (may_compact floor state) }
     ensures watch { result ≡ 20 → (state : State) → StandsAt state (Some content.old) →
         may_compact floor state ≡ Err (WatchBehind watch.new) }
+    ensures untold { ¬ (result ≡ 20) → watch.new ≡ watch.old }
     ensures refused { ¬ (result ≡ 0) → content.new ≡ content.old }
     ensures closed { IsFalse (holds_bucket (Some content.old)) → result ≡ 32 }
 {
@@ -57,6 +59,7 @@ pub extern "C" fn kv_compact(alloc: Global, handle: &mut Handle, floor: u64, wat
         result ≡ code_by accepted (may_compact floor state) }
     ensures watch { result ≡ 20 → (state : State) → StandsAt state handle.old.slot.held →
         may_compact floor state ≡ Err (WatchBehind watch.new) }
+    ensures untold { ¬ (result ≡ 20) → watch.new ≡ watch.old }
     ensures refused { ¬ (result ≡ 0) → handle.new.slot.held ≡ handle.old.slot.held }
     ensures closed { IsFalse (holds_bucket handle.old.slot.held) → result ≡ 32 }
 {
@@ -70,6 +73,7 @@ pub extern "C" fn kv_compact(alloc: Global, handle: &mut Handle, floor: u64, wat
 
 fn reach_of(content: &Content, floor: &mut u64) -> u64
     ensures reach { (state : State) → StandsAt state (Some content.now) → (result ≡ 0) × IsReach state floor.new }
+    ensures untold { ¬ (result ≡ 0) → floor.new ≡ floor.old }
     ensures closed { IsFalse (holds_bucket (Some content.now)) → result ≡ 32 }
 {
     match content {
@@ -85,6 +89,7 @@ fn reach_of(content: &Content, floor: &mut u64) -> u64
 #[unsafe(no_mangle)]
 pub extern "C" fn kv_reach(alloc: Global, handle: &mut Handle, floor: &mut u64) -> u64
     ensures reach { (state : State) → StandsAt state handle.old.slot.held → (result ≡ 0) × IsReach state floor.new }
+    ensures untold { ¬ (result ≡ 0) → floor.new ≡ floor.old }
     ensures unchanged { handle.new.slot.held ≡ handle.old.slot.held }
     ensures closed { IsFalse (holds_bucket handle.old.slot.held) → result ≡ 32 }
 {

@@ -2,7 +2,7 @@
 
 ghost use Rattle.std.specs.Prelude.{◌≡◌, ◌⊎◌, ℕ, List, IfErr, IfOk, OnErr, OnOk, nat_le, true};
 ghost use Rattle.kv_c.specs.Codes.{taken_code};
-ghost use Rattle.kv_c.specs.Handing.{Wants};
+ghost use Rattle.kv_c.specs.Handing.{HasSizes, Wants};
 ghost use Rattle.kv_c.specs.Feeding.{HandsNext, HasHanded, IsRefreshed, Opens, lags, next_of};
 ghost use Rattle.kv_keys.specs.declared.error.KvError.TheVariants.{Lagged, OutOfMemory};
 ghost use Rattle.kv_model.specs.Acts.{Act};
@@ -111,15 +111,19 @@ impl Feed {
         Ok(())
     }
 
-    /// Hands out its next item. Where there is too little room, it stays where it is, and the item tells how much is
-    /// needed.
+    /// Hands out its next item. Where there is too little room, it stays where it is, nothing is copied, and the item
+    /// tells how much is needed.
     pub(crate) fn take(&mut self, keys: &mut [u8], values: &mut [u8], item: &mut Item) -> u64
         ensures taken { result ≡ 0 → HandsNext self.old item.new keys.new values.new self.new }
         ensures code { (began acts : List Act) (n : ℕ) → HasHanded began acts n self.old →
             result ≡ taken_code keys.old values.old (answer_item (next_of began acts n self.old)) }
+        ensures sizes { result ≡ 0 → (began acts : List Act) (n : ℕ) → HasHanded began acts n self.old →
+            HasSizes item.new (answer_item (next_of began acts n self.old)) }
         ensures wants { result ≡ 33 → (began acts : List Act) (n : ℕ) → HasHanded began acts n self.old →
             Wants item.new (answer_item (next_of began acts n self.old)) }
         ensures unchanged { ¬ (result ≡ 0) → self.new ≡ self.old }
+        ensures room { ¬ (result ≡ 0) → (keys.new ≡ keys.old) × (values.new ≡ values.old) }
+        ensures untold { ¬ (result ≡ 0) → ¬ (result ≡ 33) → item.new ≡ item.old }
     {
         let taken = self.cursor.peek(self.kept.as_ref(), &self.present);
         let event = taken.event();

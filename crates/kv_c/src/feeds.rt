@@ -4,7 +4,7 @@ ghost use Rattle.std.specs.Prelude.{◌≡◌, ℕ, List, None, Some, IfErr, IfO
 ghost use Rattle.kv_c.specs.Calling.{Feeds, FeedsBy, Hands, IsFloor, Refreshes, comes_next, holds_feed};
 ghost use Rattle.kv_c.specs.Calling.{options_asked, refresh_code, refreshed_code, version_in};
 ghost use Rattle.kv_c.specs.Codes.{feed_code, taken_code};
-ghost use Rattle.kv_c.specs.Handing.{Wants};
+ghost use Rattle.kv_c.specs.Handing.{HasSizes, Wants};
 ghost use Rattle.kv_keys.specs.Grammar.{are_filters, parts};
 ghost use Rattle.kv_keys.specs.declared.error.KvError.TheVariants.{BadFilter, OutOfMemory};
 ghost use Rattle.kv_model.specs.Acts.{Act};
@@ -12,7 +12,7 @@ ghost use Rattle.kv_model.specs.Answers.{answer_item};
 ghost use Rattle.kv_c.specs.Feeding.{HasHanded, IsRefreshed};
 
 use crate::asking::{Wanted, options_of};
-use crate::codes::{CLOSED, NO_SUCH_START, OLDER_VIEW, OPEN_ALREADY, refuse};
+use crate::codes::{CLOSED, NO_SUCH_START, OLDER_VIEW, OPEN_ALREADY, refuse_refresh};
 use crate::content::Content;
 use crate::feed::Feed;
 use crate::handing::Item;
@@ -151,6 +151,7 @@ fn refresh_to(feed: &mut Feed, version: &Version, floor: &mut u64) -> u64
     ensures code { (began acts : List Act) (n : ℕ) → HasHanded began acts n feed.old → ¬ (result ≡ 1) →
         result ≡ refreshed_code began acts n version.now feed.old }
     ensures floor { result ≡ 21 → version.now.floor ≡ floor.new }
+    ensures untold { ¬ (result ≡ 21) → floor.new ≡ floor.old }
     ensures refused { ¬ (result ≡ 0) → feed.new ≡ feed.old }
 {
     if !feed.may_go_on_to(version) {
@@ -158,7 +159,7 @@ fn refresh_to(feed: &mut Feed, version: &Version, floor: &mut u64) -> u64
     }
     match feed.refresh(version) {
         Ok(()) => 0,
-        Err(refusal) => refuse(refusal, floor),
+        Err(refusal) => refuse_refresh(refusal, floor),
     }
 }
 
@@ -167,6 +168,7 @@ fn refresh_in(content: &mut Content, version: &Version, floor: &mut u64) -> u64
     ensures code { (began acts : List Act) (n : ℕ) → FeedsBy began acts n (Some content.old) → ¬ (result ≡ 1) →
         result ≡ refresh_code began acts n (Some version.now) (Some content.old) }
     ensures floor { result ≡ 21 → version.now.floor ≡ floor.new }
+    ensures untold { ¬ (result ≡ 21) → floor.new ≡ floor.old }
     ensures refused { ¬ (result ≡ 0) → content.new ≡ content.old }
     ensures closed { IsFalse (holds_feed (Some content.old)) → result ≡ 32 }
 {
@@ -181,6 +183,7 @@ fn refresh(alloc: Global, feed: &mut Handle, version: &Version, floor: &mut u64)
     ensures code { (began acts : List Act) (n : ℕ) → FeedsBy began acts n feed.old.slot.held → ¬ (result ≡ 1) →
         result ≡ refresh_code began acts n (Some version.now) feed.old.slot.held }
     ensures floor { result ≡ 21 → version.now.floor ≡ floor.new }
+    ensures untold { ¬ (result ≡ 21) → floor.new ≡ floor.old }
     ensures refused { ¬ (result ≡ 0) → feed.new.slot.held ≡ feed.old.slot.held }
     ensures closed { IsFalse (holds_feed feed.old.slot.held) → result ≡ 32 }
 {
@@ -206,6 +209,7 @@ pub extern "C" fn kv_feed_refresh(
     ensures code { (began acts : List Act) (n : ℕ) → FeedsBy began acts n feed.old.slot.held → ¬ (result ≡ 1) →
         result ≡ refresh_code began acts n (version_in view.old.slot.held) feed.old.slot.held }
     ensures floor { result ≡ 21 → IsFloor (version_in view.old.slot.held) floor.new }
+    ensures untold { ¬ (result ≡ 21) → floor.new ≡ floor.old }
     ensures refused { ¬ (result ≡ 0) → feed.new.slot.held ≡ feed.old.slot.held }
     ensures unchanged { view.new.slot.held ≡ view.old.slot.held }
     ensures closed { IsFalse (holds_feed feed.old.slot.held) → result ≡ 32 }
@@ -226,9 +230,13 @@ fn take_in(content: &mut Content, keys: &mut [u8], values: &mut [u8], item: &mut
     ensures taken { result ≡ 0 → Hands (Some content.old) item.new keys.new values.new (Some content.new) }
     ensures code { (began acts : List Act) (n : ℕ) → FeedsBy began acts n (Some content.old) →
         result ≡ taken_code keys.old values.old (answer_item (comes_next began acts n (Some content.old))) }
+    ensures sizes { result ≡ 0 → (began acts : List Act) (n : ℕ) → FeedsBy began acts n (Some content.old) →
+        HasSizes item.new (answer_item (comes_next began acts n (Some content.old))) }
     ensures wants { result ≡ 33 → (began acts : List Act) (n : ℕ) → FeedsBy began acts n (Some content.old) →
         Wants item.new (answer_item (comes_next began acts n (Some content.old))) }
     ensures refused { ¬ (result ≡ 0) → content.new ≡ content.old }
+    ensures room { ¬ (result ≡ 0) → (keys.new ≡ keys.old) × (values.new ≡ values.old) }
+    ensures untold { ¬ (result ≡ 0) → ¬ (result ≡ 33) → item.new ≡ item.old }
     ensures closed { IsFalse (holds_feed (Some content.old)) → result ≡ 32 }
 {
     match content {
@@ -249,9 +257,13 @@ pub extern "C" fn kv_feed_take(
     ensures taken { result ≡ 0 → Hands feed.old.slot.held item.new keys.new values.new feed.new.slot.held }
     ensures code { (began acts : List Act) (n : ℕ) → FeedsBy began acts n feed.old.slot.held →
         result ≡ taken_code keys.old values.old (answer_item (comes_next began acts n feed.old.slot.held)) }
+    ensures sizes { result ≡ 0 → (began acts : List Act) (n : ℕ) → FeedsBy began acts n feed.old.slot.held →
+        HasSizes item.new (answer_item (comes_next began acts n feed.old.slot.held)) }
     ensures wants { result ≡ 33 → (began acts : List Act) (n : ℕ) → FeedsBy began acts n feed.old.slot.held →
         Wants item.new (answer_item (comes_next began acts n feed.old.slot.held)) }
     ensures refused { ¬ (result ≡ 0) → feed.new.slot.held ≡ feed.old.slot.held }
+    ensures room { ¬ (result ≡ 0) → (keys.new ≡ keys.old) × (values.new ≡ values.old) }
+    ensures untold { ¬ (result ≡ 0) → ¬ (result ≡ 33) → item.new ≡ item.old }
     ensures closed { IsFalse (holds_feed feed.old.slot.held) → result ≡ 32 }
 {
     let Some(mut content) = feed.take(alloc) else {

@@ -4,7 +4,7 @@ ghost use Rattle.std.specs.Prelude.{◌≡◌, ℕ, List, length, take, drop, Is
 ghost use Rattle.std.specs.Option.{option_copied};
 ghost use Rattle.kv_c.specs.Codes.{entry_fits, fits, room_code, taken_code, value_code, value_fits};
 ghost use Rattle.kv_model.specs.Answers.{AnsweredEntry, answer_item};
-ghost use Rattle.kv_c.specs.Handing.{AreCopied, IsEntry, IsValueCopied, Wants, told, op_named};
+ghost use Rattle.kv_c.specs.Handing.{AreCopied, HasSizes, IsEntry, IsValueCopied, TellsWrite, Wants, told, op_named};
 ghost use Rattle.kv_watch.specs.Taking.{item_taken, entry_shown};
 
 use crate::codes::TOO_LITTLE_ROOM;
@@ -70,7 +70,8 @@ fn number_of(op: Op) -> u32
 
 /// The item without an entry.
 pub(crate) fn empty_item(kind: u32) -> Item
-    ensures { result.kind ≡ kind }
+    ensures kind { result.kind ≡ kind }
+    ensures sizes { (result.key_size ≡ 0) × (result.value_size ≡ 0) }
 {
     Item {
         kind,
@@ -86,7 +87,7 @@ pub(crate) fn empty_item(kind: u32) -> Item
 fn write_item(write: &Write) -> Item
     ensures told { (room : List ℕ) → take (length write.now.value) room ≡ write.now.value →
         IsEntry (Some write.now) result room }
-    ensures wants { result.value_size ≡ length write.now.value }
+    ensures wants { TellsWrite write.now result }
 {
     let size = write.value().len();
     Item {
@@ -101,11 +102,12 @@ fn write_item(write: &Write) -> Item
 }
 
 /// Hands out a stored write without its key, with its value copied. Where there is too little room, the item tells how
-/// much is needed.
+/// much is needed, and nothing is copied.
 pub(crate) fn hand_write(write: &Write, room: &mut [u8], item: &mut Item) -> u64
     ensures entry { result ≡ 0 → IsEntry (Some write.now) item.new room.new }
     ensures code { result ≡ value_code room.old write.now }
-    ensures wants { item.new.value_size ≡ length write.now.value }
+    ensures wants { TellsWrite write.now item.new }
+    ensures room { ¬ (result ≡ 0) → room.new ≡ room.old }
 {
     *item = write_item(write);
     if copy_into(room, write.value()) {
@@ -198,7 +200,9 @@ fn hand_entry(shown: &Shown<'_>, keys: &mut [u8], values: &mut [u8], item: &mut 
 pub(crate) fn hand(taken: &Taken<'_>, keys: &mut [u8], values: &mut [u8], item: &mut Item) -> u64
     ensures told { result ≡ 0 → told item.new keys.new values.new ≡ answer_item (item_taken taken.now) }
     ensures code { result ≡ taken_code keys.old values.old (answer_item (item_taken taken.now)) }
+    ensures sizes { result ≡ 0 → HasSizes item.new (answer_item (item_taken taken.now)) }
     ensures wants { result ≡ 33 → Wants item.new (answer_item (item_taken taken.now)) }
+    ensures untold { ¬ (result ≡ 0) → ¬ (result ≡ 33) → item.new ≡ item.old }
     ensures room { ¬ (result ≡ 0) → (keys.new ≡ keys.old) × (values.new ≡ values.old) }
 {
     match taken {

@@ -43,6 +43,8 @@ fn refusal_of(code: u64) -> Option<KvError>
 fn copy_own(code: u64, room: &mut [u8], size: &mut usize) -> u64
     ensures own { (name : List ℕ) → own_name code ≡ Some name → IsNamed name room.old result size.new room.new }
     ensures none { own_name code ≡ None → result ≡ 37 }
+    ensures room { ¬ (result ≡ 0) → room.new ≡ room.old }
+    ensures untold { ¬ (result ≡ 0) → ¬ (result ≡ 33) → size.new ≡ size.old }
 {
     match own_name(code) {
         Some(name) => copy_sized(room, name.as_bytes(), size),
@@ -57,6 +59,8 @@ pub extern "C" fn kv_code_name(code: u64, room: &mut [u8], size: &mut usize) -> 
     ensures rules { (e : AnError) → code_of e ≡ code → IsNamed (name_of e) room.old result size.new room.new }
     ensures own { (name : List ℕ) → own_name code ≡ Some name → IsNamed name room.old result size.new room.new }
     ensures none { ((e : AnError) → ¬ (code_of e ≡ code)) → own_name code ≡ None → result ≡ 37 }
+    ensures room { ¬ (result ≡ 0) → room.new ≡ room.old }
+    ensures untold { ¬ (result ≡ 0) → ¬ (result ≡ 33) → size.new ≡ size.old }
 {
     match refusal_of(code) {
         Some(refusal) => copy_sized(room, refusal.name().as_bytes(), size),

@@ -2,7 +2,7 @@
 
 ghost use Rattle.std.specs.Prelude.{◌≡◌, List, Some, IsFalse, is_some};
 ghost use Rattle.std.specs.Option.{option_copied};
-ghost use Rattle.kv_c.specs.Calling.{AreKeys, IsHistory, IsValue, Shows, StandsAt, holds_bucket, version_in};
+ghost use Rattle.kv_c.specs.Calling.{AreKeys, IsHistory, IsValue, Shows, StandsAt, WantsKeys, WantsRead, holds_bucket, version_in};
 ghost use Rattle.kv_c.specs.Codes.{history_code, keys_code, read_code};
 ghost use Rattle.kv_c.specs.Handing.{WantsAt, numbers_told};
 ghost use Rattle.kv_model.specs.Acts.{Act};
@@ -34,6 +34,10 @@ pub extern "C" fn kv_get(
         IsValue (get_of key.now acts) room.new size.new revision.new }
     ensures code { (config : Configuration) (acts : List Act) → Shows config acts handle.old.slot.held →
         ¬ (result ≡ 1) → result ≡ read_code key.now room.old (get_of key.now acts) }
+    ensures wants { result ≡ 33 → (config : Configuration) (acts : List Act) → Shows config acts handle.old.slot.held →
+        WantsRead (get_of key.now acts) size.new revision.new }
+    ensures room { ¬ (result ≡ 0) → room.new ≡ room.old }
+    ensures untold { ¬ (result ≡ 0) → ¬ (result ≡ 33) → (size.new ≡ size.old) × (revision.new ≡ revision.old) }
     ensures unchanged { handle.new.slot.held ≡ handle.old.slot.held }
     ensures closed { IsFalse (is_some (version_in handle.old.slot.held)) → result ≡ 32 }
 {
@@ -62,6 +66,10 @@ pub extern "C" fn kv_view_get(
         IsValue (get_of key.now acts) room.new size.new revision.new }
     ensures code { (config : Configuration) (acts : List Act) → Shows config acts view.old.slot.held →
         ¬ (result ≡ 1) → result ≡ read_code key.now room.old (get_of key.now acts) }
+    ensures wants { result ≡ 33 → (config : Configuration) (acts : List Act) → Shows config acts view.old.slot.held →
+        WantsRead (get_of key.now acts) size.new revision.new }
+    ensures room { ¬ (result ≡ 0) → room.new ≡ room.old }
+    ensures untold { ¬ (result ≡ 0) → ¬ (result ≡ 33) → (size.new ≡ size.old) × (revision.new ≡ revision.old) }
     ensures unchanged { view.new.slot.held ≡ view.old.slot.held }
     ensures closed { IsFalse (is_some (version_in view.old.slot.held)) → result ≡ 32 }
 {
@@ -83,6 +91,10 @@ pub extern "C" fn kv_get_at(
         IsValue (get_at_of config.history key.now at acts) room.new size.new revision.new }
     ensures code { (config : Configuration) (acts : List Act) → Shows config acts handle.old.slot.held →
         ¬ (result ≡ 1) → result ≡ read_code key.now room.old (get_at_of config.history key.now at acts) }
+    ensures wants { result ≡ 33 → (config : Configuration) (acts : List Act) → Shows config acts handle.old.slot.held →
+        WantsRead (get_at_of config.history key.now at acts) size.new revision.new }
+    ensures room { ¬ (result ≡ 0) → room.new ≡ room.old }
+    ensures untold { ¬ (result ≡ 0) → ¬ (result ≡ 33) → (size.new ≡ size.old) × (revision.new ≡ revision.old) }
     ensures unchanged { handle.new.slot.held ≡ handle.old.slot.held }
     ensures closed { IsFalse (is_some (version_in handle.old.slot.held)) → result ≡ 32 }
 {
@@ -112,6 +124,10 @@ pub extern "C" fn kv_view_get_at(
         IsValue (get_at_of config.history key.now at acts) room.new size.new revision.new }
     ensures code { (config : Configuration) (acts : List Act) → Shows config acts view.old.slot.held →
         ¬ (result ≡ 1) → result ≡ read_code key.now room.old (get_at_of config.history key.now at acts) }
+    ensures wants { result ≡ 33 → (config : Configuration) (acts : List Act) → Shows config acts view.old.slot.held →
+        WantsRead (get_at_of config.history key.now at acts) size.new revision.new }
+    ensures room { ¬ (result ≡ 0) → room.new ≡ room.old }
+    ensures untold { ¬ (result ≡ 0) → ¬ (result ≡ 33) → (size.new ≡ size.old) × (revision.new ≡ revision.old) }
     ensures unchanged { view.new.slot.held ≡ view.old.slot.held }
     ensures closed { IsFalse (is_some (version_in view.old.slot.held)) → result ≡ 32 }
 {
@@ -135,7 +151,9 @@ pub extern "C" fn kv_history(
     ensures code { (config : Configuration) (acts : List Act) → Shows config acts handle.old.slot.held →
         ¬ (result ≡ 1) → result ≡ history_code key.now index room.old (history_of config.history key.now acts) }
     ensures wants { result ≡ 33 → (config : Configuration) (acts : List Act) → Shows config acts handle.old.slot.held →
-        WantsAt (history_of config.history key.now acts) index item.new }
+        WantsAt (history_of config.history key.now acts) index count.new item.new }
+    ensures room { ¬ (result ≡ 0) → room.new ≡ room.old }
+    ensures untold { ¬ (result ≡ 0) → ¬ (result ≡ 33) → (item.new ≡ item.old) × (count.new ≡ count.old) }
     ensures unchanged { handle.new.slot.held ≡ handle.old.slot.held }
     ensures closed { IsFalse (is_some (version_in handle.old.slot.held)) → result ≡ 32 }
 {
@@ -166,7 +184,9 @@ pub extern "C" fn kv_view_history(
     ensures code { (config : Configuration) (acts : List Act) → Shows config acts view.old.slot.held →
         ¬ (result ≡ 1) → result ≡ history_code key.now index room.old (history_of config.history key.now acts) }
     ensures wants { result ≡ 33 → (config : Configuration) (acts : List Act) → Shows config acts view.old.slot.held →
-        WantsAt (history_of config.history key.now acts) index item.new }
+        WantsAt (history_of config.history key.now acts) index count.new item.new }
+    ensures room { ¬ (result ≡ 0) → room.new ≡ room.old }
+    ensures untold { ¬ (result ≡ 0) → ¬ (result ≡ 33) → (item.new ≡ item.old) × (count.new ≡ count.old) }
     ensures unchanged { view.new.slot.held ≡ view.old.slot.held }
     ensures closed { IsFalse (is_some (version_in view.old.slot.held)) → result ≡ 32 }
 {
@@ -188,6 +208,10 @@ pub extern "C" fn kv_keys(
         AreKeys (keys_of filter.now acts) count.new size.new room.new }
     ensures code { (config : Configuration) (acts : List Act) → Shows config acts handle.old.slot.held →
         ¬ (result ≡ 1) → result ≡ keys_code filter.now room.old (keys_of filter.now acts) }
+    ensures wants { result ≡ 33 → (config : Configuration) (acts : List Act) → Shows config acts handle.old.slot.held →
+        WantsKeys (keys_of filter.now acts) count.new size.new }
+    ensures room { ¬ (result ≡ 0) → room.new ≡ room.old }
+    ensures untold { ¬ (result ≡ 0) → ¬ (result ≡ 33) → (size.new ≡ size.old) × (count.new ≡ count.old) }
     ensures unchanged { handle.new.slot.held ≡ handle.old.slot.held }
     ensures closed { IsFalse (is_some (version_in handle.old.slot.held)) → result ≡ 32 }
 {
@@ -216,6 +240,10 @@ pub extern "C" fn kv_view_keys(
         AreKeys (keys_of filter.now acts) count.new size.new room.new }
     ensures code { (config : Configuration) (acts : List Act) → Shows config acts view.old.slot.held →
         ¬ (result ≡ 1) → result ≡ keys_code filter.now room.old (keys_of filter.now acts) }
+    ensures wants { result ≡ 33 → (config : Configuration) (acts : List Act) → Shows config acts view.old.slot.held →
+        WantsKeys (keys_of filter.now acts) count.new size.new }
+    ensures room { ¬ (result ≡ 0) → room.new ≡ room.old }
+    ensures untold { ¬ (result ≡ 0) → ¬ (result ≡ 33) → (size.new ≡ size.old) × (count.new ≡ count.old) }
     ensures unchanged { view.new.slot.held ≡ view.old.slot.held }
     ensures closed { IsFalse (is_some (version_in view.old.slot.held)) → result ≡ 32 }
 {
@@ -225,6 +253,7 @@ pub extern "C" fn kv_view_keys(
 fn status_of_bucket(content: &Content, numbers: &mut Numbers) -> u64
     ensures told { (state : State) → StandsAt state (Some content.now) →
         (result ≡ 0) × (answer_to state Status ≡ numbers_told numbers.new) }
+    ensures untold { ¬ (result ≡ 0) → numbers.new ≡ numbers.old }
     ensures closed { IsFalse (holds_bucket (Some content.now)) → result ≡ 32 }
 {
     match content {
@@ -241,6 +270,7 @@ fn status_of_bucket(content: &Content, numbers: &mut Numbers) -> u64
 pub extern "C" fn kv_get_status(alloc: Global, handle: &mut Handle, numbers: &mut Numbers) -> u64
     ensures told { (state : State) → StandsAt state handle.old.slot.held →
         (result ≡ 0) × (answer_to state Status ≡ numbers_told numbers.new) }
+    ensures untold { ¬ (result ≡ 0) → numbers.new ≡ numbers.old }
     ensures unchanged { handle.new.slot.held ≡ handle.old.slot.held }
     ensures closed { IsFalse (holds_bucket handle.old.slot.held) → result ≡ 32 }
 {
@@ -257,6 +287,7 @@ pub extern "C" fn kv_get_status(alloc: Global, handle: &mut Handle, numbers: &mu
 pub extern "C" fn kv_view_get_status(alloc: Global, view: &mut Handle, numbers: &mut Numbers) -> u64
     ensures told { (config : Configuration) (acts : List Act) → Shows config acts view.old.slot.held →
         (result ≡ 0) × (numbers_told numbers.new ≡ Told (status_of config.history acts) 0) }
+    ensures untold { ¬ (result ≡ 0) → numbers.new ≡ numbers.old }
     ensures unchanged { view.new.slot.held ≡ view.old.slot.held }
     ensures closed { IsFalse (is_some (version_in view.old.slot.held)) → result ≡ 32 }
 {

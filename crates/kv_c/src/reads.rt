@@ -2,7 +2,7 @@
 
 ghost use Rattle.std.specs.Prelude.{◌≡◌, List, MatchResult, Some, false, length, map, IfErr, IfOk, is_some, true};
 ghost use Rattle.std.specs.List.{flat_map, slice_get};
-ghost use Rattle.kv_c.specs.Calling.{AreKeys, IsHistory, IsValue};
+ghost use Rattle.kv_c.specs.Calling.{AreKeys, IsHistory, IsValue, WantsKeys, WantsRead};
 ghost use Rattle.kv_c.specs.Codes.{found_code, history_code, keys_code, listed, read_code, value_code};
 ghost use Rattle.kv_c.specs.Handing.{IsEntry, WantsAt, WantsValue};
 ghost use Rattle.kv_keys.specs.Grammar.{is_filter};
@@ -24,9 +24,11 @@ fn show(
     size: &mut usize,
     revision: &mut u64,
 ) -> u64
-    ensures { MatchResult found.entry
-        (λ w. (result ≡ value_code room.old w.now) × (result ≡ 0 → IsValue (Some w.now) room.new size.new revision.new))
-        (λ e. result ≡ code_of e) }
+    ensures found { MatchResult found.entry
+        (λ w. (result ≡ value_code room.old w.now) × (result ≡ 0 → IsValue (Some w.now) room.new size.new revision.new)
+        × WantsRead (Some w.now) size.new revision.new)
+        (λ e. (result ≡ code_of e) × (size.new ≡ size.old) × (revision.new ≡ revision.old)) }
+    ensures room { ¬ (result ≡ 0) → room.new ≡ room.old }
 {
     match found {
         Ok(write) => {
@@ -50,6 +52,10 @@ pub(crate) fn get(
         IsValue (get_of key.now acts) room.new size.new revision.new }
     ensures code { (acts : List Act) → StandsFor acts version.now → ¬ (result ≡ 1) →
         result ≡ read_code key.now room.old (get_of key.now acts) }
+    ensures wants { result ≡ 33 → (acts : List Act) → StandsFor acts version.now →
+        WantsRead (get_of key.now acts) size.new revision.new }
+    ensures room { ¬ (result ≡ 0) → room.new ≡ room.old }
+    ensures untold { ¬ (result ≡ 0) → ¬ (result ≡ 33) → (size.new ≡ size.old) × (revision.new ≡ revision.old) }
 {
     match key_of(alloc, key) {
         Ok(key) => show(version.get(&key), room, size, revision),
@@ -71,6 +77,10 @@ pub(crate) fn get_at(
         IsValue (get_at_of version.now.config.history key.now at acts) room.new size.new revision.new }
     ensures code { (acts : List Act) → StandsFor acts version.now → ¬ (result ≡ 1) →
         result ≡ read_code key.now room.old (get_at_of version.now.config.history key.now at acts) }
+    ensures wants { result ≡ 33 → (acts : List Act) → StandsFor acts version.now →
+        WantsRead (get_at_of version.now.config.history key.now at acts) size.new revision.new }
+    ensures room { ¬ (result ≡ 0) → room.new ≡ room.old }
+    ensures untold { ¬ (result ≡ 0) → ¬ (result ≡ 33) → (size.new ≡ size.old) × (revision.new ≡ revision.old) }
 {
     match key_of(alloc, key) {
         Ok(key) => show(version.get_at(&key, at), room, size, revision),
@@ -83,6 +93,7 @@ fn show_at(found: &[&Write], index: usize, room: &mut [u8], item: &mut Item) -> 
     ensures entry { result ≡ 0 → IsEntry (slice_get (map (λ w. w.now) found.now) index) item.new room.new }
     ensures code { result ≡ found_code room.old (slice_get (map (λ w. w.now) found.now) index) }
     ensures wants { result ≡ 33 → WantsValue (slice_get (map (λ w. w.now) found.now) index) item.new }
+    ensures room { ¬ (result ≡ 0) → room.new ≡ room.old }
 {
     match found.get(index) {
         Some(write) => hand_write(write, room, item),
@@ -110,7 +121,9 @@ pub(crate) fn history(
     ensures code { (acts : List Act) → StandsFor acts version.now → ¬ (result ≡ 1) →
         result ≡ history_code key.now index room.old (history_of version.now.config.history key.now acts) }
     ensures wants { result ≡ 33 → (acts : List Act) → StandsFor acts version.now →
-        WantsAt (history_of version.now.config.history key.now acts) index item.new }
+        WantsAt (history_of version.now.config.history key.now acts) index count.new item.new }
+    ensures room { ¬ (result ≡ 0) → room.new ≡ room.old }
+    ensures untold { ¬ (result ≡ 0) → ¬ (result ≡ 33) → (item.new ≡ item.old) × (count.new ≡ count.old) }
 {
     let key = match key_of(alloc, key) {
         Ok(key) => key,
@@ -165,6 +178,10 @@ pub(crate) fn keys(
         AreKeys (keys_of filter.now acts) count.new size.new room.new }
     ensures code { (acts : List Act) → StandsFor acts version.now → ¬ (result ≡ 1) →
         result ≡ keys_code filter.now room.old (keys_of filter.now acts) }
+    ensures wants { result ≡ 33 → (acts : List Act) → StandsFor acts version.now →
+        WantsKeys (keys_of filter.now acts) count.new size.new }
+    ensures room { ¬ (result ≡ 0) → room.new ≡ room.old }
+    ensures untold { ¬ (result ≡ 0) → ¬ (result ≡ 33) → (size.new ≡ size.old) × (count.new ≡ count.old) }
 {
     match matching(alloc, version, filter) {
         Ok((found, text)) => {

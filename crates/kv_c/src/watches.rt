@@ -5,7 +5,7 @@ ghost use Rattle.kv_bucket.specs.Held.{Represents};
 ghost use Rattle.kv_bucket.specs.Stepping.{IsStep};
 ghost use Rattle.kv_c.specs.Calling.{StandsAt, Steps, holds_bucket, options_asked};
 ghost use Rattle.kv_c.specs.Codes.{answer_code, taken_code, watch_code};
-ghost use Rattle.kv_c.specs.Handing.{Wants, told};
+ghost use Rattle.kv_c.specs.Handing.{HasSizes, Wants, told};
 ghost use Rattle.kv_keys.specs.Grammar.{parts};
 ghost use Rattle.kv_model.specs.Answers.{Ended, Refused, Watching};
 ghost use Rattle.kv_model.specs.State.{State, after, answer_to};
@@ -32,6 +32,7 @@ fn opened(
         IsStep bucket.old (Watch (parts filters.now) options) (Watching number.new) bucket.new }
     ensures code { (state : State) → Represents state bucket.old → ¬ (result ≡ 1) →
         result ≡ watch_code filters.now state }
+    ensures untold { ¬ (result ≡ 0) → number.new ≡ number.old }
     ensures refused { ¬ (result ≡ 0) → bucket.new ≡ bucket.old }
 {
     match filters_of(alloc, filters) {
@@ -52,6 +53,7 @@ fn watch(
         (Some content.old) (Some content.new) }
     ensures code { (state : State) → StandsAt state (Some content.old) → ¬ (result ≡ 1) →
         result ≡ (if nat_lt 3 wanted.now.start then 35 else watch_code filters.now state) }
+    ensures untold { ¬ (result ≡ 0) → number.new ≡ number.old }
     ensures refused { ¬ (result ≡ 0) → content.new ≡ content.old }
     ensures closed { IsFalse (holds_bucket (Some content.old)) → result ≡ 32 }
 {
@@ -78,6 +80,7 @@ pub extern "C" fn kv_watch(
         handle.old.slot.held handle.new.slot.held }
     ensures code { (state : State) → StandsAt state handle.old.slot.held → ¬ (result ≡ 1) →
         result ≡ (if nat_lt 3 wanted.now.start then 35 else watch_code filters.now state) }
+    ensures untold { ¬ (result ≡ 0) → number.new ≡ number.old }
     ensures refused { ¬ (result ≡ 0) → handle.new.slot.held ≡ handle.old.slot.held }
     ensures closed { IsFalse (holds_bucket handle.old.slot.held) → result ≡ 32 }
 {
@@ -102,10 +105,13 @@ fn take_from(
         × Represents (after state (Take number)) bucket.new }
     ensures code { (state : State) → Represents state bucket.old →
         result ≡ taken_code keys.old values.old (answer_to state (Take number)) }
+    ensures sizes { result ≡ 0 → (state : State) → Represents state bucket.old →
+        HasSizes item.new (answer_to state (Take number)) }
     ensures wants { result ≡ 33 → (state : State) → Represents state bucket.old →
         Wants item.new (answer_to state (Take number)) }
     ensures refused { ¬ (result ≡ 0) → bucket.new ≡ bucket.old }
     ensures room { ¬ (result ≡ 0) → (keys.new ≡ keys.old) × (values.new ≡ values.old) }
+    ensures untold { ¬ (result ≡ 0) → ¬ (result ≡ 33) → item.new ≡ item.old }
 {
     let (done, event) = match bucket.peek(number) {
         Ok(taken) => (handing::hand(&taken, keys, values, item), taken.event()),
@@ -129,10 +135,13 @@ fn take(
         × StandsAt (after state (Take number)) (Some content.new) }
     ensures code { (state : State) → StandsAt state (Some content.old) →
         result ≡ taken_code keys.old values.old (answer_to state (Take number)) }
+    ensures sizes { result ≡ 0 → (state : State) → StandsAt state (Some content.old) →
+        HasSizes item.new (answer_to state (Take number)) }
     ensures wants { result ≡ 33 → (state : State) → StandsAt state (Some content.old) →
         Wants item.new (answer_to state (Take number)) }
     ensures refused { ¬ (result ≡ 0) → content.new ≡ content.old }
     ensures room { ¬ (result ≡ 0) → (keys.new ≡ keys.old) × (values.new ≡ values.old) }
+    ensures untold { ¬ (result ≡ 0) → ¬ (result ≡ 33) → item.new ≡ item.old }
     ensures closed { IsFalse (holds_bucket (Some content.old)) → result ≡ 32 }
 {
     match content {
@@ -157,10 +166,13 @@ pub extern "C" fn kv_take(
         × StandsAt (after state (Take number)) handle.new.slot.held }
     ensures code { (state : State) → StandsAt state handle.old.slot.held →
         result ≡ taken_code keys.old values.old (answer_to state (Take number)) }
+    ensures sizes { result ≡ 0 → (state : State) → StandsAt state handle.old.slot.held →
+        HasSizes item.new (answer_to state (Take number)) }
     ensures wants { result ≡ 33 → (state : State) → StandsAt state handle.old.slot.held →
         Wants item.new (answer_to state (Take number)) }
     ensures refused { ¬ (result ≡ 0) → handle.new.slot.held ≡ handle.old.slot.held }
     ensures room { ¬ (result ≡ 0) → (keys.new ≡ keys.old) × (values.new ≡ values.old) }
+    ensures untold { ¬ (result ≡ 0) → ¬ (result ≡ 33) → item.new ≡ item.old }
     ensures closed { IsFalse (holds_bucket handle.old.slot.held) → result ≡ 32 }
 {
     let Some(mut content) = handle.take(alloc) else {
@@ -184,6 +196,7 @@ fn stop(content: &mut Content, number: u64, handed: &mut u64) -> u64
     ensures stopped { result ≡ 0 → Steps (Stop number) (Ended handed.new) (Some content.old) (Some content.new) }
     ensures code { (state : State) → StandsAt state (Some content.old) →
         result ≡ answer_code (answer_to state (Stop number)) }
+    ensures untold { ¬ (result ≡ 0) → handed.new ≡ handed.old }
     ensures refused { ¬ (result ≡ 0) → content.new ≡ content.old }
     ensures closed { IsFalse (holds_bucket (Some content.old)) → result ≡ 32 }
 {
@@ -200,6 +213,7 @@ pub extern "C" fn kv_stop(alloc: Global, handle: &mut Handle, number: u64, hande
         Steps (Stop number) (Ended handed.new) handle.old.slot.held handle.new.slot.held }
     ensures code { (state : State) → StandsAt state handle.old.slot.held →
         result ≡ answer_code (answer_to state (Stop number)) }
+    ensures untold { ¬ (result ≡ 0) → handed.new ≡ handed.old }
     ensures refused { ¬ (result ≡ 0) → handle.new.slot.held ≡ handle.old.slot.held }
     ensures closed { IsFalse (holds_bucket handle.old.slot.held) → result ≡ 32 }
 {

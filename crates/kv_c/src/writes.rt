@@ -12,7 +12,7 @@ ghost use Rattle.kv_model.specs.State.{State};
 ghost use Rattle.kv_model.specs.declared.call.Call.TheVariants.{Seal};
 
 use crate::asking;
-use crate::codes::{CLOSED, hand_out};
+use crate::codes::{CLOSED, refuse_write};
 use crate::content::Content;
 use crate::handle::Handle;
 use kv_bucket::{Bucket, KvError, Request};
@@ -28,10 +28,17 @@ fn write_to(bucket: &mut Bucket, request: Result<Request, KvError>, revision: &m
     ensures last { result ≡ 11 → (what : Asked) → IsAsked what request → (state : State) →
         Represents state bucket.old →
         outcome what state ≡ Err (WrongLastRevision revision.new) }
+    ensures untold { ¬ (result ≡ 0) → ¬ (result ≡ 11) → revision.new ≡ revision.old }
     ensures refused { ¬ (result ≡ 0) → bucket.new ≡ bucket.old }
 {
     match request {
-        Ok(request) => hand_out(bucket.write(&request), revision),
+        Ok(request) => match bucket.write(&request) {
+            Ok(given) => {
+                *revision = given;
+                0
+            }
+            Err(refusal) => refuse_write(refusal, revision),
+        },
         Err(refusal) => refusal.code(),
     }
 }
@@ -43,6 +50,7 @@ fn write_in(content: &mut Content, request: Result<Request, KvError>, revision: 
         ¬ (result ≡ 1) → result ≡ code_by accepted (outcome what state) }
     ensures last { result ≡ 11 → (what : Asked) → IsAsked what request → (state : State) →
         StandsAt state (Some content.old) → outcome what state ≡ Err (WrongLastRevision revision.new) }
+    ensures untold { ¬ (result ≡ 0) → ¬ (result ≡ 11) → revision.new ≡ revision.old }
     ensures refused { ¬ (result ≡ 0) → content.new ≡ content.old }
     ensures closed { IsFalse (holds_bucket (Some content.old)) → result ≡ 32 }
 {
@@ -64,6 +72,7 @@ fn write(
         ¬ (result ≡ 1) → result ≡ code_by accepted (outcome what state) }
     ensures last { result ≡ 11 → (what : Asked) → IsAsked what request → (state : State) →
         StandsAt state handle.old.slot.held → outcome what state ≡ Err (WrongLastRevision revision.new) }
+    ensures untold { ¬ (result ≡ 0) → ¬ (result ≡ 11) → revision.new ≡ revision.old }
     ensures refused { ¬ (result ≡ 0) → handle.new.slot.held ≡ handle.old.slot.held }
     ensures closed { IsFalse (holds_bucket handle.old.slot.held) → result ≡ 32 }
 {
@@ -88,6 +97,7 @@ pub extern "C" fn kv_put(
         Accepts (put key.now value.now) handle.old.slot.held revision.new handle.new.slot.held }
     ensures code { (state : State) → StandsAt state handle.old.slot.held → ¬ (result ≡ 1) →
         result ≡ code_by accepted (outcome (put key.now value.now) state) }
+    ensures untold { ¬ (result ≡ 0) → ¬ (result ≡ 11) → revision.new ≡ revision.old }
     ensures refused { ¬ (result ≡ 0) → handle.new.slot.held ≡ handle.old.slot.held }
     ensures closed { IsFalse (holds_bucket handle.old.slot.held) → result ≡ 32 }
 {
@@ -107,6 +117,7 @@ pub extern "C" fn kv_create(
         Accepts (create key.now value.now) handle.old.slot.held revision.new handle.new.slot.held }
     ensures code { (state : State) → StandsAt state handle.old.slot.held → ¬ (result ≡ 1) →
         result ≡ code_by accepted (outcome (create key.now value.now) state) }
+    ensures untold { ¬ (result ≡ 0) → ¬ (result ≡ 11) → revision.new ≡ revision.old }
     ensures refused { ¬ (result ≡ 0) → handle.new.slot.held ≡ handle.old.slot.held }
     ensures closed { IsFalse (holds_bucket handle.old.slot.held) → result ≡ 32 }
 {
@@ -129,6 +140,7 @@ pub extern "C" fn kv_update(
         result ≡ code_by accepted (outcome (update key.now value.now last) state) }
     ensures last { result ≡ 11 → (state : State) → StandsAt state handle.old.slot.held →
         outcome (update key.now value.now last) state ≡ Err (WrongLastRevision revision.new) }
+    ensures untold { ¬ (result ≡ 0) → ¬ (result ≡ 11) → revision.new ≡ revision.old }
     ensures refused { ¬ (result ≡ 0) → handle.new.slot.held ≡ handle.old.slot.held }
     ensures closed { IsFalse (holds_bucket handle.old.slot.held) → result ≡ 32 }
 {
@@ -156,6 +168,7 @@ pub extern "C" fn kv_delete(
         result ≡ code_by accepted (outcome (delete key.now (if_given has_last last)) state) }
     ensures last { result ≡ 11 → (state : State) → StandsAt state handle.old.slot.held →
         outcome (delete key.now (if_given has_last last)) state ≡ Err (WrongLastRevision revision.new) }
+    ensures untold { ¬ (result ≡ 0) → ¬ (result ≡ 11) → revision.new ≡ revision.old }
     ensures refused { ¬ (result ≡ 0) → handle.new.slot.held ≡ handle.old.slot.held }
     ensures closed { IsFalse (holds_bucket handle.old.slot.held) → result ≡ 32 }
 {
@@ -183,6 +196,7 @@ pub extern "C" fn kv_purge(
         result ≡ code_by accepted (outcome (purge key.now (if_given has_last last)) state) }
     ensures last { result ≡ 11 → (state : State) → StandsAt state handle.old.slot.held →
         outcome (purge key.now (if_given has_last last)) state ≡ Err (WrongLastRevision revision.new) }
+    ensures untold { ¬ (result ≡ 0) → ¬ (result ≡ 11) → revision.new ≡ revision.old }
     ensures refused { ¬ (result ≡ 0) → handle.new.slot.held ≡ handle.old.slot.held }
     ensures closed { IsFalse (holds_bucket handle.old.slot.held) → result ≡ 32 }
 {
