@@ -13,3 +13,4 @@ pub mod Leaving
 pub mod OneMatch
 pub mod Asking
 pub mod LookingUp
+pub mod Turned

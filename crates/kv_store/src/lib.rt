@@ -9,6 +9,7 @@ mod compacting;
 mod entries;
 mod gather;
 mod kept;
+pub mod laws;
 mod left;
 mod listed;
 mod literal;
