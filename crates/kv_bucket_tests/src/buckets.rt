@@ -2,6 +2,7 @@
 //! it was, and the same call, made again, goes on.
 
 use crate::equal::equal;
+use crate::same::tell_the_same;
 use kv_bucket::{
     Bucket, Call, Config, Filter, Filters, Key, KvError, Options, Reply, Request, Start, Status,
     Taken,
@@ -79,22 +80,16 @@ fn lacks_memory(answer: Answer) -> bool {
     matches!(answer, Answer::Refused(KvError::OutOfMemory))
 }
 
-// What can be seen of a bucket with two watches at most: its numbers, how many watches it has, and what each is given
-// next.
-#[derive(Clone, Copy, Debug, PartialEq, Eq)]
-struct Sight {
-    status: Status,
-    watches: u64,
-    first: Answer,
-    second: Answer,
-}
+// No row opens a watch of a greater number.
+const LAST_WATCH: u64 = 65;
 
-fn look(bucket: &Bucket) -> Sight {
-    Sight {
-        status: bucket.version().status(),
-        watches: bucket.watches(),
-        first: asking::taken(bucket.peek(1)),
-        second: asking::taken(bucket.peek(2)),
+// Two buckets look alike: by their versions, by how many watches each has, and by what each of these is given next.
+fn look_alike(rt: &impl Abort, first: &Bucket, second: &Bucket) {
+    tell_the_same(rt, first.version(), second.version());
+    equal(rt, first.watches(), second.watches());
+    for number in 1..=LAST_WATCH {
+        let next = asking::taken(first.peek(number));
+        equal(rt, next, asking::taken(second.peek(number)));
     }
 }
 

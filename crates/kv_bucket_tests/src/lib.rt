@@ -7,7 +7,11 @@ mod buckets;
 #[cfg(test)]
 mod equal;
 #[cfg(test)]
+mod handed_on;
+#[cfg(test)]
 mod names;
+#[cfg(test)]
+mod same;
 #[cfg(test)]
 mod tries;
 #[cfg(test)]

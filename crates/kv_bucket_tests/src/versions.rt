@@ -9,6 +9,7 @@ use std::alloc::Global;
 use std::process::Abort;
 use std::test::Fail;
 
+mod at_once;
 mod compacted;
 mod configuration;
 mod driving;

@@ -1,5 +1,5 @@
-//! Asks by the calls of a bucket. A call that is refused changes nothing there, and one that is refused for memory is
-//! made once more.
+//! Asks by the calls of a bucket. After a call that is refused the bucket looks like its twin, of which only the rows
+//! before were asked, and one that is refused for memory is made once more.
 
 use super::*;
 
@@ -108,10 +108,23 @@ fn ask_once(rt: &impl Abort, alloc: Global, bucket: &mut Bucket, ask: Ask) -> An
 }
 
 fn ask(rt: &impl Abort, alloc: Global, bucket: &mut Bucket, ask: Ask) -> Answer {
-    let before = look(bucket);
+    let answer = ask_once(rt, alloc, bucket, ask);
+    if lacks_memory(answer) {
+        return ask_once(rt, alloc, bucket, ask);
+    }
+    answer
+}
+
+fn ask_beside(
+    rt: &impl Abort,
+    alloc: Global,
+    bucket: &mut Bucket,
+    twin: &Bucket,
+    ask: Ask,
+) -> Answer {
     let answer = ask_once(rt, alloc, bucket, ask);
     if is_refused(answer) {
-        equal(rt, look(bucket), before);
+        look_alike(rt, bucket, twin);
     }
     if lacks_memory(answer) {
         return ask_once(rt, alloc, bucket, ask);
@@ -119,6 +132,21 @@ fn ask(rt: &impl Abort, alloc: Global, bucket: &mut Bucket, ask: Ask) -> Answer 
     answer
 }
 
+// Each row is asked of the bucket and then of its twin.
+pub(super) fn ask_each_beside(
+    rt: &impl Abort,
+    alloc: Global,
+    bucket: &mut Bucket,
+    twin: &mut Bucket,
+    rows: &[Row],
+) {
+    for row in rows {
+        equal(rt, ask_beside(rt, alloc, bucket, twin, row.0), row.1);
+        equal(rt, ask(rt, alloc, twin, row.0), row.1);
+    }
+}
+
+// Each row is asked of one bucket alone.
 pub(super) fn ask_each(rt: &impl Abort, alloc: Global, bucket: &mut Bucket, rows: &[Row]) {
     for row in rows {
         equal(rt, ask(rt, alloc, bucket, row.0), row.1);

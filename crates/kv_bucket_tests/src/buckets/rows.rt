@@ -2,10 +2,21 @@
 
 use super::*;
 
-fn by_calls(rt: &impl Abort, alloc: Global, limits: Limits, rows: &[Row]) -> Result<(), KvError> {
+fn by_calls_beside(
+    rt: &impl Abort,
+    alloc: Global,
+    limits: Limits,
+    twin: &mut Bucket,
+    rows: &[Row],
+) -> Result<(), KvError> {
     let mut bucket = open(alloc, "kv", limits)?;
-    asking::ask_each(rt, alloc, &mut bucket, rows);
+    asking::ask_each_beside(rt, alloc, &mut bucket, twin, rows);
     Ok(())
+}
+
+fn by_calls(rt: &impl Abort, alloc: Global, limits: Limits, rows: &[Row]) -> Result<(), KvError> {
+    let mut twin = open(alloc, "kv", limits)?;
+    by_calls_beside(rt, alloc, limits, &mut twin, rows)
 }
 
 fn in_a_run(rt: &impl Abort, alloc: Global, limits: Limits, rows: &[Row]) -> Result<(), KvError> {
@@ -75,18 +86,24 @@ const AFTER_THE_MOST: &[Row] = &[
     (Ask::Status, Answer::Status(EMPTY, 64)),
 ];
 
-fn fill(rt: &impl Abort, alloc: Global, bucket: &mut Bucket) {
+fn fill(rt: &impl Abort, alloc: Global, bucket: &mut Bucket, twin: &mut Bucket) {
     for number in 1..65u64 {
         let row = (Ask::Watch(">"), Answer::Watch(number));
-        asking::ask_each(rt, alloc, bucket, &[row]);
+        asking::ask_each_beside(rt, alloc, bucket, twin, &[row]);
     }
-    asking::ask_each(rt, alloc, bucket, AFTER_THE_MOST);
+    asking::ask_each_beside(rt, alloc, bucket, twin, AFTER_THE_MOST);
+}
+
+fn fill_beside(rt: &impl Abort, alloc: Global, twin: &mut Bucket) -> Result<(), KvError> {
+    let mut bucket = open(alloc, "kv", keeping(1))?;
+    fill(rt, alloc, &mut bucket, twin);
+    Ok(())
 }
 
 #[test]
 fn sixty_four_watches(rt: HostRuntime) -> Result<(), Fail> {
-    let mut bucket = open(rt.alloc(), "kv", keeping(1))?;
-    fill(&rt, rt.alloc(), &mut bucket);
+    let mut twin = open(rt.alloc(), "kv", keeping(1))?;
+    fill_beside(&rt, rt.alloc(), &mut twin)?;
     Ok(())
 }
 

@@ -45,7 +45,7 @@ fn looks_asked(
 ) -> Result<(), KvError> {
     let mut other = open(alloc, "kv", limits)?;
     asking::ask_each(rt, alloc, &mut other, rows);
-    equal(rt, look(bucket), look(&other));
+    look_alike(rt, bucket, &other);
     Ok(())
 }
 

@@ -2,47 +2,26 @@
 //! so each of the two is an equal one, built apart, beside which the other is held.
 
 use super::*;
+use crate::same::tell_the_same;
 
 fn empty_once(alloc: Global, limits: Limits) -> Result<Version, KvError> {
     let config = limited(alloc, "kv", limits)?;
     Version::empty(alloc, &config)
 }
 
-fn empty(alloc: Global, limits: Limits) -> Result<Version, KvError> {
+pub(super) fn empty(alloc: Global, limits: Limits) -> Result<Version, KvError> {
     match empty_once(alloc, limits) {
         Err(KvError::OutOfMemory) => empty_once(alloc, limits),
         version => version,
     }
 }
 
-fn same_write(first: &Write, second: &Write) -> bool {
-    first.key() == second.key()
-        && first.op() == second.op()
-        && first.revision() == second.revision()
-        && first.value() == second.value()
-}
-
-// Whether both have the same write at the revision, and the same kept revisions of its key.
-fn same_at(first: &Version, second: &Version, revision: u64) -> bool {
-    match (first.write_at(revision), second.write_at(revision)) {
-        (Some(one), Some(other)) => {
-            same_write(one, other) && first.kept_at(one.key()) == second.kept_at(one.key())
-        }
-        (None, None) => true,
-        _ => false,
-    }
-}
-
-fn tell_the_same(rt: &impl Abort, first: &Version, second: &Version) {
-    equal(rt, first.status(), second.status());
-    equal(rt, first.floor(), second.floor());
-    equal(rt, first.by_key().len(), second.by_key().len());
-    for revision in 1..=first.revision() {
-        assert!(rt; same_at(first, second, revision));
-    }
-}
-
-fn made_once(alloc: Global, version: &Version, text: &str, ask: Ask) -> Result<Version, KvError> {
+pub(super) fn made_once(
+    alloc: Global,
+    version: &Version,
+    text: &str,
+    ask: Ask,
+) -> Result<Version, KvError> {
     match ask {
         Ask::Seal => version.seal(alloc),
         Ask::Compact(floor) => version.compact(alloc, floor),
