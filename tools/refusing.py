@@ -70,9 +70,24 @@ def each(command, shim, folder, numbers, stdin=os.devnull):
     return [Run(at, refused.get(at, False), ended[at], *written[at]) for at in numbers]
 
 
+# A test or row that makes so many requests has each of them refused, and of one that makes more a sample is.
+MOST = 20000
+
+
+def step_of(requests, most):
+    """One in how many requests is refused, where so many are at most."""
+    return max(1, -(-requests // most))
+
+
+def told_of(requests, most):
+    """What is printed of a sample, and nothing where each request is refused."""
+    step = step_of(requests, most)
+    return ", a sample: one in %d" % step if step > 1 else ""
+
+
 def in_turn(pool, jobs, command, shim, folder, requests, most, stdin=os.devnull):
     """The runs with each of so many requests refused, or with so many of them at most, spread over all."""
-    step = max(1, -(-requests // most))
+    step = step_of(requests, most)
     firsts = range(1, min(requests, step * jobs) + 1, step)
     parts = pool.map(lambda first: each(command, shim, folder, range(first, requests + 1, step * jobs), stdin), firsts)
     return sorted(run for part in parts for run in part)
