@@ -97,7 +97,7 @@ struct Round {
     there: u64,
 }
 
-fn round<R: Clock>(rt: &R, alloc: Global, plan: Plan) -> Result<Round, Fault> {
+fn measure<R: Clock>(rt: &R, alloc: Global, plan: Plan) -> Result<Round, Fault> {
     let (bucket, new) = grown(rt, alloc, plan.keys)?;
     let mut bucket = bucket;
     let asked = spread(alloc, plan.keys, plan.asked())?;
@@ -117,7 +117,7 @@ pub fn run<R: Clock + Print>(rt: &R, alloc: Global, plan: Plan) -> Result<(), Fa
     let mut get = series(alloc, plan, "get");
     let mut there = series(alloc, plan, "put, key that is there");
     for _ in 0..plan.rounds {
-        let took = round(rt, alloc, plan)?;
+        let took = measure(rt, alloc, plan)?;
         new.add(took.new)?;
         get.add(took.get)?;
         there.add(took.there)?;
