@@ -6,6 +6,7 @@ ghost use Rattle.kv_model.specs.State.{State};
 ghost use Rattle.kv_keys.specs.declared.error.KvError.TheVariants.{OutOfMemory};
 ghost use Rattle.kv_script.specs.Commands.{Take, line_command, meaning_of};
 ghost use Rattle.kv_script.specs.Text.{refusal_text};
+ghost use Rattle.kv_script.specs.declared.form.Form.TheVariants.{Base64};
 ghost use Rattle.kv_replay.specs.Faults.{IsRefusal, IsWriteOrMemory};
 ghost use Rattle.kv_replay.specs.Steps.{Does, EndsBetween, EndsEarly};
 ghost use Rattle.kv_replay.specs.Text.{line_steps, steps, steps_next, steps_text, takes};
@@ -60,15 +61,36 @@ fn answer_command(
 
 /// Answers a line without its end, and without the carriage return before that.
 ///
-/// Values stand in the line and in its answers in this form. The answer lines are appended. After want of memory the
+/// Values stand in the line and in its answers in base64. The answer lines are appended. After want of memory the
 /// first calls of the line were made, and these were answered but perhaps for the last. Only `take` makes more than
 /// one, and each that it made was answered.
 pub fn answer_line(
     alloc: Global,
-    form: Form,
     bucket: &mut Bucket,
     line: &[u8],
     out: &mut Vec<u8>,
+) -> Result<(), KvError>
+    ensures ok { OnOk result ((state : State) → Represents state bucket.old →
+        Does state (line_steps Base64 state line.now) out.old.items out.new.items bucket.new) }
+    ensures err { OnErr result ((state : State) → Represents state bucket.old →
+        EndsEarly state (line_steps Base64 state line.now) out.old.items out.new.items bucket.new) }
+    // Of takes none was made that was not shown.
+    ensures shown { OnErr result ((watch count : ℕ) → line_command Base64 line.now ≡ Ok (Take watch count) →
+        (state : State) →
+        Represents state bucket.old →
+        EndsBetween state (takes Base64 watch count state) out.old.items out.new.items bucket.new) }
+    ensures memory { IfErr result (λ e. e ≡ OutOfMemory) }
+{
+    answer_line_in(alloc, bucket, line, out, Form::Base64)
+}
+
+/// The same, where values stand in the line and in its answers in this form.
+pub fn answer_line_in(
+    alloc: Global,
+    bucket: &mut Bucket,
+    line: &[u8],
+    out: &mut Vec<u8>,
+    form: Form,
 ) -> Result<(), KvError>
     ensures ok { OnOk result ((state : State) → Represents state bucket.old →
         Does state (line_steps form state line.now) out.old.items out.new.items bucket.new) }

@@ -16,7 +16,7 @@ mod takes;
 mod watches;
 mod writes;
 
-pub use answer::answer_line;
+pub use answer::{answer_line, answer_line_in};
 pub use bounded_input::{Bounded, BoundedInput};
 pub use engine::{BUFFER_BYTES, new_buffer, run_script};
 pub use input::{CountedReader, Input};
@@ -27,4 +27,4 @@ pub use kv_bucket::{
 pub use kv_script::Form;
 pub use lines::KEPT_BYTES;
 pub use output::{CountedWriter, Output};
-pub use streams::{READ_CALLS, replay, replay_bounded};
+pub use streams::{READ_CALLS, replay, replay_bounded, replay_bounded_in, replay_in};

@@ -1,6 +1,6 @@
 use Rattle.std.proofs.Common.{rules}
 use Rattle.kv_replay.proofs.Counting.{asked_so_often}
-use Rattle.kv_replay.proofs.streams.replay_bounded.Goals as goal
+use Rattle.kv_replay.proofs.streams.replay_bounded_in.Goals as goal
 
 pub returns-clause-read_fault : goal.returns-clause-read_fault
 returns-clause-read_fault g c = λ fault.

@@ -2,7 +2,7 @@ use Rattle.std.proofs.Common.{◌++◌, Err, append-nil, sym, ap, ◌∙◌}
 use Rattle.std.proofs.lemmas.Result.{on_ok_weaker, on_err_weaker}
 use Rattle.kv_replay.proofs.Parsing.{line_steps-skipped, line_steps-read, on_ok_both, refused_by}
 use Rattle.kv_replay.proofs.Taking.{between_at_once, ends_at_once, read_take}
-use Rattle.kv_replay.proofs.answer.answer_line.Goals as goal
+use Rattle.kv_replay.proofs.answer.answer_line_in.Goals as goal
 
 pub returns-then-is_skipped-clause-ok : goal.returns-then-is_skipped-clause-ok
 returns-then-is_skipped-clause-ok c = λ state r.
