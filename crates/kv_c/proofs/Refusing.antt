@@ -1,5 +1,5 @@
 -- The number of a refusal is that of the outcome that the rules give, but for want of memory.
-use Rattle.std.proofs.Common.{◌≡◌, ℕ, refl, ap, sym, ◌∙◌}
+use Rattle.std.proofs.Common.{◌≡◌, ℕ, refl, ap, sym}
 use Rattle.std.specs.Prelude.{Result, Ok, Err}
 use Rattle.kv_c.specs.Codes.{accepted, code_by}
 use Rattle.kv_model.specs.Answers.{Compacted}
