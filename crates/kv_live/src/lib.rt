@@ -16,8 +16,9 @@ pub use cached::Cached;
 pub use feed::Feed;
 pub use keeper::Keeper;
 pub use kv_bucket::{
-    Bucket, Call, Config, Event, Filter, Filters, Key, KvError, Op, Options, Reply, Request, Seen,
-    Shown, Start, Status, Stopped, Taken, Version, Write,
+    Bucket, Call, Config, Cursor, Event, Filter, Filters, Kept, Key, KvError, Op, Options, Place,
+    Reply, Request, Rev, Seen, Short, Shown, Start, Status, Stopped, Taken, Trie, Version, Visit,
+    Write, fnv32, given,
 };
 pub use kv_log::{LiveName, Woken};
 pub use live::{Live, Opened};
