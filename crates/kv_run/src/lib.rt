@@ -13,8 +13,8 @@ pub use kv_bucket::{
 };
 pub use kv_race::{Gate, NoGate, Report, Who, race};
 pub use kv_replay::{
-    Bounded, BoundedInput, CountedReader, CountedWriter, Form, Input, Output, answer_line, replay,
-    replay_bounded, run_script,
+    Bounded, BoundedInput, CountedReader, CountedWriter, Form, Input, Output, answer_line,
+    answer_line_in, replay, replay_bounded, replay_bounded_in, replay_in, run_script,
 };
 pub use races::over_scripts::{race_script, replay_race};
 pub use running::program;

@@ -15,7 +15,7 @@ use crate::races::over_scripts::replay_race;
 use clap::Error;
 use clap::error::ErrorKind;
 use kv_keys::KvError;
-use kv_replay::{Input, Output, replay};
+use kv_replay::{Input, Output, replay_in};
 use std::alloc::Global;
 use std::sync::Wait;
 use std::thread::Threads;
@@ -40,7 +40,7 @@ fn run<T: Threads + Wait + Sync, R: Input, W: Output>(
     let form = arguments.form();
     match arguments.race() {
         Some(workers) => replay_race(rt, alloc, reader, writer, &config, form, workers as usize),
-        None => replay(alloc, reader, writer, &config, form),
+        None => replay_in(alloc, reader, writer, &config, form),
     }
 }
 

@@ -3,7 +3,7 @@
 
 use kv_keys::KvError;
 use kv_model::Config;
-use kv_run::{CountedReader, CountedWriter, Form, program, replay, replay_bounded};
+use kv_run::{CountedReader, CountedWriter, Form, Input, Output, program, replay, replay_bounded};
 use std::alloc::{AllocError, Global};
 use std::fmt::Debug;
 use std::process::Abort;
@@ -13,8 +13,10 @@ mod adapters;
 mod devices;
 mod ends_of_lines;
 mod failing;
+mod first;
 mod lines;
 mod programs;
+mod watching;
 
 // The configuration that is named where no other is.
 fn named(alloc: Global) -> Result<Config, KvError> {

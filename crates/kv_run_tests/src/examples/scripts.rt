@@ -3,13 +3,13 @@
 use super::*;
 use kv_keys::KvError;
 use kv_model::Config;
-use kv_run::{CountedReader, CountedWriter, Form, replay};
+use kv_run::{CountedReader, CountedWriter, Form, replay_in};
 
 fn run_script(rt: &impl Abort, alloc: Global) -> Result<(), KvError> {
     let config = Config::named(alloc, "settings")?;
     let mut script: &[u8] = b"put app.port 80\nget app.port\nput app..port 80\n";
     let mut answers: Vec<u8> = Vec::new(alloc);
-    replay(
+    replay_in(
         alloc,
         &mut CountedReader::new(&mut script),
         &mut CountedWriter::new(&mut answers),

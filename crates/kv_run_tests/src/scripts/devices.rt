@@ -84,8 +84,7 @@ fn replayed_once(alloc: Global, config: &Config, given: Given<'_>) -> Result<Ran
     };
     let mut source = CountedReader::new(&mut reader);
     let mut sink = CountedWriter::new(&mut writer);
-    let form = Form::Base64;
-    let answer = replay_bounded(alloc, &mut source, &mut sink, config, form, given.calls);
+    let answer = replay_bounded(alloc, &mut source, &mut sink, config, given.calls);
     Ok(Ran {
         answer,
         written: writer.bytes,

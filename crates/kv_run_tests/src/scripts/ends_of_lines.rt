@@ -56,7 +56,6 @@ fn gives_once(alloc: Global, config: &Config, script: &[u8], text: &[u8]) -> Res
         &mut CountedReader::new(&mut reader),
         &mut CountedWriter::new(&mut written),
         config,
-        Form::Base64,
     ) {
         Ok(()) => Ok(written.as_slice() == text && reader.is_empty()),
         Err(KvError::OutOfMemory) if is_front(&written, text) => Err(KvError::OutOfMemory),

@@ -2,7 +2,7 @@
 
 use super::*;
 use kv_bucket::Bucket;
-use kv_run::answer_line;
+use kv_run::answer_line_in;
 
 const LINES: &[(Form, &str)] = &[
     // An empty line and a comment have no answer.
@@ -45,7 +45,7 @@ const ANSWERS: &str = "{\"code\":16,\"error\":\"BadCommand\"}\n\
 
 fn answer_all(alloc: Global, bucket: &mut Bucket, out: &mut Vec<u8>) -> Result<(), KvError> {
     for (form, line) in LINES {
-        answer_line(alloc, *form, bucket, line.as_bytes(), out)?;
+        answer_line_in(alloc, bucket, line.as_bytes(), out, *form)?;
     }
     Ok(())
 }

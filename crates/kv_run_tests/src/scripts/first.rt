@@ -1,0 +1,94 @@
+//! A put and a get, by each call that runs a script.
+
+use super::*;
+use kv_run::{replay_bounded_in, replay_in};
+
+// The call that runs the script: with values in base64 or in a form, and with a bound on read calls or without.
+#[derive(Clone, Copy)]
+enum By {
+    Replay,
+    ReplayIn(Form),
+    ReplayBounded(u64),
+    ReplayBoundedIn(u64, Form),
+}
+
+fn run<R: Input, W: Output>(
+    alloc: Global,
+    by: By,
+    reader: &mut R,
+    writer: &mut W,
+    config: &Config,
+) -> Result<(), KvError> {
+    match by {
+        By::Replay => replay(alloc, reader, writer, config),
+        By::ReplayIn(form) => replay_in(alloc, reader, writer, config, form),
+        By::ReplayBounded(calls) => replay_bounded(alloc, reader, writer, config, calls),
+        By::ReplayBoundedIn(calls, form) => {
+            replay_bounded_in(alloc, reader, writer, config, calls, form)
+        }
+    }
+}
+
+const IN_BASE64: &str = "put a MQ==\nget a\n";
+
+const IN_TEXT: &str = "put a 1\nget a\n";
+
+const SHOWN_IN_BASE64: &str = "{\"revision\":1}\n\
+    {\"key\":\"a\",\"op\":\"PUT\",\"revision\":1,\"size\":1,\"value\":\"MQ==\"}\n";
+
+const SHOWN_IN_TEXT: &str = "{\"revision\":1}\n\
+    {\"key\":\"a\",\"op\":\"PUT\",\"revision\":1,\"size\":1,\"value\":\"1\"}\n";
+
+// What is no base64 is no value, where values stand in that.
+const REFUSED: &str = "{\"code\":16,\"error\":\"BadCommand\"}\n\
+    {\"code\":12,\"error\":\"KeyNotFound\"}\n";
+
+const RUNS: &[(By, &str, &str)] = &[
+    (By::Replay, IN_BASE64, SHOWN_IN_BASE64),
+    (By::Replay, IN_TEXT, REFUSED),
+    (By::ReplayIn(Form::Base64), IN_BASE64, SHOWN_IN_BASE64),
+    (By::ReplayIn(Form::Text), IN_TEXT, SHOWN_IN_TEXT),
+    (By::ReplayBounded(100), IN_BASE64, SHOWN_IN_BASE64),
+    (By::ReplayBounded(100), IN_TEXT, REFUSED),
+    (
+        By::ReplayBoundedIn(100, Form::Base64),
+        IN_BASE64,
+        SHOWN_IN_BASE64,
+    ),
+    (By::ReplayBoundedIn(100, Form::Text), IN_TEXT, SHOWN_IN_TEXT),
+];
+
+// Runs a script to its end, and tells whether this text was written.
+fn gives_once(
+    alloc: Global,
+    by: By,
+    config: &Config,
+    script: &[u8],
+    text: &[u8],
+) -> Result<bool, KvError> {
+    let mut reader = script;
+    let mut written = paper(alloc)?;
+    let mut source = CountedReader::new(&mut reader);
+    let mut sink = CountedWriter::new(&mut written);
+    match run(alloc, by, &mut source, &mut sink, config) {
+        Ok(()) => Ok(written.as_slice() == text && reader.is_empty()),
+        Err(KvError::OutOfMemory) if is_front(&written, text) => Err(KvError::OutOfMemory),
+        Err(_) => Ok(false),
+    }
+}
+
+fn gives(alloc: Global, by: By, script: &[u8], text: &[u8]) -> Result<bool, KvError> {
+    let config = named(alloc)?;
+    match gives_once(alloc, by, &config, script, text) {
+        Err(KvError::OutOfMemory) => gives_once(alloc, by, &config, script, text),
+        result => result,
+    }
+}
+
+#[test]
+fn a_put_and_a_get_by_each_call(rt: HostRuntime) {
+    for (by, script, text) in RUNS {
+        let given = gives(rt.alloc(), *by, script.as_bytes(), text.as_bytes());
+        equal(&rt, given, Ok(true));
+    }
+}
