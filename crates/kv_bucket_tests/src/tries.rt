@@ -11,6 +11,7 @@ use std::test::Fail;
 mod both;
 mod driving;
 mod forms;
+mod one_place;
 mod retained;
 mod steps;
 mod walks;

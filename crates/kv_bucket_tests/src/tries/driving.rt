@@ -55,7 +55,7 @@ fn done<K: Named>(
     }
 }
 
-fn hold<K: Named>(trie: &Numbers<K>) -> Result<Numbers<K>, KvError> {
+pub(super) fn hold<K: Named>(trie: &Numbers<K>) -> Result<Numbers<K>, KvError> {
     match trie.snapshot() {
         Ok(held) => Ok(held),
         Err(_) => trie.snapshot(),

@@ -79,21 +79,20 @@ fn is_of(
 }
 
 const THREE_PLACES: &[Part] = &[
-    Part::Branch(1 << 6 | 1 << 8 | 1 << 12),
-    Part::Leaf("altarage"),
+    Part::Branch(0x0040_1100),
     Part::Leaf("foobar"),
     Part::Leaf("a"),
+    Part::Leaf("altarage"),
 ];
 
 const ONE_PLACE: &[Part] = &[
+    Part::Branch(1 << 22),
+    Part::Branch(1 << 5),
+    Part::Branch(1 << 22),
+    Part::Branch(1 << 1),
     Part::Branch(1 << 6),
-    Part::Branch(1 << 11),
-    Part::Branch(1 << 8),
-    Part::Branch(1 << 13),
-    Part::Branch(1 << 0),
-    Part::Branch(1 << 6),
-    Part::Branch(1 << 4),
-    Part::Branch(1 << 14),
+    Part::Branch(1 << 18),
+    Part::Branch(1 << 3),
     Part::Pairs("altarage", "zinke"),
 ];
 
@@ -109,5 +108,42 @@ fn forms_by_places(rt: HostRuntime) -> Result<(), Fail> {
         THREE_PLACES,
     )?;
     is_of(&rt, alloc, &[("zinke", 1), ("altarage", 2)], ONE_PLACE)?;
+    Ok(())
+}
+
+fn removed_once(
+    alloc: Global,
+    trie: &Trie<Key, u32>,
+    text: &str,
+) -> Result<Trie<Key, u32>, KvError> {
+    let key = Key::parse(alloc, text)?;
+    trie.remove(alloc, &key)
+}
+
+// The trie without a key. A refusal leaves the trie as it was.
+fn removed(
+    rt: &impl Abort,
+    alloc: Global,
+    trie: &Trie<Key, u32>,
+    text: &str,
+    parts: &[Part],
+) -> Result<Trie<Key, u32>, KvError> {
+    match removed_once(alloc, trie, text) {
+        Err(KvError::OutOfMemory) => {
+            assert!(rt; has_form(trie, parts));
+            removed_once(alloc, trie, text)
+        }
+        removed => removed,
+    }
+}
+
+// Where one of two keys of one place goes, the seven branches above them go too, and what is left is a leaf.
+#[test]
+fn branches_over_one_pair_contract_to_a_leaf(rt: HostRuntime) -> Result<(), Fail> {
+    let both = built(rt.alloc(), &[("altarage", 1), ("zinke", 2)])?;
+    assert!(rt; has_form(&both, ONE_PLACE));
+    let rest = removed(&rt, rt.alloc(), &both, "zinke", ONE_PLACE)?;
+    assert!(rt; has_form(&rest, &[Part::Leaf("altarage")]));
+    assert!(rt; has_form(&both, ONE_PLACE));
     Ok(())
 }

@@ -26,7 +26,7 @@ impl<K: Named> Visit<K, u32> for Counter {
 }
 
 // What a walk answers that takes in at most so many, how many it was shown, and the sum of their values.
-fn counted<K: Named>(trie: &Numbers<K>, most: u64) -> (Result<(), KvError>, u64, u32) {
+pub(super) fn counted<K: Named>(trie: &Numbers<K>, most: u64) -> (Result<(), KvError>, u64, u32) {
     let mut counter = Counter {
         shown: 0,
         sum: 0,

@@ -111,15 +111,30 @@ fn what_an_op_does(rt: HostRuntime) {
     }
 }
 
+// The places of some revisions: the digits of five bits, the five lowest of them turned.
+const PLACES: &[(u32, u32)] = &[
+    (0, 0),
+    (1, 1 << 20),
+    (7, 7 << 20),
+    (31, 31 << 20),
+    (32, 1 << 15),
+    (1_024, 1 << 10),
+    (32_768, 1 << 5),
+    (1_048_576, 1),
+    (33_554_431, 33_554_431),
+    (33_554_432, 33_554_432),
+    (4_294_967_295, 4_294_967_295),
+];
+
 #[test]
 fn revisions_as_keys(rt: HostRuntime) {
-    let rev = Rev::new(7);
-    equal(&rt, rev.number(), 7);
-    equal(&rt, rev.place(), 7 << 16);
-    equal(&rt, Rev::new(16).place(), 1 << 12);
-    equal(&rt, Rev::new(4_294_967_295).place(), 4_294_967_295);
-    assert!(rt; rev == Rev::new(7));
-    assert!(rt; rev < Rev::new(4_294_967_295));
+    for (number, place) in PLACES {
+        let rev = Rev::new(*number);
+        equal(&rt, rev.number(), *number);
+        equal(&rt, rev.place(), *place);
+    }
+    assert!(rt; Rev::new(7) == Rev::new(7));
+    assert!(rt; Rev::new(7) < Rev::new(4_294_967_295));
 }
 
 fn asked<W: Wanted>(alloc: Global, wanted: &W) -> Result<Option<u64>, KvError> {

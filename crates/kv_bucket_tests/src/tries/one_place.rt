@@ -1,0 +1,233 @@
+//! Keys of one place, beside tries that are held.
+
+use super::driving::hold;
+use super::*;
+use std::alloc::AllocError;
+
+const TEN: [(&str, u32); 10] = [
+    ("k0", 0),
+    ("k1", 1),
+    ("k2", 2),
+    ("k3", 3),
+    ("k4", 4),
+    ("k5", 5),
+    ("k6", 6),
+    ("k7", 7),
+    ("k8", 8),
+    ("k9", 9),
+];
+
+// The trie of these pairs with the next one. A refusal leaves the trie as it was.
+fn insert_next(
+    rt: &impl Abort,
+    alloc: Global,
+    trie: &Numbers<Short>,
+    before: &[(&str, u32)],
+    next: (&str, u32),
+) -> Result<Numbers<Short>, KvError> {
+    match inserted(alloc, trie, next.0, next.1) {
+        Err(KvError::OutOfMemory) => {
+            are_same(rt, trie, &built(alloc, before)?);
+            inserted(alloc, trie, next.0, next.1)
+        }
+        made => made,
+    }
+}
+
+fn removed(alloc: Global, trie: &Numbers<Short>, text: &str) -> Result<Numbers<Short>, KvError> {
+    let key = Short::named(alloc, text)?;
+    trie.remove(alloc, &key)
+}
+
+// The trie of these pairs without the last of them. A refusal leaves the trie as it was.
+fn remove_last(
+    rt: &impl Abort,
+    alloc: Global,
+    trie: &Numbers<Short>,
+    before: &[(&str, u32)],
+    last: &str,
+) -> Result<Numbers<Short>, KvError> {
+    match removed(alloc, trie, last) {
+        Err(KvError::OutOfMemory) => {
+            are_same(rt, trie, &built(alloc, before)?);
+            removed(alloc, trie, last)
+        }
+        made => made,
+    }
+}
+
+fn ten(rt: &impl Abort, alloc: Global) -> Result<Numbers<Short>, KvError> {
+    let mut trie = Trie::new();
+    for at in 0..TEN.len() {
+        trie = insert_next(rt, alloc, &trie, &TEN[..at], TEN[at])?;
+    }
+    Ok(trie)
+}
+
+fn without_nine(
+    rt: &impl Abort,
+    alloc: Global,
+    ten: Numbers<Short>,
+) -> Result<Numbers<Short>, KvError> {
+    let mut trie = ten;
+    for at in (1..10).rev() {
+        trie = remove_last(rt, alloc, &trie, &TEN[..at + 1], TEN[at].0)?;
+    }
+    Ok(trie)
+}
+
+// A snapshot of ten keys stays as it is while nine are removed, and what is left has the form of one key alone.
+#[test]
+fn nine_removals_beside_a_snapshot(rt: HostRuntime) -> Result<(), Fail> {
+    let all = ten(&rt, rt.alloc())?;
+    let held = hold(&all)?;
+    let rest = without_nine(&rt, rt.alloc(), all)?;
+    are_same(&rt, &rest, &built(rt.alloc(), &TEN[..1])?);
+    equal(&rt, held.len(), 10);
+    equal(&rt, walks::counted(&held, 10), (Ok(()), 10, 45));
+    Ok(())
+}
+
+// The three digits of a number, as a text.
+fn digits(alloc: Global, number: u32) -> Result<String, AllocError> {
+    match format!(in alloc; "{number:03}") {
+        Ok(text) => Ok(text),
+        Err(_) => format!(in alloc; "{number:03}"),
+    }
+}
+
+// A list with room for each of a thousand, and one more.
+fn roomy<T: Drop>(alloc: Global) -> Result<Vec<T>, AllocError> {
+    match Vec::with_capacity(alloc, 1001) {
+        Ok(list) => Ok(list),
+        Err(_) => Vec::with_capacity(alloc, 1001),
+    }
+}
+
+// The texts `000` to `999`.
+fn thousand_texts(alloc: Global) -> Result<Vec<String>, AllocError> {
+    let mut texts = roomy(alloc)?;
+    for number in 0..1000 {
+        texts.push(digits(alloc, number)?)?;
+    }
+    Ok(texts)
+}
+
+// The trie has so many keys, each with the value 1.
+fn has(rt: &impl Abort, trie: &Numbers<Short>, count: u64) {
+    equal(rt, trie.len(), count);
+    equal(rt, walks::sum(trie) as u64, count);
+}
+
+// Puts one more key into the trie of so many. A refusal leaves it as it was.
+fn put_next(
+    rt: &impl Abort,
+    alloc: Global,
+    trie: &mut Numbers<Short>,
+    text: &str,
+    count: u64,
+) -> Result<(), KvError> {
+    match put(alloc, trie, text, 1) {
+        Err(KvError::OutOfMemory) => {
+            has(rt, trie, count);
+            put(alloc, trie, text, 1)
+        }
+        done => done,
+    }
+}
+
+fn discard(alloc: Global, trie: &mut Numbers<Short>, text: &str) -> Result<(), KvError> {
+    let key = Short::named(alloc, text)?;
+    trie.discard(alloc, &key)
+}
+
+// Removes a key from the trie of so many. A refusal leaves it as it was.
+fn discard_next(
+    rt: &impl Abort,
+    alloc: Global,
+    trie: &mut Numbers<Short>,
+    text: &str,
+    count: u64,
+) -> Result<(), KvError> {
+    match discard(alloc, trie, text) {
+        Err(KvError::OutOfMemory) => {
+            has(rt, trie, count);
+            discard(alloc, trie, text)
+        }
+        done => done,
+    }
+}
+
+fn keep(kept: &mut Vec<Numbers<Short>>, trie: &Numbers<Short>) -> Result<(), KvError> {
+    let same = hold(trie)?;
+    Ok(kept.push(same)?)
+}
+
+// Puts each of the texts in order, and keeps the trie before the first and after each of them.
+fn put_each(
+    rt: &impl Abort,
+    alloc: Global,
+    texts: &[String],
+    trie: &mut Numbers<Short>,
+    kept: &mut Vec<Numbers<Short>>,
+) -> Result<(), KvError> {
+    let mut count: u64 = 0;
+    keep(kept, trie)?;
+    for text in texts {
+        put_next(rt, alloc, trie, text.as_str(), count)?;
+        count = count.saturating_add(1);
+        keep(kept, trie)?;
+    }
+    Ok(())
+}
+
+// The trie has the form of the one that was kept last, and both have so many keys.
+fn is_as_kept(rt: &impl Abort, trie: &Numbers<Short>, kept: &mut Vec<Numbers<Short>>, count: u64) {
+    match kept.pop() {
+        Some(earlier) => {
+            assert!(rt; trie.same_form(&earlier));
+            has(rt, trie, count);
+            has(rt, &earlier, count);
+        }
+        None => assert!(rt; false, "kept"),
+    }
+}
+
+// Removes each of the texts, the last first. Each time the trie is the one that was kept when it had as many.
+fn discard_each(
+    rt: &impl Abort,
+    alloc: Global,
+    texts: &[String],
+    trie: &mut Numbers<Short>,
+    kept: &mut Vec<Numbers<Short>>,
+) -> Result<(), KvError> {
+    let mut left = texts.len() as u64;
+    is_as_kept(rt, trie, kept, left);
+    for at in (0..texts.len()).rev() {
+        discard_next(rt, alloc, trie, texts[at].as_str(), left)?;
+        left = left.saturating_sub(1);
+        is_as_kept(rt, trie, kept, left);
+    }
+    Ok(())
+}
+
+fn put_and_discarded(
+    rt: &impl Abort,
+    alloc: Global,
+    texts: &[String],
+    kept: &mut Vec<Numbers<Short>>,
+) -> Result<(), KvError> {
+    let mut trie = Trie::new();
+    put_each(rt, alloc, texts, &mut trie, kept)?;
+    discard_each(rt, alloc, texts, &mut trie, kept)?;
+    assert!(rt; matches!(trie.root(), Node::Empty));
+    Ok(())
+}
+
+#[test]
+fn thousand_keys_of_one_place(rt: HostRuntime) -> Result<(), Fail> {
+    let texts = thousand_texts(rt.alloc())?;
+    let mut kept = roomy(rt.alloc())?;
+    put_and_discarded(&rt, rt.alloc(), &texts, &mut kept)?;
+    Ok(())
+}
