@@ -12,6 +12,11 @@ use Rattle.std.specs.Option.{option_map_or}
 abbrev pub op_named : ℕ → Op
 op_named n = if n == 0 then Put else (if n == 1 then Delete else Purge)
 
+abbrev pub op_number : Op → ℕ
+op_number Put = 0
+op_number Delete = 1
+op_number Purge = 2
+
 -- the entry, of the first bytes of what was given for its key and its value
 abbrev pub entry_told : Item → List ℕ → List ℕ → Entry
 entry_told item keys values = record {
@@ -37,7 +42,7 @@ numbers_told n = Told (record {
 
 -- the item tells of this write, without its key
 abbrev pub TellsWrite : Write → Item → Type 0
-TellsWrite w item = (item.kind ≡ 2) × (op_named item.op ≡ w.op) × (item.revision ≡ w.revision) ×
+TellsWrite w item = (item.kind ≡ 2) × (item.op ≡ op_number w.op) × (item.revision ≡ w.revision) ×
     (item.key_size ≡ 0) × (item.size ≡ length w.value) × (item.value_size ≡ length w.value) ×
     (item.has_value ≡ is_put w.op)
 
@@ -55,17 +60,21 @@ IsValueCopied values (Some value) = take (length value) values ≡ value
 abbrev pub AreCopied : List ℕ → List ℕ → Entry → Type 0
 AreCopied keys values entry = (take (length entry.key) keys ≡ entry.key) × IsValueCopied values entry.value
 
--- the item tells how much room the entry needs
-abbrev pub Wants : Item → Answer → Type 0
-Wants item (AnsweredEntry entry) = (item.key_size ≡ length entry.key) ×
+-- the item has the kind and the operation of the entry, and the sizes of its key and its value
+abbrev pub HasSizesOf : Entry → Item → Type 0
+HasSizesOf entry item = (item.kind ≡ 2) × (item.op ≡ op_number entry.op) × (item.key_size ≡ length entry.key) ×
     (item.value_size ≡ option_map_or length entry.value 0)
+
+-- so it tells how much room the entry needs
+abbrev pub Wants : Item → Answer → Type 0
+Wants item (AnsweredEntry entry) = HasSizesOf entry item
 Wants item answer = ⊥
 
--- the item has the sizes of what is handed out: those of the key and the value of the entry, or 0
+-- and so it tells what is handed out: an entry, or the end marker or nothing, which have no bytes
 abbrev pub HasSizes : Item → Answer → Type 0
-HasSizes item (AnsweredEntry entry) = (item.key_size ≡ length entry.key) ×
-    (item.value_size ≡ option_map_or length entry.value 0)
-HasSizes item answer = (item.key_size ≡ 0) × (item.value_size ≡ 0)
+HasSizes item (AnsweredEntry entry) = HasSizesOf entry item
+HasSizes item Marker = (item.kind ≡ 1) × (item.key_size ≡ 0) × (item.value_size ≡ 0)
+HasSizes item answer = (item.kind ≡ 0) × (item.key_size ≡ 0) × (item.value_size ≡ 0)
 
 -- the item tells how much room the value of a write needs, and the rest of it
 abbrev pub WantsValue : Option Write → Item → Type 0

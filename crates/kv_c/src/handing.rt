@@ -4,7 +4,7 @@ ghost use Rattle.std.specs.Prelude.{◌≡◌, ℕ, List, length, take, drop, Is
 ghost use Rattle.std.specs.Option.{option_copied};
 ghost use Rattle.kv_c.specs.Codes.{entry_fits, fits, room_code, taken_code, value_code, value_fits};
 ghost use Rattle.kv_model.specs.Answers.{AnsweredEntry, answer_item};
-ghost use Rattle.kv_c.specs.Handing.{AreCopied, HasSizes, IsEntry, IsValueCopied, TellsWrite, Wants, told, op_named};
+ghost use Rattle.kv_c.specs.Handing.{AreCopied, HasSizes, IsEntry, IsValueCopied, TellsWrite, Wants, told, op_named, op_number};
 ghost use Rattle.kv_watch.specs.Taking.{item_taken, entry_shown};
 
 use crate::codes::TOO_LITTLE_ROOM;
@@ -59,7 +59,8 @@ pub(crate) fn copy_sized(room: &mut [u8], bytes: &[u8], size: &mut usize) -> u64
 }
 
 fn number_of(op: Op) -> u32
-    ensures { op_named result ≡ op }
+    ensures named { op_named result ≡ op }
+    ensures number { result ≡ op_number op }
 {
     match op {
         Op::Put => 0,
