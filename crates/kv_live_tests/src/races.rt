@@ -16,6 +16,7 @@ use std::thread::Threads;
 mod audit;
 mod gates;
 mod refusals;
+mod twenty;
 
 const LATEST: Options = Options {
     start: Start::Latest,
@@ -30,6 +31,7 @@ enum Row {
     Between,
     Sleeping,
     Audit,
+    Twenty,
 }
 
 // Runs a row, and once more where a request for memory ended it.
@@ -50,6 +52,7 @@ fn run_once<R: Threads + Wait + Abort + Sync>(
         Row::Between => gates::round_between(rt, alloc),
         Row::Sleeping => gates::sleeps_until_written(rt, alloc),
         Row::Audit => audit::audit(rt, alloc),
+        Row::Twenty => twenty::twenty(rt, alloc),
     }
 }
 

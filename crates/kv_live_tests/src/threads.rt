@@ -5,11 +5,13 @@
 ghost use Rattle.std.specs.Prelude.{◌≡◌};
 
 use crate::equal::equal;
-use calls::{Call, Step, calls, look, put_request, steps};
+use again::{again, made};
+use calls::{Call, Step, calls, put_request, steps};
 use kv_live::{
     Config, Feed, Filters, KvError, Live, LiveName, Opened, Options, Reader, Start, Taken, Version,
 };
-use moves::{Move, feed_of, feed_of_last, moves, stopped_at};
+use moves::{Move, feed_of, feed_of_last, look_at, moves, stopped_at};
+use sights::{look, look_through};
 use std::alloc::Global;
 use std::fmt::Debug;
 use std::marker::Brand;
@@ -18,6 +20,7 @@ use std::sync::Wait;
 use std::test::Fail;
 use std::thread::{Threads, join};
 
+mod again;
 mod cached;
 mod calls;
 mod compacting;
@@ -26,6 +29,8 @@ mod lock;
 mod moves;
 mod opening;
 mod places;
+mod published;
+mod sights;
 mod told;
 
 const LATEST: Options = Options {
@@ -81,10 +86,7 @@ fn brief_taken(taken: Result<Taken<'_>, KvError>) -> Answer {
 }
 
 fn all_keys(alloc: Global) -> Result<Filters, KvError> {
-    match Filters::parse(alloc, ">") {
-        Err(KvError::OutOfMemory) => Filters::parse(alloc, ">"),
-        filters => filters,
-    }
+    again(|| Filters::parse(alloc, ">"))
 }
 
 // What is run on an opening of the bucket `kv`.
@@ -94,10 +96,15 @@ enum Row {
     ManyReaders,
     Closed,
     Calls(lock::Row),
+    SixtyFourWatches,
+    SecondWriter,
     BesideAGuard,
     EachPhase,
     ToldWrite,
+    ToldOnAGuard,
     LooksInTurn,
+    WhoHasSeen,
+    Marked,
     FreedPlace,
     LeftBehind,
     Cached,
@@ -112,14 +119,19 @@ impl Row {
             _ => 2,
         }
     }
+
+    // No row writes more often than this, but the one of the limit, which tries to.
+    fn write_limit(self) -> u64 {
+        match self {
+            Row::Calls(lock::Row::WriteLimitAndSeal) => 2,
+            _ => 6,
+        }
+    }
 }
 
 // Runs a row, and once more where a request for memory ended it.
 fn run<R: Threads + Wait + Abort + Sync>(rt: &R, alloc: Global, row: Row) -> Result<(), KvError> {
-    match run_once(rt, alloc, row) {
-        Err(KvError::OutOfMemory) => run_once(rt, alloc, row),
-        done => done,
-    }
+    again(|| run_once(rt, alloc, row))
 }
 
 fn run_once<R: Threads + Wait + Abort + Sync>(
@@ -131,10 +143,9 @@ fn run_once<R: Threads + Wait + Abort + Sync>(
     run_on::<Brand, R>(rt, alloc, opened, row)
 }
 
-// No row writes more than six times.
 fn opened_for(alloc: Global, row: Row) -> Result<Opened, KvError> {
     let mut config = Config::named(alloc, "kv")?;
-    config.write_limit = 6;
+    config.write_limit = row.write_limit();
     Live::open(alloc, &config, row.readers())
 }
 
@@ -173,10 +184,10 @@ fn run_over<N: LiveName + Send + Sync, R: Threads + Wait + Abort + Sync>(
     row: Row,
 ) -> Result<(), KvError> {
     match row {
+        Row::SecondWriter => feeds::behind_a_second_writer(rt, alloc, live, readers),
         Row::BesideAGuard => feeds::beside_a_guard(rt, alloc, live, readers),
         Row::EachPhase => feeds::in_each_phase(rt, alloc, live, readers),
         Row::ToldWrite => told::handed_out(rt, alloc, live, readers),
-        Row::LooksInTurn => told::looks_in_turn(rt, alloc, live, readers),
         _ => run_alone(rt, alloc, live, readers, row),
     }
 }
@@ -196,6 +207,10 @@ fn run_alone<N: LiveName, R: Wait + Abort>(
         Row::Cached => cached::refreshed(rt, alloc, live, readers),
         Row::TwoFeeds => compacting::two_feeds(rt, alloc, live, readers),
         Row::HeldWatch => compacting::held_watch(rt, alloc, live, readers),
+        Row::ToldOnAGuard => told::on_a_guard(rt, alloc, live, readers),
+        Row::LooksInTurn => told::looks_in_turn(rt, alloc, live, readers),
+        Row::WhoHasSeen => published::who_has_seen(rt, alloc, live, readers),
+        Row::Marked => published::marked(rt, alloc, live, readers),
         _ => {
             run_unread(rt, alloc, live, row);
             Ok(())
@@ -207,6 +222,7 @@ fn run_alone<N: LiveName, R: Wait + Abort>(
 fn run_unread<N: LiveName, R: Wait + Abort>(rt: &R, alloc: Global, live: &Live<N>, row: Row) {
     match row {
         Row::Calls(row) => calls(rt, alloc, live, row.lines()),
+        Row::SixtyFourWatches => lock::sixty_four_watches(rt, alloc, live),
         _ => opening::beginning(rt, live),
     }
 }
@@ -219,10 +235,7 @@ fn last<N: LiveName>(readers: &mut Vec<Reader<N>>) -> Result<Reader<N>, KvError>
 }
 
 fn version<N: LiveName>(reader: &mut Reader<N>) -> Result<Version, KvError> {
-    match reader.version() {
-        Err(KvError::OutOfMemory) => reader.version(),
-        version => version,
-    }
+    again(|| reader.version())
 }
 
 // What a reader sees.

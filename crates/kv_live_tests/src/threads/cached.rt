@@ -72,10 +72,7 @@ fn is_on<N: LiveName>(cached: &Cached<N>) -> Answer {
 }
 
 fn key_a(alloc: Global) -> Result<Key, KvError> {
-    match Key::parse(alloc, "a") {
-        Err(KvError::OutOfMemory) => Key::parse(alloc, "a"),
-        key => key,
-    }
+    again(|| Key::parse(alloc, "a"))
 }
 
 // Looks a key up a thousand times, each time in what is published by then, and answers the last revision that it saw.

@@ -1,8 +1,8 @@
 //! What is done with a live bucket and through a guard of its lock, line by line. A call that is refused changes
-//! nothing there, and one that is refused for memory is made once more.
+//! nothing there: neither its version, nor its watches, nor what each of them is given next.
 
 use super::*;
-use kv_live::{Keeper, Key, Request, Status, Stopped};
+use kv_live::{Keeper, Key, Request, Stopped};
 
 #[derive(Clone, Copy)]
 pub(super) enum Call {
@@ -18,6 +18,7 @@ pub(super) enum Call {
 pub(super) enum Step {
     Put(&'static str),
     Delete(&'static str),
+    Seal,
     Watch,
     Take(u64),
     Stop(u64),
@@ -33,16 +34,6 @@ pub(super) fn put_request(alloc: Global, key: &str) -> Result<Request, KvError> 
 fn delete_request(alloc: Global, key: &str) -> Result<Request, KvError> {
     let key = Key::parse(alloc, key)?;
     Ok(Request::Delete { key, last: None })
-}
-
-// What a bucket has: its numbers, and its open watches.
-fn look_through<N: LiveName>(keeper: &Keeper<N>) -> (Status, u64) {
-    let bucket = keeper.bucket();
-    (bucket.version().status(), bucket.watches())
-}
-
-pub(super) fn look<N: LiveName, R: Wait>(rt: &R, live: &Live<N>) -> (Status, u64) {
-    look_through(&*live.lock(rt))
 }
 
 fn put<N: LiveName, R: Wait>(
@@ -92,6 +83,7 @@ fn step_once<N: LiveName, R: Wait + Abort>(
     match step {
         Step::Put(key) => number(keep(rt, keeper, put_request(alloc, key))),
         Step::Delete(key) => number(keep(rt, keeper, delete_request(alloc, key))),
+        Step::Seal => done(keeper.seal(rt)),
         Step::Watch => number(watch(alloc, keeper)),
         Step::Take(number) => take(rt, keeper, number),
         Step::Stop(number) => brief_stopped(keeper.stop(number)),
@@ -123,42 +115,6 @@ fn guarded_once<N: LiveName, R: Wait + Abort>(
     step_once(rt, alloc, &mut *keeper, step)
 }
 
-fn step_again<N: LiveName, R: Wait + Abort>(
-    rt: &R,
-    alloc: Global,
-    keeper: &mut Keeper<N>,
-    step: Step,
-) -> Answer {
-    let before = look_through(keeper);
-    let answer = step_once(rt, alloc, keeper, step);
-    match answer {
-        Answer::Refused(_) => equal(rt, look_through(keeper), before),
-        _ => {}
-    }
-    match answer {
-        Answer::Refused(KvError::OutOfMemory) => step_once(rt, alloc, keeper, step),
-        answer => answer,
-    }
-}
-
-fn call_again<N: LiveName, R: Wait + Abort>(
-    rt: &R,
-    alloc: Global,
-    live: &Live<N>,
-    call: Call,
-) -> Answer {
-    let before = look(rt, live);
-    let answer = call_once(rt, alloc, live, call);
-    match answer {
-        Answer::Refused(_) => equal(rt, look(rt, live), before),
-        _ => {}
-    }
-    match answer {
-        Answer::Refused(KvError::OutOfMemory) => call_once(rt, alloc, live, call),
-        answer => answer,
-    }
-}
-
 // Each line on one guard.
 pub(super) fn steps<N: LiveName, R: Wait + Abort>(
     rt: &R,
@@ -167,8 +123,22 @@ pub(super) fn steps<N: LiveName, R: Wait + Abort>(
     lines: &[(Step, Answer)],
 ) {
     for (step, answer) in lines {
-        equal(rt, step_again(rt, alloc, keeper, *step), *answer);
+        equal(rt, step_made(rt, alloc, keeper, *step), *answer);
     }
+}
+
+fn step_made<N: LiveName, R: Wait + Abort>(
+    rt: &R,
+    alloc: Global,
+    keeper: &mut Keeper<N>,
+    step: Step,
+) -> Answer {
+    made(
+        rt,
+        keeper,
+        |keeper| look_through(keeper),
+        |keeper| step_once(rt, alloc, keeper, step),
+    )
 }
 
 pub(super) fn calls<N: LiveName, R: Wait + Abort>(
@@ -178,6 +148,21 @@ pub(super) fn calls<N: LiveName, R: Wait + Abort>(
     lines: &[(Call, Answer)],
 ) {
     for (call, answer) in lines {
-        equal(rt, call_again(rt, alloc, live, *call), *answer);
+        equal(rt, call_made(rt, alloc, live, *call), *answer);
     }
+}
+
+fn call_made<N: LiveName, R: Wait + Abort>(
+    rt: &R,
+    alloc: Global,
+    live: &Live<N>,
+    call: Call,
+) -> Answer {
+    let mut live = live;
+    made(
+        rt,
+        &mut live,
+        |live| look(rt, *live),
+        |live| call_once(rt, alloc, *live, call),
+    )
 }

@@ -78,13 +78,38 @@ fn watch_numbers_on_guards(rt: HostRuntime) -> Result<(), Fail> {
     Ok(())
 }
 
+#[test]
+fn the_sixty_fifth_watch_is_refused_until_one_is_stopped(rt: HostRuntime) -> Result<(), Fail> {
+    run(&rt, rt.alloc(), super::Row::SixtyFourWatches)?;
+    Ok(())
+}
+
+// A stopped watch makes room, and its number is not given again.
+const BEYOND: &[(Call, Answer)] = &[
+    (
+        Call::Guarded(Step::Watch),
+        Answer::Refused(KvError::TooManyWatches),
+    ),
+    (Call::Guarded(Step::Stop(1)), Answer::Stopped(0)),
+    (Call::Guarded(Step::Watch), Answer::Number(65)),
+];
+
+pub(super) fn sixty_four_watches<N: LiveName, R: Wait + Abort>(
+    rt: &R,
+    alloc: Global,
+    live: &Live<N>,
+) {
+    for before in 0..64 {
+        let line = (Call::Guarded(Step::Watch), Answer::Number(before + 1));
+        calls(rt, alloc, live, &[line]);
+    }
+    calls(rt, alloc, live, BEYOND);
+}
+
+// The limit of writes is two.
 const WRITE_LIMIT_AND_SEAL: &[(Call, Answer)] = &[
     (Call::Put("a"), Answer::Number(1)),
     (Call::Put("b"), Answer::Number(2)),
-    (Call::Put("a"), Answer::Number(3)),
-    (Call::Put("b"), Answer::Number(4)),
-    (Call::Put("a"), Answer::Number(5)),
-    (Call::Put("b"), Answer::Number(6)),
     (Call::Put("c"), Answer::Refused(KvError::JournalFull)),
     (Call::Seal, Answer::Done),
     (Call::Put("d"), Answer::Refused(KvError::Sealed)),

@@ -1,7 +1,7 @@
-//! What is done with a feed, line by line. A refresh that is refused leaves its count and its next item, and what is
-//! refused for memory is done once more.
+//! What is done with a feed, line by line. A refresh that is refused leaves its count and its next item.
 
 use super::*;
+use again::Sight;
 
 #[derive(Clone, Copy)]
 pub(super) enum Move {
@@ -39,9 +39,24 @@ fn open_again<N: LiveName>(reader: Reader<N>, filters: &Filters) -> Result<Feed<
     }
 }
 
-// How many items a feed handed out, and which is the next one.
-fn look_at<N: LiveName>(feed: &Feed<N>) -> (u64, Answer) {
-    (feed.handed(), brief_taken(Ok(feed.peek())))
+// What can be seen of a feed: how many items it handed out, and which is the next one.
+#[derive(Drop)]
+pub(super) struct FeedSight {
+    handed: u64,
+    next: Answer,
+}
+
+impl Sight for FeedSight {
+    fn is_same(&self, other: &FeedSight) -> bool {
+        self.handed == other.handed && self.next == other.next
+    }
+}
+
+pub(super) fn look_at<N: LiveName>(feed: &Feed<N>) -> FeedSight {
+    FeedSight {
+        handed: feed.handed(),
+        next: brief_taken(Ok(feed.peek())),
+    }
 }
 
 // Takes the item that is next.
@@ -60,22 +75,18 @@ fn move_once<N: LiveName, R: Abort>(rt: &R, feed: &mut Feed<N>, step: Move) -> A
     }
 }
 
-fn move_again<N: LiveName, R: Abort>(rt: &R, feed: &mut Feed<N>, step: Move) -> Answer {
-    let before = look_at(feed);
-    let answer = move_once(rt, feed, step);
-    match answer {
-        Answer::Refused(_) => equal(rt, look_at(feed), before),
-        _ => {}
-    }
-    match answer {
-        Answer::Refused(KvError::OutOfMemory) => move_once(rt, feed, step),
-        answer => answer,
-    }
+fn move_made<N: LiveName, R: Abort>(rt: &R, feed: &mut Feed<N>, step: Move) -> Answer {
+    made(
+        rt,
+        feed,
+        |feed| look_at(feed),
+        |feed| move_once(rt, feed, step),
+    )
 }
 
 pub(super) fn moves<N: LiveName, R: Abort>(rt: &R, feed: &mut Feed<N>, lines: &[(Move, Answer)]) {
     for (step, answer) in lines {
-        equal(rt, move_again(rt, feed, *step), *answer);
+        equal(rt, move_made(rt, feed, *step), *answer);
     }
 }
 

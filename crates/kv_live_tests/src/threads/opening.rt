@@ -21,10 +21,7 @@ fn opened_once(
 
 // The refusal of an opening, if any.
 fn refused(alloc: Global, name: &str, numbers: Numbers, readers: usize) -> Option<KvError> {
-    match opened_once(alloc, name, numbers, readers).err() {
-        Some(KvError::OutOfMemory) => opened_once(alloc, name, numbers, readers).err(),
-        refusal => refusal,
-    }
+    again(|| opened_once(alloc, name, numbers, readers)).err()
 }
 
 const LEGAL: Numbers = (1, 1_048_576, 1_000_000);
@@ -98,9 +95,14 @@ const EMPTY: Status = Status {
 };
 
 pub(super) fn beginning<N: LiveName, R: Wait + Abort>(rt: &R, live: &Live<N>) {
-    equal(rt, look(rt, live), (EMPTY, 0));
     let keeper = live.lock(rt);
-    equal(rt, keeper.bucket().version().bucket(), "kv");
+    let bucket = keeper.bucket();
+    equal(
+        rt,
+        (bucket.version().status(), bucket.watches()),
+        (EMPTY, 0),
+    );
+    equal(rt, bucket.version().bucket(), "kv");
 }
 
 #[test]

@@ -7,10 +7,7 @@ fn seat_once<N: LiveName, R: Wait>(rt: &R, live: &Live<N>) -> Result<Reader<N>, 
 }
 
 fn seat<N: LiveName, R: Wait>(rt: &R, live: &Live<N>) -> Result<Reader<N>, KvError> {
-    match seat_once(rt, live) {
-        Err(KvError::OutOfMemory) => seat_once(rt, live),
-        done => done,
-    }
+    again(|| seat_once(rt, live))
 }
 
 fn finds_no_place<N: LiveName, R: Wait + Abort>(rt: &R, live: &Live<N>) {
@@ -85,17 +82,19 @@ fn goes_on_without_it<N: LiveName, R: Wait + Abort>(
     feed: &mut Feed<N>,
 ) {
     calls(rt, alloc, live, &[(Call::Put("b"), Answer::Number(2))]);
-    equal(rt, left_by(feed), Answer::On(1, 0));
+    equal(rt, left_by(rt, feed), Answer::On(1, 0));
     moves(rt, feed, ON_THE_SECOND);
     calls(rt, alloc, live, &[(Call::Compact(2), Answer::Done)]);
     moves(rt, feed, COMPACTED);
 }
 
-fn left_by<N: LiveName>(feed: &mut Feed<N>) -> Answer {
-    match on(feed.refresh_keeping()) {
-        Answer::Refused(KvError::OutOfMemory) => on(feed.refresh_keeping()),
-        left => left,
-    }
+fn left_by<N: LiveName, R: Abort>(rt: &R, feed: &mut Feed<N>) -> Answer {
+    made(
+        rt,
+        feed,
+        |feed| look_at(feed),
+        |feed| on(feed.refresh_keeping()),
+    )
 }
 
 const ON_THE_SECOND: &[(Move, Answer)] = &[

@@ -1,7 +1,7 @@
 //! Rows of told writes. A publish that is refused leaves receipts, readers and later writes working.
 
 use super::*;
-use kv_live::Receipt;
+use kv_live::{Keeper, Receipt};
 
 fn write_told<N: LiveName, R: Wait>(
     rt: &R,
@@ -17,14 +17,13 @@ fn told_again<N: LiveName, R: Wait + Abort>(
     alloc: Global,
     live: &Live<N>,
 ) -> Result<(u64, Receipt<N>), KvError> {
-    let before = look(rt, live);
-    match write_told(rt, alloc, live) {
-        Err(KvError::OutOfMemory) => {
-            equal(rt, look(rt, live), before);
-            write_told(rt, alloc, live)
-        }
-        told => told,
-    }
+    let mut live = live;
+    made(
+        rt,
+        &mut live,
+        |live| look(rt, *live),
+        |live| write_told(rt, alloc, *live),
+    )
 }
 
 // The receipt of a put, which is told at this revision.
@@ -40,7 +39,7 @@ fn told_at<N: LiveName, R: Wait + Abort>(
 }
 
 // Another thread writes.
-pub(super) fn told_write<N: LiveName + Send + Sync, R: Threads + Wait + Abort + Sync>(
+fn told_write<N: LiveName + Send + Sync, R: Threads + Wait + Abort + Sync>(
     rt: &R,
     alloc: Global,
     live: &Live<N>,
@@ -62,8 +61,8 @@ pub(super) fn handed_out<N: LiveName + Send + Sync, R: Threads + Wait + Abort + 
     live: &Live<N>,
     readers: &mut Vec<Reader<N>>,
 ) -> Result<(), KvError> {
-    let mut feed = feed_of_last(alloc, readers)?;
-    told_beside(rt, alloc, live, readers, &mut feed)
+    let mut reader = last(readers)?;
+    told_beside(rt, alloc, live, readers, &mut reader)
 }
 
 fn told_beside<N: LiveName + Send + Sync, R: Threads + Wait + Abort + Sync>(
@@ -71,10 +70,10 @@ fn told_beside<N: LiveName + Send + Sync, R: Threads + Wait + Abort + Sync>(
     alloc: Global,
     live: &Live<N>,
     readers: &mut Vec<Reader<N>>,
-    feed: &mut Feed<N>,
+    reader: &mut Reader<N>,
 ) -> Result<(), KvError> {
-    let mut reader = last(readers)?;
-    told_to_both(rt, alloc, live, feed, &mut reader)
+    let feed = feed_of_last(alloc, readers)?;
+    told_to_both(rt, alloc, live, feed, reader)
 }
 
 const TOLD: &[(Move, Answer)] = &[
@@ -88,14 +87,20 @@ fn told_to_both<N: LiveName + Send + Sync, R: Threads + Wait + Abort + Sync>(
     rt: &R,
     alloc: Global,
     live: &Live<N>,
-    feed: &mut Feed<N>,
+    feed: Feed<N>,
     reader: &mut Reader<N>,
 ) -> Result<(), KvError> {
     let receipt = told_write(rt, alloc, live, 1)?;
-    feed.learn(&receipt);
-    moves(rt, feed, TOLD);
+    drop(follows_told(rt, feed, &receipt));
     learns(rt, reader, &receipt, 1);
     Ok(())
+}
+
+fn follows_told<N: LiveName, R: Abort>(rt: &R, feed: Feed<N>, receipt: &Receipt<N>) -> Reader<N> {
+    let mut feed = feed;
+    feed.learn(receipt);
+    moves(rt, &mut feed, TOLD);
+    stopped_at(rt, feed, 2)
 }
 
 fn learns<N: LiveName, R: Abort>(
@@ -106,6 +111,112 @@ fn learns<N: LiveName, R: Abort>(
 ) {
     reader.learn(receipt);
     reads(rt, reader, Answer::On(revision, 0));
+}
+
+#[test]
+fn a_write_told_on_a_guard_is_seen_by_who_learns_it(rt: HostRuntime) -> Result<(), Fail> {
+    run(&rt, rt.alloc(), Row::ToldOnAGuard)?;
+    Ok(())
+}
+
+pub(super) fn on_a_guard<N: LiveName, R: Wait + Abort>(
+    rt: &R,
+    alloc: Global,
+    live: &Live<N>,
+    readers: &mut Vec<Reader<N>>,
+) -> Result<(), KvError> {
+    let receipt = told_under_the_lock(rt, alloc, live)?;
+    seen_once_learned(rt, readers, &receipt)?;
+    mark_is_learned(rt, readers, &receipt)?;
+    calls(rt, alloc, live, SEAL);
+    equal(rt, refusal_of_told(rt, alloc, live), Some(KvError::Sealed));
+    Ok(())
+}
+
+fn seen_once_learned<N: LiveName, R: Abort>(
+    rt: &R,
+    readers: &mut Vec<Reader<N>>,
+    receipt: &Receipt<N>,
+) -> Result<(), KvError> {
+    let mut reader = last(readers)?;
+    equal(rt, reader.has_seen(receipt), false);
+    learns(rt, &mut reader, receipt, 2);
+    equal(rt, reader.has_seen(receipt), true);
+    Ok(())
+}
+
+// The mark of a receipt tells what the receipt does.
+fn mark_is_learned<N: LiveName, R: Abort>(
+    rt: &R,
+    readers: &mut Vec<Reader<N>>,
+    receipt: &Receipt<N>,
+) -> Result<(), KvError> {
+    let mut reader = last(readers)?;
+    reader.learn_mark(receipt.mark());
+    reads(rt, &mut reader, Answer::On(2, 0));
+    equal(rt, reader.has_seen(receipt), true);
+    Ok(())
+}
+
+const SEAL: &[(Call, Answer)] = &[(Call::Seal, Answer::Done)];
+
+// The receipt of the second of two writes on one guard.
+fn told_under_the_lock<N: LiveName, R: Wait + Abort>(
+    rt: &R,
+    alloc: Global,
+    live: &Live<N>,
+) -> Result<Receipt<N>, KvError> {
+    let mut keeper = live.lock(rt);
+    steps(
+        rt,
+        alloc,
+        &mut *keeper,
+        &[(Step::Put("a"), Answer::Number(1))],
+    );
+    told_through(rt, alloc, &mut *keeper, 2)
+}
+
+fn refusal_of_told<N: LiveName, R: Wait + Abort>(
+    rt: &R,
+    alloc: Global,
+    live: &Live<N>,
+) -> Option<KvError> {
+    let mut keeper = live.lock(rt);
+    told_made(rt, alloc, &mut *keeper).err()
+}
+
+// The receipt of a put through a guard, which is told at this revision.
+pub(super) fn told_through<N: LiveName, R: Wait + Abort>(
+    rt: &R,
+    alloc: Global,
+    keeper: &mut Keeper<N>,
+    revision: u64,
+) -> Result<Receipt<N>, KvError> {
+    let (answered, receipt) = told_made(rt, alloc, keeper)?;
+    equal(rt, (answered, receipt.revision()), (revision, revision));
+    Ok(receipt)
+}
+
+fn told_made<N: LiveName, R: Wait + Abort>(
+    rt: &R,
+    alloc: Global,
+    keeper: &mut Keeper<N>,
+) -> Result<(u64, Receipt<N>), KvError> {
+    made(
+        rt,
+        keeper,
+        |keeper| look_through(keeper),
+        |keeper| told_once(rt, alloc, keeper),
+    )
+}
+
+fn told_once<N: LiveName, R: Wait>(
+    rt: &R,
+    alloc: Global,
+    keeper: &mut Keeper<N>,
+) -> Result<(u64, Receipt<N>), KvError> {
+    let request = put_request(alloc, "a")?;
+    keeper.write_told(rt, &request)
 }
 
 #[test]
