@@ -88,8 +88,8 @@ plan_of_bytes form r (byte ∷ bytes) = elim (cases_Bool (byte == 10)) [
 ]
 
 -- the plan of a whole script
-pub plan_of-read : (form : Form) (most : ℕ) (input : List ℕ) → last form (After form (beginning (nothing most)) input) ≡ planned form most (lines_of input)
-plan_of-read form most input = sym (plan_of_bytes form (beginning (nothing most)) input) ∙ ap (after_lines form (nothing most)) (lines_of-onto input)
+pub plan_of-read : (form : Form) (input : List ℕ) → last form (After form (beginning nothing) input) ≡ planned form (lines_of input)
+plan_of-read form input = sym (plan_of_bytes form (beginning nothing) input) ∙ ap (after_lines form nothing) (lines_of-onto input)
 
 -- bytes that come in two parts
 pub plan-append : (form : Form) (r : Reading Planned) (xs ys : List ℕ) → After form r (xs ++ ys) ≡ After form (After form r xs) ys
@@ -101,6 +101,6 @@ pub read_on : (unread left left' : Option (List ℕ)) (input : List ℕ) → Con
 read_on unread left left' input read nothing_more = subst (Consumes unread left') (append-nil input) (Consumes-trans unread left left' input [] read nothing_more)
 
 -- some bytes more were taken
-pub plan_on : (form : Form) (most : ℕ) (notes later : Reading Planned) (input bytes : List ℕ) → notes ≡ After form (beginning (nothing most)) input → later ≡ After form notes bytes
-    → later ≡ After form (beginning (nothing most)) (input ++ bytes)
-plan_on form most notes later input bytes is more = more ∙ ap (λ r. After form r bytes) is ∙ sym (plan-append form (beginning (nothing most)) input bytes)
+pub plan_on : (form : Form) (notes later : Reading Planned) (input bytes : List ℕ) → notes ≡ After form (beginning nothing) input → later ≡ After form notes bytes
+    → later ≡ After form (beginning nothing) (input ++ bytes)
+plan_on form notes later input bytes is more = more ∙ ap (λ r. After form r bytes) is ∙ sym (plan-append form (beginning nothing) input bytes)

@@ -32,10 +32,10 @@ module _ (form : Form) (config : Configuration) (workers : ℕ) (unread left hel
   ran_early (Err e) bad stop silent fault = record { ok = tt; read_fault = silent; early = stop; legal = tt; fault = fault }
 
   -- a beginning of the answers to the refused lines was written
-  pub stopped_in_refused : (input : List ℕ) (n : ℕ) (shown : List ℕ) → shown ≡ (plan_of form config input).refused → Consumes unread left input → IsAtEnd left → Appends held holds (take n shown)
+  pub stopped_in_refused : (input : List ℕ) (n : ℕ) (shown : List ℕ) → shown ≡ (plan_of form input).refused → Consumes unread left input → IsAtEnd left → Appends held holds (take n shown)
       → StopsRace form config workers unread left held holds
   stopped_in_refused input n shown is read complete written =
-      let all = (plan_of form config input).refused in
+      let all = (plan_of form input).refused in
       record {
         input = input;
         read = read;
@@ -46,10 +46,10 @@ module _ (form : Form) (config : Configuration) (workers : ℕ) (unread left hel
       }
 
   -- all of them were
-  pub stopped_behind_refused : (input shown : List ℕ) → shown ≡ (plan_of form config input).refused → Consumes unread left input → IsAtEnd left → Appends held holds shown
+  pub stopped_behind_refused : (input shown : List ℕ) → shown ≡ (plan_of form input).refused → Consumes unread left input → IsAtEnd left → Appends held holds shown
       → StopsRace form config workers unread left held holds
   stopped_behind_refused input shown is read complete written =
-      let all = (plan_of form config input).refused in
+      let all = (plan_of form input).refused in
       record {
         input = input;
         read = read;
@@ -59,23 +59,23 @@ module _ (form : Form) (config : Configuration) (workers : ℕ) (unread left hel
         written = subst (Appends held holds) is written;
       }
 
-  module _ (mid : Option (List ℕ)) (input shown report : List ℕ) (is : shown ≡ (plan_of form config input).refused) (read : Consumes unread left input) (complete : IsAtEnd left)
-      (first : Appends held mid shown) (answers : IsTextOf form config workers (plan_of form config input) ((plan_of form config input).refused ++ report)) where
+  module _ (mid : Option (List ℕ)) (input shown report : List ℕ) (is : shown ≡ (plan_of form input).refused) (read : Consumes unread left input) (complete : IsAtEnd left)
+      (first : Appends held mid shown) (answers : IsTextOf form config workers (plan_of form input) ((plan_of form input).refused ++ report)) where
     -- the report was written too
     pub raced : Appends mid holds report → Races form config workers unread left held holds
     raced second = record {
       input = input;
       read = read;
       complete = complete;
-      text = (plan_of form config input).refused ++ report;
+      text = (plan_of form input).refused ++ report;
       answers = answers;
-      written = Appends-trans held mid holds (plan_of form config input).refused report (subst (Appends held mid) is first) second;
+      written = Appends-trans held mid holds (plan_of form input).refused report (subst (Appends held mid) is first) second;
     }
 
     -- or a beginning of it
     pub stopped_in_report : Puts report mid holds → StopsRace form config workers unread left held holds
     stopped_in_report puts =
-        let all = (plan_of form config input).refused in
+        let all = (plan_of form input).refused in
         record {
           input = input;
           read = read;
@@ -92,7 +92,7 @@ stopped_silent form config workers unread left held input read = record {
   read = read;
   text = [];
   complete = inl refl;
-  begins = inl (starts (plan_of form config input).refused [] (plan_of form config input).refused refl);
+  begins = inl (starts (plan_of form input).refused [] (plan_of form input).refused refl);
   written = Appends-nil held;
 }
 

@@ -3,52 +3,45 @@ use Rattle.std.specs.Prelude.{ℕ, ◌||◌, Bool, codes, nat_eq, nat_lt, if◌t
 use Rattle.std.specs.Io.BufRead.{strip_last}
 use Rattle.std.specs.List.{starts_with}
 use Rattle.kv_keys.specs.declared.error.KvError.{KvError}
-use Rattle.kv_keys.specs.declared.error.KvError.TheVariants.{BadCommand, JournalFull, NoReader}
+use Rattle.kv_keys.specs.declared.error.KvError.TheVariants.{BadCommand, NoReader}
 use Rattle.kv_model.specs.Requests.{Asked}
 use Rattle.kv_model.specs.declared.options.Options.{Options}
 use Rattle.kv_script.specs.Commands.{Meaning, Write, Watch, is_skipped, line_command}
 use Rattle.kv_script.specs.declared.form.Form.{Form}
 use Rattle.kv_script.specs.Text.{refusal_text}
 
--- the most writes that it takes; the answers to the lines that are refused, and the writes and the watches that the
--- others ask for, each in the order of the lines
+-- the answers to the lines that are refused, and the writes and the watches that the others ask for, each in the order
+-- of the lines
 pub record Planned : Type 0 where
-  pub most : ℕ
   pub refused : List ℕ
   pub requests : List Asked
   pub watches : List (List (List ℕ) × Options)
 
 -- before the first line
-abbrev pub nothing : ℕ → Planned
-nothing most = record { most = most; refused = []; requests = []; watches = [] }
+abbrev pub nothing : Planned
+nothing = record { refused = []; requests = []; watches = [] }
 
 -- a refused line is answered by its refusal, and takes no part
 abbrev pub refuse : Planned → KvError → Planned
 refuse plan error = record {
-  most = plan.most;
   refused = plan.refused ++ refusal_text error;
   requests = plan.requests;
   watches = plan.watches;
 }
 
--- a write behind the most is refused as the bucket would be full, and takes no part
+-- every write takes part, however many there are: whether it is accepted is what the bucket answers in the race
 abbrev pub add_request : Planned → Asked → Planned
-add_request plan request =
-    if nat_lt (length plan.requests) plan.most
-    then record {
-      most = plan.most;
-      refused = plan.refused;
-      requests = plan.requests ++ request ∷ [];
-      watches = plan.watches;
-    }
-    else refuse plan JournalFull
+add_request plan request = record {
+  refused = plan.refused;
+  requests = plan.requests ++ request ∷ [];
+  watches = plan.watches;
+}
 
 -- there are at most 32 watches
 abbrev pub add_watch : Planned → List (List ℕ) × Options → Planned
 add_watch plan watch =
     if nat_lt (length plan.watches) 32
     then record {
-      most = plan.most;
       refused = plan.refused;
       requests = plan.requests;
       watches = plan.watches ++ watch ∷ [];
@@ -90,6 +83,6 @@ abbrev pub after_lines : Form → Planned → List (List ℕ) → Planned
 after_lines form plan [] = plan
 after_lines form plan (line ∷ lines) = after_lines form (after_line form plan line) lines
 
--- what these lines ask for, where so many writes are taken at the most
-abbrev pub planned : Form → ℕ → List (List ℕ) → Planned
-planned form most lines = after_lines form (nothing most) lines
+-- what these lines ask for
+abbrev pub planned : Form → List (List ℕ) → Planned
+planned form lines = after_lines form nothing lines

@@ -20,9 +20,9 @@ use Rattle.kv_store.specs.Stored.{Stored}
 abbrev pub no_text : Planned → List ℕ → List ℕ
 no_text plan line = []
 
--- what the bytes of a script ask for: no more writes than the bucket stores
-abbrev pub plan_of : Form → Configuration → List ℕ → Planned
-plan_of form config input = planned form config.write_limit (lines_of input)
+-- what the bytes of a script ask for
+abbrev pub plan_of : Form → List ℕ → Planned
+plan_of form input = planned form (lines_of input)
 
 -- a text of a plan: the answers to its refused lines, and then what a race of its dealt requests and its watches
 -- answered
@@ -46,7 +46,7 @@ module _ (form : Form) (config : Configuration) (workers : ℕ) (unread left hel
     pub read : Consumes unread left input
     pub complete : IsAtEnd left
     pub text : List ℕ
-    pub answers : IsTextOf form config workers (plan_of form config input) text
+    pub answers : IsTextOf form config workers (plan_of form input) text
     pub written : Appends held holds text
 
   -- some was read, and nothing was written
@@ -61,7 +61,7 @@ module _ (form : Form) (config : Configuration) (workers : ℕ) (unread left hel
     pub read : Consumes unread left input
     pub text : List ℕ
     pub complete : (text ≡ []) ⊎ IsAtEnd left
-    pub begins : BeginsText form config workers (plan_of form config input) text
+    pub begins : BeginsText form config workers (plan_of form input) text
     pub written : Appends held holds text
 
 -- why a race ends early where this is what its configuration and its number of workers come to: their refusal, and

@@ -37,12 +37,12 @@ impl Model for Notes {
 impl Notes {
     ghost use Rattle.kv_replay.specs.declared.lines.TheConstants.{KEPT_BYTES};
 
-    /// Before the first line, where so many writes are taken at the most.
-    pub(crate) fn new(alloc: Global, most: u64) -> Notes
-        ensures { result ≡ beginning (nothing most) }
+    /// Before the first line.
+    pub(crate) fn new(alloc: Global) -> Notes
+        ensures { result ≡ beginning nothing }
     {
         Notes {
-            plan: Plan::new(alloc, most),
+            plan: Plan::new(alloc),
             line: Vec::new(alloc),
         }
     }

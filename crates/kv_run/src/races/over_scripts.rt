@@ -37,10 +37,10 @@ fn check(config: &Config, workers: usize) -> Result<(), KvError>
 /// Reads the script of a source to its end, races 1 to 16 workers over it on a new bucket, and writes what they were
 /// answered and what each watch handed out to a sink. Values stand in both in this form.
 ///
-/// The script has writes, which are dealt to the workers in turn, and at most 32 watches. Of the writes no more are
-/// taken than the bucket stores: each further one is JournalFull. Other lines are refused: the answers to them come
-/// first. Then come the replies, worker by worker, and then the items, watch by watch. Nothing is written before all
-/// was read. The configuration is refused before anything is read, and so is the number of workers (BadConfig).
+/// The script has writes, which are dealt to the workers in turn, and at most 32 watches. Every write takes part, and is
+/// kept until the race has ended. Other lines are refused: the answers to them come first. Then come the replies,
+/// worker by worker, and then the items, watch by watch. Nothing is written before all was read. The configuration is
+/// refused before anything is read, and so is the number of workers (BadConfig).
 pub fn race_script<R: Threads + Wait + Sync, S: BoundedInput, K: Output>(
     rt: &R,
     alloc: Global,
@@ -63,7 +63,7 @@ pub fn race_script<R: Threads + Wait + Sync, S: BoundedInput, K: Output>(
     ensures refused { IfErr result (λ e. IsBadConfiguration e → (source.new ≡ source.old) × (sink.new ≡ sink.old)) }
 {
     check(config, workers)?;
-    let plan = read_plan(alloc, form, source, config.write_limit)?;
+    let plan = read_plan(alloc, form, source)?;
     let (refused, requests, watches) = plan.parts();
     let scripts = deal(alloc, requests, workers)?;
     sink.write(&refused)?;

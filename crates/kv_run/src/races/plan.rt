@@ -18,7 +18,6 @@ const MOST_WATCHES: usize = 32;
 /// What the lines of a script ask for, where many workers race: writes and watches. It also has the answers to the
 /// lines that are refused, which take no part.
 pub struct Plan {
-    most: u64,
     refused: Vec<u8>,
     requests: Vec<Request>,
     watches: Vec<(Filters, Options)>,
@@ -27,7 +26,6 @@ pub struct Plan {
 impl Drop for Plan {
     fn drop(self) {
         let Self {
-            most: _,
             refused: _,
             requests: _,
             watches: _,
@@ -43,7 +41,6 @@ impl Model for Plan {
     ghost Value = { Planned };
 
     ghost view = { λ p. record {
-      most = p.most;
       refused = p.refused.items;
       requests = map asked p.requests.items;
       watches = p.watches.items;
@@ -63,12 +60,11 @@ fn takes_part(line: &[u8]) -> bool
 }
 
 impl Plan {
-    /// Before the first line, where so many writes are taken at the most.
-    pub fn new(alloc: Global, most: u64) -> Plan
-        ensures { result ≡ nothing most }
+    /// Before the first line.
+    pub fn new(alloc: Global) -> Plan
+        ensures { result ≡ nothing }
     {
         Plan {
-            most,
             refused: Vec::new(alloc),
             requests: Vec::new(alloc),
             watches: Vec::new(alloc),
@@ -82,7 +78,6 @@ impl Plan {
         ensures watches { result.2.items ≡ self.watches }
     {
         let Self {
-            most: _,
             refused,
             requests,
             watches,
@@ -98,13 +93,10 @@ impl Plan {
         Ok(())
     }
 
-    fn add_request(&mut self, alloc: Global, request: Request) -> Result<(), KvError>
+    fn add_request(&mut self, request: Request) -> Result<(), KvError>
         ensures ok { OnOk result (self.new ≡ add_request self.old (asked request)) }
         ensures err { IfErr result (λ e. e ≡ OutOfMemory) }
     {
-        if self.requests.len() as u64 >= self.most {
-            return self.refuse(alloc, KvError::JournalFull);
-        }
         self.requests.push(request)?;
         Ok(())
     }
@@ -130,7 +122,7 @@ impl Plan {
         ensures err { IfErr result (λ e. e ≡ OutOfMemory) }
     {
         match command {
-            Command::Write(request) => self.add_request(alloc, request),
+            Command::Write(request) => self.add_request(request),
             Command::Watch(filters, options) => self.add_watch(alloc, filters, options),
             _ => self.refuse(alloc, KvError::BadCommand),
         }

@@ -17,20 +17,19 @@ use std::alloc::Global;
 /// Reads the source to its end.
 fn read_lines<S: BoundedInput>(
     mut notes: Notes,
-    most: u64,
     alloc: Global,
     form: Form,
     buffer: &mut [u8],
     source: &mut S,
 ) -> Result<Plan, KvError>
     requires room { 0 < length buffer.old }
-    requires begins { notes ≡ beginning (nothing most) }
+    requires begins { notes ≡ beginning nothing }
     ensures same { S.goes_on source.old source.new }
     ensures in_time { S.has_ended source.old ≡ false → S.was_asked_late source.new ≡ S.was_asked_late source.old }
     ensures ok { IfOk result
         (λ plan. (input : List ℕ)
         × (Consumes (S.left source.old) (S.left source.new) input
-        × (IsAtEnd (S.left source.new) × (plan ≡ planned form most (lines_of input))))) }
+        × (IsAtEnd (S.left source.new) × (plan ≡ planned form (lines_of input))))) }
     ensures part { OnErr result ((input : List ℕ) × Consumes (S.left source.old) (S.left source.new) input) }
     ensures read_fault { IsErrOf result KvError.ReadFault → S.failed_between source.old source.new }
     ensures fault { IfErr result (λ e. (e ≡ OutOfMemory) ⊎ (e ≡ ReadFault)) }
@@ -45,24 +44,23 @@ fn read_lines<S: BoundedInput>(
     }
 }
 
-/// Reads a script to its end, and answers what its lines ask for, where so many writes are taken at the most.
+/// Reads a script to its end, and answers what its lines ask for.
 pub(crate) fn read_plan<S: BoundedInput>(
     alloc: Global,
     form: Form,
     source: &mut S,
-    most: u64,
 ) -> Result<Plan, KvError>
     ensures same { S.goes_on source.old source.new }
     ensures in_time { S.has_ended source.old ≡ false → S.was_asked_late source.new ≡ S.was_asked_late source.old }
     ensures ok { IfOk result
         (λ plan. (input : List ℕ)
         × (Consumes (S.left source.old) (S.left source.new) input
-        × (IsAtEnd (S.left source.new) × (plan ≡ planned form most (lines_of input))))) }
+        × (IsAtEnd (S.left source.new) × (plan ≡ planned form (lines_of input))))) }
     ensures part { OnErr result ((input : List ℕ) × Consumes (S.left source.old) (S.left source.new) input) }
     ensures read_fault { IsErrOf result KvError.ReadFault → S.failed_between source.old source.new }
     ensures fault { IfErr result (λ e. (e ≡ OutOfMemory) ⊎ (e ≡ ReadFault)) }
 {
-    let notes = Notes::new(alloc, most);
+    let notes = Notes::new(alloc);
     let mut buffer = new_buffer(alloc, BUFFER_BYTES)?;
-    read_lines(notes, most, alloc, form, &mut buffer, source)
+    read_lines(notes, alloc, form, &mut buffer, source)
 }

@@ -175,13 +175,35 @@ fn scripts(rt: HostRuntime) -> Result<(), Fail> {
 
 const RACES: &[Row] = &[
     (&["--race", "16"], "", ""),
-    // A write behind the limit takes no part, though one before it is refused.
+    // A write line behind as many as the bucket stores takes part: one before it may be refused.
     (
         &["--race", "1", "--write-limit", "2"],
-        "put a MQ==\ncreate a Mg==\nput a Mw==\n",
-        "{\"code\":9,\"error\":\"JournalFull\"}\n\
+        "put a -\ncreate a -\nput a -\n",
+        "{\"revision\":1,\"worker\":1}\n\
+        {\"code\":10,\"error\":\"KeyExists\",\"worker\":1}\n\
+        {\"revision\":2,\"worker\":1}\n",
+    ),
+    // The bucket refuses it where it is full.
+    (
+        &["--race", "1", "--write-limit", "2"],
+        "put a -\nput b -\nput c -\nget a\ncreate a -\n",
+        "{\"code\":16,\"error\":\"BadCommand\"}\n\
         {\"revision\":1,\"worker\":1}\n\
-        {\"code\":10,\"error\":\"KeyExists\",\"worker\":1}\n",
+        {\"revision\":2,\"worker\":1}\n\
+        {\"code\":9,\"error\":\"JournalFull\",\"worker\":1}\n\
+        {\"code\":9,\"error\":\"JournalFull\",\"worker\":1}\n",
+    ),
+    // The write lines are dealt in turn, whoever writes first.
+    (
+        &["--race", "3", "--write-limit", "1"],
+        "delete a 4\ndelete a 5\ndelete a 6\ndelete a 7\nput .a -\nput a YQ\ndelete a 8\n",
+        "{\"code\":4,\"error\":\"BadKey\"}\n\
+        {\"code\":16,\"error\":\"BadCommand\"}\n\
+        {\"code\":11,\"error\":\"WrongLastRevision\",\"last\":0,\"worker\":1}\n\
+        {\"code\":11,\"error\":\"WrongLastRevision\",\"last\":0,\"worker\":1}\n\
+        {\"code\":11,\"error\":\"WrongLastRevision\",\"last\":0,\"worker\":2}\n\
+        {\"code\":11,\"error\":\"WrongLastRevision\",\"last\":0,\"worker\":2}\n\
+        {\"code\":11,\"error\":\"WrongLastRevision\",\"last\":0,\"worker\":3}\n",
     ),
     // Refused lines come first.
     (

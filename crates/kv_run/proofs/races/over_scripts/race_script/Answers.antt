@@ -15,9 +15,7 @@ use Rattle.kv_run.specs.Races.{EndsRace, plan_of}
 use Rattle.kv_replay.proofs.Ending.{handed_on, on_ok}
 use Rattle.kv_run.proofs.Racing.{check_ends, not_read, ran_early, raced, raced_same, read_ends, report_cause, report_ends, silent, stopped_behind_refused, stopped_in_refused, stopped_in_report, stopped_silent, text_of, write_ends}
 use Rattle.kv_run.proofs.races.over_scripts.race_script.Goals as goal
-use Rattle.kv_model.specs.Configuration.{Configuration, has_legal_numbers}
-use Rattle.kv_replay.specs.Lines.{lines_of}
-use Rattle.kv_run.specs.Planning.{planned}
+use Rattle.kv_model.specs.Configuration.{has_legal_numbers}
 
 abbrev Script : Type 0
 Script = Vec Request Global
@@ -57,8 +55,7 @@ returns-in_err-write-clause-ran g c =
     let ends = c.from_residual-in_err-write in
     let all = c.in_ok-plan.ensures.ok in
     let legal = subst IsOk (sym c.in_ok-check.ensures.ok.0) refl in
-    let limit : c.config.inside.write_limit ≡ config.write_limit = ap (λ (whole : Configuration). whole.write_limit) c.config.view_is in
-    let plan = all.1.1.1 ∙ ap (λ most. planned c.args.form most (lines_of all.0)) limit in
+    let plan = all.1.1.1 in
     let is = c.deref.ensures.value ∙ c.parts-refused.ensures.refused ∙ ap (λ p. p.refused) plan in
     let cause = c.in_err-write.ensures.fault in
     let failed = c.in_err-write.ensures.err in
@@ -76,8 +73,7 @@ returns-in_err-report-clause-ran g c =
     let cause = report_cause config workers watches c.in_err-report.field-0.0 c.in_ok-check.ensures.ok.0 (subst (λ n. RefusesRace c.in_err-report.field-0.0 (may_race config n watches)) same c.in_err-report.ensures.refused) in
     let all = c.in_ok-plan.ensures.ok in
     let legal = subst IsOk (sym c.in_ok-check.ensures.ok.0) refl in
-    let limit : c.config.inside.write_limit ≡ config.write_limit = ap (λ (whole : Configuration). whole.write_limit) c.config.view_is in
-    let plan = all.1.1.1 ∙ ap (λ most. planned c.args.form most (lines_of all.0)) limit in
+    let plan = all.1.1.1 in
     let is = c.deref.ensures.value ∙ c.parts-refused.ensures.refused ∙ ap (λ p. p.refused) plan in
     ran_early c.args.form config workers _ _ _ _ ends.result ends.ensures.0 (stopped_behind_refused c.args.form config workers _ _ _ _ all.0 _ is all.1.0 all.1.1.0 c.in_ok-write.ensures.ok)
     (λ fault. elim cause [
@@ -105,13 +101,12 @@ returns-clause-ran g c =
     let workers = c.args.workers in
     let all = c.in_ok-plan.ensures.ok in
     let input = all.0 in
-    let limit : c.config.inside.write_limit ≡ config.write_limit = ap (λ (whole : Configuration). whole.write_limit) c.config.view_is in
-    let plan = all.1.1.1 ∙ ap (λ most. planned c.args.form most (lines_of input)) limit in
+    let plan = all.1.1.1 in
     let legal = subst IsOk (sym c.in_ok-check.ensures.ok.0) refl in
     let is = c.deref.ensures.value ∙ c.parts-refused.ensures.refused ∙ ap (λ p. p.refused) plan in
     let scripts = ap (map (λ (script : Script). map asked script.items)) c.deref-2.ensures.value ∙ c.in_ok-scripts.ensures.ok ∙ ap (dealt workers) (c.parts-refused.ensures.requests ∙ ap (λ p. p.requests) plan) in
     let watches = c.deref-3.ensures.value ∙ c.parts-refused.ensures.watches ∙ ap (λ p. p.watches) plan in
-    let answers = text_of c.args.form config workers (plan_of c.args.form config input) _ _ _ (raced_same config _ _ _ _ _ _ _ c.in_ok-report.ensures.ok scripts watches) in
+    let answers = text_of c.args.form config workers (plan_of c.args.form input) _ _ _ (raced_same config _ _ _ _ _ _ _ c.in_ok-report.ensures.ok scripts watches) in
     record {
       ok = on_ok_weaker c.write_report.result (λ written. raced c.args.form config workers _ _ _ _ _ input _ _ is all.1.0 all.1.1.0 c.in_ok-write.ensures.ok answers written) c.write_report.ensures.ok;
       read_fault = λ fault. absurd (subst (λ (r : Result ⊤ KvError). IfErr r IsWriteOrMemory) fault c.write_report.ensures.fault);

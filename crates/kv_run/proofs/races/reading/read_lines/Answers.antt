@@ -11,7 +11,7 @@ returns-then-count-eq0-clause-ok g c =
     let input = so_far.0 in
     let nothing_more = rw c.if-count-eq0.true at c.in_ok-count.ensures.bytes.0 in
     let room : 0 < length c.read.new.buffer = omega arith in
-    let plan = c.plan.ensures ∙ ap (λ r. r.state) c.in_ok-end_line.ensures.ok ∙ ap (λ r. after_line c.args.form r.state r.line) so_far.1.1 ∙ plan_of-read c.args.form c.args.most input in
+    let plan = c.plan.ensures ∙ ap (λ r. r.state) c.in_ok-end_line.ensures.ok ∙ ap (λ r. after_line c.args.form r.state r.line) so_far.1.1 ∙ plan_of-read c.args.form input in
     (input, (read_on _ _ _ input so_far.1.0 nothing_more, (c.in_ok-count.ensures.bytes.1 c.if-count-eq0.true room, plan)))
 
 pub reads-preserved : goal.reads-preserved
@@ -27,7 +27,7 @@ reads-preserved g c = record {
         so_far.0 ++ _,
         (
           Consumes-trans _ _ _ so_far.0 _ so_far.1.0 c.in_ok-count.ensures.bytes.0,
-          plan_on c.args.form c.args.most _ _ so_far.0 _ so_far.1.1 c.in_ok-take_bytes.ensures.ok,
+          plan_on c.args.form _ _ so_far.0 _ so_far.1.1 c.in_ok-take_bytes.ensures.ok,
         ),
       );
 }

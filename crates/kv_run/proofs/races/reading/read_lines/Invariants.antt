@@ -11,7 +11,7 @@ abbrev pub invariant-reads : goal.invariant-reads
 invariant-reads g l = record {
   same : g.S.BoundedInput.goes_on l.initial.source l.source;
   in_time : g.S.BoundedInput.has_ended l.initial.source ≡ false → (g.S.BoundedInput.has_ended l.source ≡ false) × (g.S.BoundedInput.was_asked_late l.source ≡ g.S.BoundedInput.was_asked_late l.initial.source);
-  reached : (input : List ℕ) × (Consumes (g.S.BoundedInput.left l.initial.source) (g.S.BoundedInput.left l.source) input × (l.notes ≡ after_bytes KEPT_BYTES no_text (after_line l.form) (beginning (nothing l.most)) input));
+  reached : (input : List ℕ) × (Consumes (g.S.BoundedInput.left l.initial.source) (g.S.BoundedInput.left l.source) input × (l.notes ≡ after_bytes KEPT_BYTES no_text (after_line l.form) (beginning nothing) input));
 }
 
 abbrev pub decreases-reads : goal.decreases-reads
