@@ -1,13 +1,13 @@
 #!/usr/bin/env python3
-"""nats PROGRAM [LIBRARIES]: tests python/vilgoued_nats.py, tools/to-nats and tools/from-nats against a nats-server, which is started on
+"""nats PROGRAM [LIBRARIES]: tests python/vilgoued_nats.py, python/to-nats and python/from-nats against a nats-server, which is started on
 loopback with its store in a temporary folder, and ended. PROGRAM is a built kvbucket; LIBRARIES is the folder of libvilgoued.so, or
 else lib/. Where there is no nats-server, and Debian's package is not to be had, all of it is left out. The last line is
 'N passed, M failed'."""
 import os, sys, tempfile, unittest
 
 sys.dont_write_bytecode = True
-top = os.path.realpath(os.path.join(os.path.dirname(__file__), ".."))
-sys.path[:0] = [os.path.join(top, "python"), os.path.join(top, "tools", "server")]
+top = os.path.realpath(os.path.join(os.path.dirname(__file__), "..", ".."))
+sys.path[:0] = [os.path.join(top, "python"), os.path.join(top, "tests", "python"), os.path.join(top, "tests", "server")]
 import running
 
 

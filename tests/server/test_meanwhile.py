@@ -7,7 +7,7 @@ import unittest
 from vilgoued_nats import Bucket, KeyExists
 
 server = os.environ["VILGOUED_SERVER"]
-tools = os.path.join(os.path.dirname(os.path.abspath(__file__)), "..")
+tools = os.path.join(os.path.dirname(os.path.abspath(__file__)), "..", "..", "python")
 
 
 class Interrupted(Bucket):

@@ -16,7 +16,7 @@ Of each page, what it names has to exist: the files and headings of its links, t
 (`Type::call`, `module::call`), edits (`crates/NAME/must-fail`) and other names that stand in it as code."""
 import glob, os, re, shlex, subprocess, sys, tempfile
 
-top = os.path.realpath(os.path.join(os.path.dirname(__file__), ".."))
+top = os.path.realpath(os.path.join(os.path.dirname(__file__), "..", ".."))
 run_pages = ["README.md", "docs/script.md"]
 TRIES = 500
 # Names that are no edits, nor of this tree.
@@ -168,7 +168,7 @@ def tree():
         words.update(re.findall(r"[\w-]+", text))
         words.update(re.findall(r"\w+", text))
         words.update(re.split(r"[/.]", path))
-    for pattern in ("crates.txt", "bench", "kvbucket", "library", "test", "tools/*", "tools/c/*", "tools/server/*", "include/*", "python/*", "rows/*/*", ".ci/*", "HANDLES"):
+    for pattern in ("crates.txt", "bench", "kvbucket", "library", "test", "scripts/*", "tests/*", "tests/*/*", "tests/scripts/*/*", "include/*", "python/*", ".ci/*", "HANDLES"):
         for path in glob.glob(os.path.join(top, pattern)):
             if os.path.isfile(path):
                 words.update(re.findall(r"\w+", read(path)))

@@ -5,7 +5,7 @@ less than in the file. Each example file has to be quoted, too, so that none is 
 line is 'N passed, M failed'."""
 import os, sys
 
-top = os.path.join(os.path.dirname(os.path.abspath(__file__)), "..")
+top = os.path.join(os.path.dirname(os.path.abspath(__file__)), "..", "..")
 pages = ["README.md", "docs/library.md"]
 crates = [os.path.join(top, "crates", name) for name in ("kv_run_tests", "kv_live_tests")]
 kinds = {"```rust": ".rt", "```antt": ".antt"}

@@ -3,7 +3,7 @@
 # folder is given where it lies. The last line is 'N passed, M failed'.
 set -u -o pipefail
 export LC_ALL=C
-top=$(cd "$(dirname "${BASH_SOURCE[0]}")/.." && pwd)
+top=$(cd "$(dirname "${BASH_SOURCE[0]}")/../.." && pwd)
 folder=$(mktemp -d)
 trap 'rm -rf "$folder"' EXIT
 CC=${CC:-cc}
@@ -27,12 +27,12 @@ try() {
 
 # exported: the names that the library has are those of the header
 exported() {
-  nm -D --defined-only "$lib/libvilgoued.so" | awk '$2 == "T" { print $3 }' | sort | diff "$top/tools/c/exported" -
+  nm -D --defined-only "$lib/libvilgoued.so" | awk '$2 == "T" { print $3 }' | sort | diff "$top/tests/c/exported" -
 }
 
 # undefined: the library wants nothing but what libc says of memory; a runtime, threads or locks would show here
 undefined() {
-  nm -u "$lib/libvilgoued.so" | awk '$1 == "U" { sub("@.*", "", $2); print $2 }' | sort -u | comm -23 - "$top/tools/c/undefined" >"$folder/wanted"
+  nm -u "$lib/libvilgoued.so" | awk '$1 == "U" { sub("@.*", "", $2); print $2 }' | sort -u | comm -23 - "$top/tests/c/undefined" >"$folder/wanted"
   cat "$folder/wanted"
   [ ! -s "$folder/wanted" ]
 }
@@ -60,7 +60,7 @@ answers() {
 # worked DRIVER: every worked script but a race, which the library has not
 worked() {
   local driver=$1 row count=0
-  for row in "$top"/rows/*/; do
+  for row in "$top"/tests/scripts/*/; do
     if ! grep -qs -- --race "$row/args"; then
       answers "$driver" "$row" || { echo "in $row"; return 1; }
       count=$((count + 1))
@@ -69,11 +69,11 @@ worked() {
   [ "$count" -gt 0 ]
 }
 
-# built NAME FLAG..: makes a program of tools/c beside the static library
+# built NAME FLAG..: makes a program of tests/c beside the static library
 built() {
   local name=$1
   shift
-  "$CC" -Wall -Wextra -Werror -I"$top/include" "$top/tools/c/${name%%-*}.c" "$@" "$lib/libvilgoued.a" -o "$folder/$name" -pthread
+  "$CC" -Wall -Wextra -Werror -I"$top/include" "$top/tests/c/${name%%-*}.c" "$@" "$lib/libvilgoued.a" -o "$folder/$name" -pthread
 }
 
 if [ -n "${1:-}" ]; then
@@ -102,8 +102,8 @@ try "each request for memory refused in turn" "$folder/sweep"
 try "script.c is built" built script -O2
 try "the worked scripts, answered as the program does" worked "$folder/script"
 try "example.c is built" built example -O2
-try "example.c says what it is to say" says "$top/tools/c/example.stdout" "$folder/example"
-try "docs/c.md quotes example.c" quotes docs/c.md c "$top/tools/c/example.c"
+try "example.c says what it is to say" says "$top/tests/c/example.stdout" "$folder/example"
+try "docs/c.md quotes example.c" quotes docs/c.md c "$top/tests/c/example.c"
 echo 'int main(void) { return 0; }' >"$folder/empty.c"
 if "$CC" -fsanitize=address,undefined "$folder/empty.c" -o "$folder/empty" 2>/dev/null && "$folder/empty"; then
   for name in use threads sweep script; do
@@ -125,7 +125,7 @@ else
 fi
 if command -v python3 >/dev/null; then
   try "the tests of vilgoued.py" env VILGOUED_LIBRARY="$lib/libvilgoued.so" PYTHONDONTWRITEBYTECODE=1 \
-    python3 -m unittest discover -s "$top/python"
+    PYTHONPATH="$top/python" python3 -m unittest discover -s "$top/tests/python"
   try "example.py says what it is to say" says "$top/python/example.stdout" \
     env VILGOUED_LIBRARY="$lib/libvilgoued.so" PYTHONDONTWRITEBYTECODE=1 python3 "$top/python/example.py"
   try "docs/c.md quotes example.py" quotes docs/c.md python "$top/python/example.py"

@@ -1,4 +1,4 @@
-"""tools/to-nats and tools/from-nats: a bucket there and back again, and what goes wrong on the way."""
+"""python/to-nats and python/from-nats: a bucket there and back again, and what goes wrong on the way."""
 import os
 import socket
 import subprocess
@@ -12,7 +12,7 @@ from vilgoued_nats import MARKER, Bucket, copy_to
 server = os.environ["VILGOUED_SERVER"]
 nats_server = os.environ["NATS_SERVER"]
 program = os.environ["KVBUCKET"]
-tools = os.path.join(os.path.dirname(os.path.abspath(__file__)), "..")
+tools = os.path.join(os.path.dirname(os.path.abspath(__file__)), "..", "..", "python")
 
 SCRIPT = """put a MQ==
 put a Mg==

@@ -1,12 +1,12 @@
 #!/usr/bin/env python3
-"""Measures what a put and a take cost where a bucket has so many keys: tools/costs PROGRAM
+"""Measures what a put and a take cost where a bucket has so many keys: scripts/costs.py PROGRAM
 
 It feeds the program `put` lines with values of 16 bytes, and tells the processor time that the program took for each of
 some more, the line and its answer counted in, in microseconds: of keys that are there, and of new keys. It also tells the
 memory that the program has then. It tells the same of each item that `take` lines hand out, of entries that were there when
 the watch was opened, and of later writes. Then it tells what a compaction takes by what is stored, and which memory three
 million puts over a thousand keys take with a compaction every 100,000 of them, without a watch and with one that takes as
-it goes. It asserts nothing. `tools/bench` measures lines as it does.
+it goes. It asserts nothing. `scripts/bench.py` measures lines as it does.
 """
 import os
 import random

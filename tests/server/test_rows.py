@@ -1,4 +1,4 @@
-"""The worked scripts of rows/ on a NATS server: the answers have to be those that ./kvbucket gives, but for the differences that are
+"""The worked scripts of tests/scripts/ on a NATS server: the answers have to be those that ./kvbucket gives, but for the differences that are
 listed here."""
 import os
 import unittest
@@ -7,7 +7,7 @@ from replay import replay
 from vilgoued_nats import Bucket
 
 server = os.environ["VILGOUED_SERVER"]
-rows = os.path.join(os.path.dirname(os.path.abspath(__file__)), "..", "..", "rows")
+rows = os.path.join(os.path.dirname(os.path.abspath(__file__)), "..", "scripts")
 
 # What asks for something that a server doesn't have.
 LEFT_OUT = {

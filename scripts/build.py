@@ -125,7 +125,7 @@ def link(folder):
 
 
 def sources(names):
-    return subprocess.run([os.path.join(top, "tools", "sources"), *names], capture_output=True, check=True).stdout
+    return subprocess.run([os.path.join(top, "scripts", "sources"), *names], capture_output=True, check=True).stdout
 
 
 def show(path):

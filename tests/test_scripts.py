@@ -1,5 +1,5 @@
 #!/usr/bin/env python3
-"""rows PROGRAM [--most N] [--jobs N]: runs each row of rows/ through the program: its arguments (args, one line) and its
+"""rows PROGRAM [--most N] [--jobs N]: runs each row of tests/scripts/ through the program: its arguments (args, one line) and its
 standard input (stdin) have to give its text (stdout) and status 0. Then each row again, once for each request for memory
 that it makes, with that one refused: the program then writes the whole text with status 0, or whole lines from its
 beginning with status 1 and `kvbucket: OutOfMemory` on standard error. Of a row that makes more than so many requests (20,000)
@@ -8,10 +8,11 @@ then only the number of replies is compared. The last line is 'N passed, M faile
 import argparse, concurrent.futures, os, sys, tempfile
 
 sys.dont_write_bytecode = True
+sys.path.insert(0, os.path.join(os.path.dirname(os.path.abspath(__file__)), "memory"))
 import refusing
 
 here = os.path.dirname(os.path.abspath(__file__))
-folder_of_rows = os.path.join(here, "..", "rows")
+folder_of_rows = os.path.join(here, "scripts")
 
 
 def read(path):

@@ -1,7 +1,7 @@
 #!/usr/bin/env python3
 """bench [--short] BENCH KVBUCKET [FOLDER]: measures the bucket and what a user would take in its place, by the programs
 kv_bench and kvbucket, within five minutes, and writes into the folder (docs/bench where none is given) the figures as
-figures.tsv, a page of tables as README.md, and charts where matplotlib is there (tools/charts). It tells on standard
+figures.tsv, a page of tables as README.md, and charts where matplotlib is there (scripts/charts.py). It tells on standard
 error what it is doing.
 
 With --short it looks at whether that works: each group at its smallest size, into a folder that is thrown away. Its last
@@ -143,11 +143,11 @@ def map_get(bench):
     return next(it.median for it in run(bench, "beside-maps", 10_000, 1) if it.what == "get" and it.of.startswith("HashMap"))
 
 
-# Lines through the program, as tools/costs measures them.
+# Lines through the program, as scripts/costs.py measures them.
 
 
 def costs():
-    path = os.path.join(top, "tools", "costs")
+    path = os.path.join(top, "scripts", "costs.py")
     loader = importlib.machinery.SourceFileLoader("costs", path)
     made = importlib.util.module_from_spec(importlib.util.spec_from_loader("costs", loader))
     loader.exec_module(made)
@@ -297,7 +297,7 @@ GROUPS = (
      "Resident memory after, less before, for each key or write; each a process of its own. Of fewer than 100,000 as many "
      "buckets are weighed at once as have so many. What a compaction frees stays with the process, for later writes."),
     ("lines", "Lines through the program", "By keys",
-     "Processor time of `kvbucket` for a line and its answer, as `tools/costs` measures it: batches of 20,000 gets and of "
+     "Processor time of `kvbucket` for a line and its answer, as `scripts/costs.py` measures it: batches of 20,000 gets and of "
      "2,000 puts, where the keys are new of a fifth of the keys at most. Nine rounds, spread over the whole run of the bench; "
      "each program waits with its keys in between, so a round begins with as many gets as there are keys (100,000 of 990,000), "
      "and ends with deletes of its new keys and a compaction, which are not measured. The program asks for pages of 2 MiB, as `./kvbucket` has it do; `kv_bench`, of which all other figures are, "
@@ -345,7 +345,7 @@ def page(figures, load, machine, left_out, charts):
            "speaks of time or memory. The maps, the lock and the channels are the kit's, and not those of Rust's library. "
            "Where there are more threads than processors, they share them.")
     yield ""
-    yield "All figures are in [figures.tsv](figures.tsv), drawn by `tools/charts` where matplotlib is there."
+    yield "All figures are in [figures.tsv](figures.tsv), drawn by `scripts/charts.py` where matplotlib is there."
     for group, title, heading, how in GROUPS:
         found = [it for it in figures if it.group == group]
         if found:
@@ -374,11 +374,11 @@ def has_matplotlib():
 def drawn(folder):
     """The charts that were drawn, by group: none where no Python here has matplotlib."""
     for python in PYTHONS:
-        done = subprocess.run([python, os.path.join(top, "tools", "charts"), folder], capture_output=True, text=True)
+        done = subprocess.run([python, os.path.join(top, "scripts", "charts.py"), folder], capture_output=True, text=True)
         if done.returncode == 0:
             break
     else:
-        say("no charts, and any that are there are of an earlier run: " + (done.stderr.strip().split("\n")[-1] or "tools/charts failed"))
+        say("no charts, and any that are there are of an earlier run: " + (done.stderr.strip().split("\n")[-1] or "scripts/charts.py failed"))
     charts = collections.defaultdict(list)
     for line in done.stdout.splitlines():
         group, name = line.split("\t")
