@@ -1,15 +1,18 @@
 #!/usr/bin/env python3
-"""build [PROGRAM]: proves and builds a program, kvbucket where none is named, and every library that it stands on, as many
+"""build.py [PROGRAM]: proves and builds a program, kvbucket where none is named, and every library that it stands on, as many
 crates side by side as there are processors, and tells on standard error which are being proved, how many are done, and how
 long it has taken. What was proved stays in the crates' folders out/, so a build that was interrupted goes on where it was.
 A crate begins when those that it stands on are done, and gets its share of the processors: where the crates stand one on
 another, one has them all."""
-import concurrent.futures, importlib.machinery, importlib.util, os, re, shutil, signal, subprocess, sys, time
+import concurrent.futures, os, re, signal, subprocess, sys, time
 
 sys.dont_write_bytecode = True
 top = os.path.realpath(os.path.join(os.path.dirname(__file__), ".."))
+sys.path.insert(0, top)
+from scripts import current, kit
+
 name = sys.argv[1] if len(sys.argv) > 1 else "kvbucket"
-program = os.path.join(top, "crates", name, "out", name)
+program = current.path_of(name)
 started = time.monotonic()
 processors = len(os.sched_getaffinity(0))
 
@@ -21,22 +24,6 @@ def say(text):
 def elapsed():
     seconds = int(time.monotonic() - started)
     return "%d min %02d s" % divmod(seconds, 60) if seconds >= 60 else "%d s" % seconds
-
-
-def kit():
-    """The kit's own builder of crates, which its command rt is made of: rt itself keeps two crates that stand on one from
-    being proved side by side, as it holds every crate below the one that it works on."""
-    rt = shutil.which("rt")
-    if rt is None:
-        say("the Rattle kit's command rt is not on the path")
-        sys.exit(2)
-    path = os.path.join(os.path.dirname(os.path.realpath(rt)), "rtlib.py")
-    loader = importlib.machinery.SourceFileLoader("rtlib", path)
-    made = importlib.util.module_from_spec(importlib.util.spec_from_loader("rtlib", loader))
-    sys.modules["rtlib"] = made
-    loader.exec_module(made)
-    made.guarded()
-    return made
 
 
 def memory():
@@ -124,10 +111,6 @@ def link(folder):
         return subprocess.run(["rt", "run", *arguments(folder)], **how).returncode
 
 
-def sources(names):
-    return subprocess.run([os.path.join(top, "scripts", "sources"), *names], capture_output=True, check=True).stdout
-
-
 def show(path):
     with open(path, encoding="utf-8", errors="replace") as log:
         sys.stderr.write("".join(log.readlines()[-20:]))
@@ -137,11 +120,14 @@ def main():
     # With Python's own handler an interrupt would wait for the checks that run.
     signal.signal(signal.SIGINT, signal.SIG_DFL)
     os.chdir(top)
-    rtlib = kit()
+    if kit.command() is None:
+        say("the Rattle kit's command rt is not on the path")
+        sys.exit(2)
+    rtlib = kit.builder()
     folder = os.path.join(top, "crates", name)
     whole = rtlib.Crate(folder, top, {})
     names = [it.name for it in [*whole.below(), whole]]
-    before = sources(names)
+    before = current.sources(name)
     held = rtlib.lock([*whole.below(), whole])
     build = Build([it for it in whole.below()])
     build.done = [it for it in whole.below() if it.is_built()]
@@ -159,13 +145,11 @@ def main():
         show(program + ".log")
         say("the program was not built; all that was said of it is in crates/%s/out/%s.log" % (name, name))
         sys.exit(2)
-    if sources(names) != before:
+    if not current.keep(name, before):
         say("the sources changed while they were proved: run it again")
         sys.exit(2)
-    summed = subprocess.run(["sha256sum"], stdin=open(program, "rb"), capture_output=True, check=True).stdout
-    with open(program + ".sources", "wb") as kept:
-        kept.write(before + summed)
     say("proved and built: %d crates, %s" % (len(names), elapsed()))
 
 
-main()
+if __name__ == "__main__":
+    main()
