@@ -1,15 +1,18 @@
 #!/usr/bin/env python3
-"""bench [--short] BENCH KVBUCKET [FOLDER]: measures the bucket and what a user would take in its place, by the programs
+"""bench.py [--short] BENCH KVBUCKET [FOLDER]: measures the bucket and what a user would take in its place, by the programs
 kv_bench and kvbucket, within five minutes, and writes into the folder (docs/bench where none is given) the figures as
 figures.tsv, a page of tables as README.md, and charts where matplotlib is there (scripts/charts.py). It tells on standard
 error what it is doing.
 
 With --short it looks at whether that works: each group at its smallest size, into a folder that is thrown away. Its last
 line is 'N passed, M failed'."""
-import collections, datetime, importlib.machinery, importlib.util, os, platform, random, subprocess, sys, tempfile, time
+import collections, datetime, os, platform, random, subprocess, sys, tempfile, time
 
 sys.dont_write_bytecode = True
 top = os.path.realpath(os.path.join(os.path.dirname(__file__), ".."))
+sys.path.insert(0, top)
+from scripts.lines import VALUE, Program
+
 started = time.monotonic()
 # The seconds after which nothing is begun that may be left out.
 BUDGET = 270
@@ -143,15 +146,7 @@ def map_get(bench):
     return next(it.median for it in run(bench, "beside-maps", 10_000, 1) if it.what == "get" and it.of.startswith("HashMap"))
 
 
-# Lines through the program, as scripts/costs.py measures them.
-
-
-def costs():
-    path = os.path.join(top, "scripts", "costs.py")
-    loader = importlib.machinery.SourceFileLoader("costs", path)
-    made = importlib.util.module_from_spec(importlib.util.spec_from_loader("costs", loader))
-    loader.exec_module(made)
-    return made
+# Lines through the program, as scripts/lines.py measures them.
 
 
 class Lines:
@@ -159,10 +154,10 @@ class Lines:
     one with fewer keys is written to."""
 
     def __init__(self, kvbucket, sizes, gets, puts):
-        self.module, self.gets, self.puts = costs(), gets, puts
+        self.gets, self.puts = gets, puts
         self.read = set(sizes)
         self.written = {min(size, MOST_WRITTEN) for size in sizes}
-        self.programs = {keys: self.module.Program(kvbucket) for keys in sorted(self.read | self.written)}
+        self.programs = {keys: Program(kvbucket) for keys in sorted(self.read | self.written)}
         # The last revisions, and the nanoseconds of each round.
         self.revisions = {keys: keys for keys in self.programs}
         self.times = collections.defaultdict(list)
@@ -186,7 +181,7 @@ class Lines:
         return "get device.%d.state\n" % key
 
     def put(self, key):
-        return "put device.%d.state %s\n" % (key, self.module.VALUE)
+        return "put device.%d.state %s\n" % (key, VALUE)
 
     def some(self, size, lines):
         return [random.randrange(size) for _ in range(lines)]
@@ -297,7 +292,7 @@ GROUPS = (
      "Resident memory after, less before, for each key or write; each a process of its own. Of fewer than 100,000 as many "
      "buckets are weighed at once as have so many. What a compaction frees stays with the process, for later writes."),
     ("lines", "Lines through the program", "By keys",
-     "Processor time of `kvbucket` for a line and its answer, as `scripts/costs.py` measures it: batches of 20,000 gets and of "
+     "Processor time of `kvbucket` for a line and its answer, as `scripts/lines.py` measures it: batches of 20,000 gets and of "
      "2,000 puts, where the keys are new of a fifth of the keys at most. Nine rounds, spread over the whole run of the bench; "
      "each program waits with its keys in between, so a round begins with as many gets as there are keys (100,000 of 990,000), "
      "and ends with deletes of its new keys and a compaction, which are not measured. The program asks for pages of 2 MiB, as `./kvbucket` has it do; `kv_bench`, of which all other figures are, "
@@ -504,4 +499,5 @@ def main():
     whole(bench, kvbucket, *(folder or [os.path.join(top, "docs", "bench")]))
 
 
-main()
+if __name__ == "__main__":
+    main()

@@ -1,5 +1,5 @@
 #!/usr/bin/env python3
-"""charts FOLDER: draws the figures of FOLDER/figures.tsv, which scripts/bench.py wrote, as charts beside them, by matplotlib
+"""charts.py FOLDER: draws the figures of FOLDER/figures.tsv, which scripts/bench.py wrote, as charts beside them, by matplotlib
 (python3-matplotlib in Debian's packages). It tells each chart as a line: its group, a tab, its file. Each shows medians, with
 the least and the most of the rounds as bars, and can be read alone."""
 import collections, math, os, sys
@@ -143,4 +143,5 @@ def main():
     draw(folder, of)
 
 
-main()
+if __name__ == "__main__":
+    main()

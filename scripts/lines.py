@@ -1,19 +1,12 @@
 #!/usr/bin/env python3
-"""Measures what a put and a take cost where a bucket has so many keys: scripts/costs.py PROGRAM
+"""Tells a program lines, and measures what they cost: the processor time that it took for them, and the memory that it has.
 
-It feeds the program `put` lines with values of 16 bytes, and tells the processor time that the program took for each of
-some more, the line and its answer counted in, in microseconds: of keys that are there, and of new keys. It also tells the
-memory that the program has then. It tells the same of each item that `take` lines hand out, of entries that were there when
-the watch was opened, and of later writes. Then it tells what a compaction takes by what is stored, and which memory three
-million puts over a thousand keys take with a compaction every 100,000 of them, without a watch and with one that takes as
-it goes. It asserts nothing. `scripts/bench.py` measures lines as it does.
+    lines.py PROGRAM    prints the memory that three million puts over a thousand keys take, with a compaction every 100,000 of
+                        them, without a watch and with one that takes as it goes
 """
-import os
-import random
-import subprocess
-import sys
-import threading
+import os, subprocess, sys, threading
 
+# A value of 16 bytes, in base64.
 VALUE = "MDEyMzQ1Njc4OTAxMjM0NQ=="
 
 
@@ -22,6 +15,8 @@ ENVIRONMENT = {"GLIBC_TUNABLES": "glibc.malloc.hugetlb=1", **os.environ}
 
 
 class Program:
+    """A program that runs, and waits for lines."""
+
     def __init__(self, path):
         self.process = subprocess.Popen([path], stdin=subprocess.PIPE, stdout=subprocess.PIPE, env=ENVIRONMENT)
         self.sent = self.answered = self.refused = 0
@@ -63,26 +58,11 @@ class Program:
         """Puts to each key, and returns the microseconds a put."""
         return self.tell("".join(f"put device.{key}.state {VALUE}\n" for key in keys), len(keys)) / len(keys)
 
-    def take(self, watch, items):
-        """Takes so many items, which are there, and returns the microseconds an item."""
-        return self.tell(f"take {watch} {items}\n", items) / items
-
     def end(self):
         """Ends the program, which has to have answered each line, and refused none."""
         self.process.stdin.close()
         if self.process.wait() != 0 or self.refused:
             sys.exit("%s: %d lines were refused" % (self.process.args[0], self.refused))
-
-
-def compaction(path):
-    """What a compaction takes, by how many writes to a thousand keys are stored."""
-    for stored in (10_000, 100_000, 1_000_000):
-        program = Program(path)
-        for _ in range(stored // 10_000):
-            program.put([key % 1_000 for key in range(10_000)])
-        took = program.tell(f"compact {stored}\n", 1)
-        print(f"{stored:7} stored: {took / 1000:7.1f} ms a compaction to the last revision")
-        program.end()
 
 
 def three_million(path, watched):
@@ -103,43 +83,6 @@ def three_million(path, watched):
     program.end()
 
 
-def puts(path):
-    program = Program(path)
-    random.seed(1)
-    keys = 0
-    for stop in (1_000, 10_000, 100_000, 900_000):
-        program.put(range(keys, stop))
-        there = program.put([random.randrange(stop) for _ in range(5_000)])
-        keys = stop + min(stop // 5, 5_000)
-        new = program.put(range(stop, keys))
-        print(f"{stop:7} keys: {there:5.2f} us a key that is there, {new:5.2f} us a new key, {program.megabytes()} MB")
-    program.end()
-
-
-def takes(path):
-    program = Program(path)
-    random.seed(2)
-    keys = 0
-    for number, stop in enumerate((1_000, 10_000, 100_000, 900_000)):
-        program.put(range(keys, stop))
-        keys = stop
-        first, second = 2 * number + 1, 2 * number + 2
-        program.tell("watch >\nwatch > updates\n", 2)
-        there = program.take(first, 1_000)
-        program.put([random.randrange(stop) for _ in range(5_000)])
-        later = program.take(second, 5_000)
-        program.tell(f"stop {first}\nstop {second}\n", 2)
-        print(f"{stop:7} keys: {there:5.2f} us an entry that was there, {later:5.2f} us a later write")
-    program.end()
-
-
-def main():
-    puts(sys.argv[1])
-    takes(sys.argv[1])
-    compaction(sys.argv[1])
+if __name__ == "__main__":
     three_million(sys.argv[1], False)
     three_million(sys.argv[1], True)
-
-
-if __name__ == "__main__":
-    main()
