@@ -1,25 +1,16 @@
-#!/usr/bin/env python3
-"""compactions PROGRAM [WRITES]: runs a script of 300,000 writes, or as many as are asked for, over a thousand keys, with a compaction
-each 10,000 and a watch that is taken from each 1,000; and one of a third as many. Each line of the answers has to be the one that
-is worked out here, from the last write of each key. No more than 11,000 writes may be stored, so each compaction has to make room
-for the next writes; and the longer run may take no more than a few MB of memory above the shorter one. The last line is
-'N passed, M failed'."""
-import base64, os, subprocess, sys, threading, time
+"""Compactions, and memory that they keep level: a script of 300,000 writes, or as many as WRITES says, over a thousand keys, with a
+compaction each 10,000 and a watch that is taken from each 1,000; and one of a third as many. Each line of the answers has to be the
+one that is worked out here, from the last write of each key. No more than 11,000 writes may be stored, so each compaction has to
+make room for the next writes; and the longer run may take no more than a few MB of memory above the shorter one."""
+import base64, os, subprocess, threading, time, unittest
 
-program = os.path.abspath(sys.argv[1])
-most = int(sys.argv[2]) if len(sys.argv) > 2 else 300_000
-passed = failed = 0
+from tests import program
+
+WRITES = int(os.environ.get("WRITES", 300_000))
 BEHIND = b'{"code":20,"error":"WatchBehind","watch":1}\n'
 BAD_FLOOR = b'{"code":19,"error":"BadFloor"}\n'
 EMPTY = b'{"empty":true,"watch":1}\n'
 NUMBERS = b'{"bucket":"kv","history":1,"last":%d,"sealed":false,"stored":%d,"values":%d,"watches":1}\n'
-
-
-def check(name, holds, seen=""):
-    global passed, failed
-    passed, failed = passed + bool(holds), failed + (not holds)
-    if not holds:
-        print("%s: %s" % (name, seen))
 
 
 def compacted(last, keys):
@@ -78,25 +69,31 @@ def memory_of(run):
         return next(int(line.split()[1]) for line in file if line.startswith("VmHWM:")) / 1024
 
 
-def peak_of(writes):
-    """Runs the script, and tells how much memory the process held at most."""
-    start = time.time()
-    run = subprocess.Popen([program, "--write-limit", "11000"], stdin=subprocess.PIPE, stdout=subprocess.PIPE)
-    writer = threading.Thread(target=write, args=(run, writes))
-    writer.start()
-    fault = fault_of(run, writes)
-    check("%d writes" % writes, not fault, fault)
-    peak = memory_of(run) if not fault else 0
-    if fault:
-        run.kill()
-    writer.join()
-    rest = run.communicate()[0]
-    check("%d writes: the end" % writes, fault or (run.returncode == 0 and rest == b""), (run.returncode, rest[-200:]))
-    print("%d writes with compactions: %.1f s, %.1f MB at most" % (writes, time.time() - start, peak))
-    return peak
+class Compactions(unittest.TestCase):
+    def peak_of(self, writes):
+        """Runs the script, and tells how much memory the process held at most, or 0 where it answers otherwise."""
+        start = time.time()
+        run = subprocess.Popen([program.path, "--write-limit", "11000"], stdin=subprocess.PIPE, stdout=subprocess.PIPE)
+        writer = threading.Thread(target=write, args=(run, writes))
+        writer.start()
+        fault = fault_of(run, writes)
+        peak = memory_of(run) if not fault else 0
+        if fault:
+            run.kill()
+        writer.join()
+        rest = run.communicate()[0]
+        print("%d writes with compactions: %.1f s, %.1f MB at most" % (writes, time.time() - start, peak))
+        with self.subTest("%d writes" % writes):
+            self.assertEqual(fault, "")
+        with self.subTest("the end of %d writes" % writes):
+            self.assertEqual((run.returncode, rest), (0, b""))
+        return peak
+
+    def test_memory_stays_level(self):
+        short, long = self.peak_of(WRITES // 3), self.peak_of(WRITES)
+        with self.subTest("the memory"):
+            self.assertTrue(0 < long < short + 4, "%.1f MB, and %.1f MB for three times as many" % (short, long))
 
 
-short, long = peak_of(most // 3), peak_of(most)
-check("the memory", 0 < long < short + 4, "%.1f MB, and %.1f MB for three times as many" % (short, long))
-print("%d passed, %d failed" % (passed, failed))
-sys.exit(failed > 0 or passed == 0)
+if __name__ == "__main__":
+    unittest.main()

@@ -1,13 +1,12 @@
-#!/usr/bin/env python3
-"""races PROGRAM [RACES]: runs races over a script of two watches and twenty puts, one after another: 200, or as many as are
-asked for. Each is of 4 workers, and each tenth of 16. Each has to end by itself within 20 seconds, and to answer each put
-by a revision, 1 to 20 each once and rising for each worker; each watch has to show its marker and then, in the order of
-the revisions, each put that it matches, once, with its value. It tells in how many of the races workers wrote in between
-each other, and the time. The last line is 'N passed, M failed'."""
-import base64, json, os, subprocess, sys, time
+"""Races over a script of two watches and twenty puts, one after another: 200, or as many as RACES says. Each is of 4 workers, and
+each tenth of 16. Each has to end by itself within 20 seconds, and to answer each put by a revision, 1 to 20 each once and rising for
+each worker; each watch has to show its marker and then, in the order of the revisions, each put that it matches, once, with its
+value. It tells in how many of the races workers wrote in between each other, and the time."""
+import base64, json, os, subprocess, time, unittest
 
-program = os.path.abspath(sys.argv[1])
-races = int(sys.argv[2]) if len(sys.argv) > 2 else 200
+from tests import program
+
+RACES = int(os.environ.get("RACES", 200))
 PUTS = [("ab"[n % 2] + ".%d" % n, base64.b64encode(b"value %d" % n).decode()) for n in range(20)]
 WATCHES = {">": lambda key: True, "a.*": lambda key: key.startswith("a.")}
 SCRIPT = "".join(["watch %s\n" % filter for filter in WATCHES] + ["put %s %s\n" % put for put in PUTS]).encode()
@@ -34,7 +33,7 @@ def items_of(watch, matches, revisions):
 def race_of(workers):
     """What is wrong with one race, or nothing, and whether workers wrote in between each other."""
     try:
-        done = subprocess.run([program, "--race", str(workers)], input=SCRIPT, capture_output=True, timeout=20)
+        done = subprocess.run([program.path, "--race", str(workers)], input=SCRIPT, capture_output=True, timeout=20)
     except subprocess.TimeoutExpired:
         return "it did not end", False
     if done.returncode != 0 or done.stderr:
@@ -49,18 +48,19 @@ def race_of(workers):
     return "" if lines[len(PUTS):] == items else "items %r" % lines[len(PUTS):], mixed
 
 
-failed = mixed = 0
-longest = 0.0
-start = time.time()
-for race in range(races):
-    began = time.time()
-    workers = 16 if race % 10 == 9 else 4
-    fault, is_mixed = race_of(workers)
-    mixed += is_mixed
-    longest = max(longest, time.time() - began)
-    if fault:
-        failed += 1
-        print("race %d of %d workers: %s" % (race + 1, workers, fault))
-print("%d races, %d of them with workers that wrote in between each other: %.1f s, the longest %.2f s" % (races, mixed, time.time() - start, longest))
-print("%d passed, %d failed" % (races - failed, failed))
-sys.exit(failed > 0 or races == 0)
+class Races(unittest.TestCase):
+    def test_races(self):
+        mixed, longest, start = 0, 0.0, time.time()
+        for race in range(RACES):
+            began, workers = time.time(), 16 if race % 10 == 9 else 4
+            fault, is_mixed = race_of(workers)
+            mixed += is_mixed
+            longest = max(longest, time.time() - began)
+            with self.subTest(race=race + 1, workers=workers):
+                self.assertEqual(fault, "")
+        print("%d races, %d of them with workers that wrote in between each other: %.1f s, the longest %.2f s"
+              % (RACES, mixed, time.time() - start, longest))
+
+
+if __name__ == "__main__":
+    unittest.main()

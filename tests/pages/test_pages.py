@@ -1,8 +1,6 @@
-#!/usr/bin/env python3
-"""pages [PROGRAM]: holds the pages to the program and to the tree, so that none can go stale. The last line is 'N passed,
-M failed'.
+"""Holds the pages to the program and to the tree, so that none can go stale.
 
-With a program, everything that README.md and docs/script.md show of it is run, and its answers are compared, byte by byte:
+Everything that README.md and docs/script.md show of it is run by the program, and its answers are compared, byte by byte:
 - a block `script ARGUMENTS..` is its input, and the block `answers` that follows is what it has to write;
 - a block `sh` that is followed by `answers` is a command line, run by bash, where ./kvbucket stands for the program;
 - `some-answers` is one of several outcomes (of a race): the run is repeated until it comes;
@@ -14,14 +12,15 @@ Each table of docs/script.md has these columns, and neither page has a block of 
 
 Of each page, what it names has to exist: the files and headings of its links, the files and folders, calls
 (`Type::call`, `module::call`), edits (`crates/NAME/must-fail`) and other names that stand in it as code."""
-import glob, os, re, shlex, subprocess, sys, tempfile
+import glob, os, re, shlex, subprocess, tempfile, unittest
 
-top = os.path.realpath(os.path.join(os.path.dirname(__file__), "..", ".."))
+from scripts import kit
+from tests import program, top
+
 run_pages = ["README.md", "docs/script.md"]
 TRIES = 500
 # Names that are no edits, nor of this tree.
 OUTSIDE = {"im", "must-fail", "left-right", "delta", "lib/"}
-passed = failed = 0
 
 
 def read(path):
@@ -29,22 +28,21 @@ def read(path):
         return file.read()
 
 
+def right(page, line):
+    """What was looked at, and what is wrong with it."""
+    return "%s:%d" % (page, line), ""
+
+
 def wrong(page, line, text):
-    global failed
-    failed += 1
-    print("%s:%d: %s" % (page, line, text))
-
-
-def right():
-    global passed
-    passed += 1
+    return "%s:%d" % (page, line), text
 
 
 # What a page consists of.
 
 
 def parts_of(page):
-    """The blocks of a page, as (line, kind, lines), its tables, as (line, arguments, rows), and its other lines, numbered."""
+    """The blocks of a page, as (line, kind, lines), its tables, as (line, arguments, rows), and its other lines, numbered. A block
+    with no end is of the kind "no end"."""
     blocks, tables, texts = [], [], []
     fence = table = None
     for number, line in enumerate(read(os.path.join(top, page)).split("\n"), 1):
@@ -72,7 +70,7 @@ def parts_of(page):
             table = None
         texts.append((number, line))
     if fence is not None:
-        wrong(page, fence[0], "this block has no end")
+        blocks.append((fence[0], "no end", fence[2]))
     return blocks, tables, texts
 
 
@@ -87,67 +85,67 @@ def arguments_in(line):
 # What the program has to answer.
 
 
-def run_program(program, arguments, lines):
+def run_program(arguments, lines):
     text = "".join(line + "\n" for line in lines)
-    done = subprocess.run([program, *arguments], input=text.encode(), capture_output=True, timeout=120)
+    done = subprocess.run([program.path, *arguments], input=text.encode(), capture_output=True, timeout=120)
     return (done.stdout + done.stderr).decode().split("\n")[:-1]
 
 
-def run_shell(program, lines, folder):
-    text = "\n".join(lines).replace("./kvbucket", shlex.quote(program))
+def run_shell(lines, folder):
+    text = "\n".join(lines).replace("./kvbucket", shlex.quote(program.path))
     done = subprocess.run(["bash", "-c", text], stdin=subprocess.DEVNULL, capture_output=True, timeout=120, cwd=folder)
     return (done.stdout + done.stderr).decode().split("\n")[:-1]
 
 
 def compare(page, line, wanted, found):
     if wanted == found:
-        return right()
+        return right(page, line)
     at = next((n for n, (a, b) in enumerate(zip(wanted, found)) if a != b), min(len(wanted), len(found)))
     shown = [lines[at] if at < len(lines) else "nothing" for lines in (wanted, found)]
-    wrong(page, line, "answer %d is %s, and the page says %s" % (at + 1, shown[1], shown[0]))
+    return wrong(page, line, "answer %d is %s, and the page says %s" % (at + 1, shown[1], shown[0]))
 
 
-def run_blocks(page, blocks, program, folder):
+def run_blocks(page, blocks, folder):
     for (line, kind, lines), (_, after, answers) in zip(blocks, blocks[1:] + [(0, "", [])]):
         word, *arguments = kind.split() or [""]
         if word == "script" and after not in ("answers", "some-answers"):
-            wrong(page, line, "no block of answers follows this script")
+            yield wrong(page, line, "no block of answers follows this script")
         if word not in ("script", "sh", "answers", "some-answers", "rust", "python"):
-            wrong(page, line, "a block of a kind that nothing compares: %r" % kind)
+            yield wrong(page, line, "a block of a kind that nothing compares: %r" % kind)
         if word not in ("script", "sh") or after not in ("answers", "some-answers"):
             continue
-        run = (lambda: run_program(program, arguments, lines)) if word == "script" else (lambda: run_shell(program, lines, folder))
+        run = (lambda: run_program(arguments, lines)) if word == "script" else (lambda: run_shell(lines, folder))
         found = run()
         for _ in range(TRIES if after == "some-answers" else 0):
             if found == answers:
                 break
             found = run()
-        compare(page, line, answers, found)
+        yield compare(page, line, answers, found)
 
 
-def run_table(page, line, arguments, rows, program, folder):
+def run_table(page, line, arguments, rows, folder):
     head = rows[0][1]
     if "Example" not in head or "Answer" not in head:
         if page == "docs/script.md":
-            wrong(page, line, "this table has no columns Example and Answer, so nothing runs it")
+            yield wrong(page, line, "this table has no columns Example and Answer, so nothing runs it")
         return
     example, answer = head.index("Example"), head.index("Answer")
     session = []
     for number, cells in rows[1:]:
         if len(cells) != len(head):
-            wrong(page, number, "this row has another number of cells than the head of its table")
+            yield wrong(page, number, "this row has another number of cells than the head of its table")
             continue
         lines, answers = codes(cells[example]), codes(cells[answer])
         if not lines:
-            wrong(page, number, "this row has no example")
+            yield wrong(page, number, "this row has no example")
         elif lines[0].startswith("./kvbucket"):
-            compare(page, number, answers, run_shell(program, lines, folder))
+            yield compare(page, number, answers, run_shell(lines, folder))
         else:
             session.append((number, lines, answers))
-    found = run_program(program, arguments, [line for _, lines, _ in session for line in lines]) if session else []
+    found = run_program(arguments, [line for _, lines, _ in session for line in lines]) if session else []
     for at, (number, _, answers) in enumerate(session):
         is_last = at == len(session) - 1
-        compare(page, number, answers, found if is_last else found[: len(answers)])
+        yield compare(page, number, answers, found if is_last else found[: len(answers)])
         found = found[len(answers):]
 
 
@@ -210,7 +208,7 @@ def is_there(name, texts, words):
     if re.fullmatch(r"[a-z0-9]+(-[a-z0-9]+)+", name):
         return bool(glob.glob(os.path.join(top, "crates", "*", "must-fail", name + ".edit"))) or name in words
     if re.fullmatch(r"[A-Za-z]\w*", name):
-        return name in words or os.path.isdir(os.path.join(kit, name))
+        return name in words or os.path.isdir(os.path.join(kit.libraries(), name))
     return True
 
 
@@ -227,43 +225,52 @@ def check_links(page, texts_of_page):
             path, _, anchor = target.partition("#")
             file = os.path.normpath(os.path.join(top, os.path.dirname(page), path)) if path else os.path.join(top, page)
             if not os.path.exists(file):
-                wrong(page, number, "there is no file %s" % path)
+                yield wrong(page, number, "there is no file %s" % path)
             elif anchor and anchor not in headings(file):
-                wrong(page, number, "%s has no heading %s" % (path or page, anchor))
+                yield wrong(page, number, "%s has no heading %s" % (path or page, anchor))
             else:
-                right()
+                yield right(page, number)
 
 
-def kit_folder():
-    found = subprocess.run(["bash", "-c", 'dirname "$(dirname "$(readlink -f "$(command -v rt)")")"'], capture_output=True, text=True)
-    return os.path.join(found.stdout.strip(), "rattle")
+def check_names(page, texts_of_page, texts, words):
+    for number, line in texts_of_page:
+        for name in codes(line):
+            yield right(page, number) if is_there(name, texts, words) else wrong(page, number, "nothing here is named `%s`" % name)
 
 
-def main():
-    global kit
-    kit = kit_folder()
-    program = os.path.abspath(sys.argv[1]) if len(sys.argv) > 1 else None
-    pages = sorted(os.path.relpath(path, top) for pattern in ("*.md", "docs/*.md", "docs/*/*.md") for path in glob.glob(os.path.join(top, pattern)))
-    texts, words = tree()
-    with tempfile.TemporaryDirectory() as folder:
-        for page in pages:
-            blocks, tables, lines = parts_of(page)
-            if program and page in run_pages:
-                run_blocks(page, blocks, program, folder)
+def pages():
+    found = (path for pattern in ("*.md", "docs/*.md", "docs/*/*.md") for path in glob.glob(os.path.join(top, pattern)))
+    return sorted(os.path.relpath(path, top) for path in found)
+
+
+class Pages(unittest.TestCase):
+    def hold(self, looked_at):
+        for place, fault in looked_at:
+            with self.subTest(place):
+                self.assertEqual(fault, "")
+
+    def test_what_they_show_is_what_the_program_answers(self):
+        with tempfile.TemporaryDirectory() as folder:
+            for page in run_pages:
+                blocks, tables, _ = parts_of(page)
+                self.hold(run_blocks(page, blocks, folder))
                 for line, arguments, rows in tables:
-                    run_table(page, line, arguments, rows, program, folder)
-            check_links(page, lines)
-            for number, line in lines:
-                for name in codes(line):
-                    if is_there(name, texts, words):
-                        right()
-                    else:
-                        wrong(page, number, "nothing here is named `%s`" % name)
-    if program and not all(page in pages for page in run_pages):
-        wrong(run_pages[0], 1, "a page that is to be run is not there")
-    print("%d pages, %d of them run" % (len(pages), len(run_pages) if program else 0))
-    print("%d passed, %d failed" % (passed, failed))
-    sys.exit(failed > 0 or passed == 0)
+                    self.hold(run_table(page, line, arguments, rows, folder))
+
+    def test_their_links_lead_somewhere(self):
+        for page in pages():
+            self.hold(check_links(page, parts_of(page)[2]))
+
+    def test_their_blocks_have_ends(self):
+        for page in pages():
+            with self.subTest(page):
+                self.assertEqual([line for line, kind, _ in parts_of(page)[0] if kind == "no end"], [])
+
+    def test_what_they_name_is_there(self):
+        texts, words = tree()
+        for page in pages():
+            self.hold(check_names(page, parts_of(page)[2], texts, words))
 
 
-main()
+if __name__ == "__main__":
+    unittest.main()

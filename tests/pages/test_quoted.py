@@ -1,11 +1,10 @@
-#!/usr/bin/env python3
-"""quoted: each block of Rattle in README.md and docs/library.md has to stand, word for word, in a file of the crates of tests
-that hold their examples, where they are proved and run: in src, and each block of a proof in proofs. A block may be indented
-less than in the file. Each example file has to be quoted, too, so that none is left without a word of what it shows. The last
-line is 'N passed, M failed'."""
-import os, sys
+"""Each block of Rattle in README.md and docs/library.md has to stand, word for word, in a file of the crates of tests that hold their
+examples, where they are proved and run: in src, and each block of a proof in proofs. A block may be indented less than in the file.
+Each example file has to be quoted, too, so that none is left without a word of what it shows."""
+import os, unittest
 
-top = os.path.join(os.path.dirname(os.path.abspath(__file__)), "..", "..")
+from tests import top
+
 pages = ["README.md", "docs/library.md"]
 crates = [os.path.join(top, "crates", name) for name in ("kv_run_tests", "kv_live_tests")]
 kinds = {"```rust": ".rt", "```antt": ".antt"}
@@ -43,6 +42,7 @@ def stands_in(block, lines):
 
 
 def files():
+    """The files of the crates, code and proofs."""
     for part in (os.path.join(crate, part) for crate in crates for part in ("src", "proofs")):
         for folder, _, names in sorted(os.walk(part)):
             for name in sorted(names):
@@ -54,31 +54,32 @@ def is_example(path):
     return os.path.dirname(path) in [os.path.join(crate, "src", "examples") for crate in crates]
 
 
-def main():
-    of_pages = [blocks_of(page) for page in pages]
-    blocks = [block for of_page, _ in of_pages for block in of_page]
-    texts = {path: lines_of(path) for path in files()}
-    quoted = set()
-    passed = failed = 0
-    for place, ending, block in blocks:
-        found = [path for path in texts if block and path.endswith(ending) and stands_in(block, texts[path])]
-        quoted.update(found)
-        if found:
-            passed += 1
-        else:
-            failed += 1
-            print("%s: this block stands in no file of the crates of examples" % place)
-    for path in texts:
-        if is_example(path) and path not in quoted:
-            failed += 1
-            print("%s is quoted nowhere" % os.path.relpath(path, top))
-    for page, (of_page, open_at_end) in zip(pages, of_pages):
-        if open_at_end or not of_page:
-            failed += 1
-            print("%s has no whole block of Rattle, or one with no end" % page)
-    print("%d blocks of %s in %d files" % (len(blocks), " and ".join(pages), len(texts)))
-    print("%d passed, %d failed" % (passed, failed))
-    sys.exit(failed > 0)
+class Quoted(unittest.TestCase):
+    def setUp(self):
+        self.pages = {page: blocks_of(page) for page in pages}
+        self.texts = {path: lines_of(path) for path in files()}
+
+    def quotes(self, ending, block):
+        """The files where a block stands."""
+        return [path for path, lines in self.texts.items() if block and path.endswith(ending) and stands_in(block, lines)]
+
+    def test_each_block_stands_in_a_file(self):
+        for blocks, _ in self.pages.values():
+            for place, ending, block in blocks:
+                with self.subTest(place):
+                    self.assertTrue(self.quotes(ending, block), "this block stands in no file of the crates of examples")
+
+    def test_each_example_is_quoted(self):
+        quoted = {path for blocks, _ in self.pages.values() for _, ending, block in blocks for path in self.quotes(ending, block)}
+        for path in filter(is_example, self.texts):
+            with self.subTest(os.path.relpath(path, top)):
+                self.assertIn(path, quoted, "it is quoted nowhere")
+
+    def test_each_page_has_whole_blocks(self):
+        for page, (blocks, is_open_at_end) in self.pages.items():
+            with self.subTest(page):
+                self.assertTrue(blocks and not is_open_at_end, "no whole block of Rattle, or one with no end")
 
 
-main()
+if __name__ == "__main__":
+    unittest.main()

@@ -1,0 +1,1 @@
+"""Runs with requests for memory refused."""

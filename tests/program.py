@@ -1,0 +1,20 @@
+"""The program that is tested: the one that KVBUCKET names, or else the one that the gate or a build left in its crate."""
+import os, subprocess, unittest
+
+from scripts import current
+
+path = os.path.abspath(os.environ.get("KVBUCKET") or current.path_of("kvbucket"))
+
+
+class RunsTest(unittest.TestCase):
+    def check(self, name, arguments, status, text="", faults="", exact=True, standard_input=subprocess.DEVNULL,
+              standard_output=subprocess.PIPE, **given):
+        """Runs the program: its status, and each text, exactly or as a part of what is written."""
+        with self.subTest(name):
+            done = subprocess.run([path, *arguments], stderr=subprocess.PIPE, timeout=60, stdout=standard_output,
+                                  **(given or {"stdin": standard_input}))
+            written, told = (done.stdout or b"").decode(), done.stderr.decode()
+            seen = "status %d, %r, %r" % (done.returncode, written[:200], told[:200])
+            self.assertEqual(done.returncode, status, seen)
+            for found, wanted in ((written, text), (told, faults)):
+                self.assertTrue(found == wanted if exact or not wanted else wanted in found, seen)
