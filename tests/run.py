@@ -1,21 +1,27 @@
 #!/usr/bin/env python3
-"""run.py PART.. [--program PROGRAM] [--library FOLDER] [--tests PROGRAM]: runs parts of the tests. The last line is 'N passed, M failed',
-and counts each test, or each subtest of one that has such.
+"""run.py PART [--program PROGRAM] [--library FOLDER] [--tests TESTS]: runs a part of the tests. The last line is 'N passed, M failed',
+which counts each test, or where a test has subtests each of these.
 
-PROGRAM is a built kvbucket, and where none is named the one in its crate; FOLDER is where libvilgoued lies, or else lib/; --tests
-names a proved test program, crates/NAME/out/NAME_tests, whose requests for memory the part `refusals` refuses."""
-import argparse, os, sys, unittest
+PROGRAM is a built kvbucket, and where none is named the one in its crate; FOLDER is where libvilgoued lies, or else lib/, where
+./library puts it; TESTS is a proved test program, crates/NAME/out/NAME_tests, whose requests for memory the part `refusals` refuses.
+The part `server` starts a nats-server on loopback with its store in a temporary folder, and ends it; where there is none, and Debian's
+package is not to be had, all of it is left out. How much is run, other parts read from variables: RACES, WRITES, MOST and JOBS."""
+import argparse, contextlib, os, sys, tempfile, unittest
 
 sys.dont_write_bytecode = True
 top = os.path.realpath(os.path.join(os.path.dirname(__file__), ".."))
 sys.path[0] = top
 
-# The modules of each part, and the variables that these read what they test from.
+# The modules of each part.
 PARTS = {
     "arguments": ["tests.test_arguments", "tests.test_devices"],
     "streams": ["tests.test_streams"],
     "compactions": ["tests.test_compactions"],
     "races": ["tests.test_races"],
+    "scripts": ["tests.test_scripts"],
+    "refusals": ["tests.memory.test_refusals"],
+    "library": ["tests.c.test_library", "tests.python.test_vilgoued", "tests.python.test_scripts", "tests.python.test_example"],
+    "server": ["tests.python.test_vilgoued", "tests.server.test_scripts", "tests.server.test_copies", "tests.server.test_meanwhile"],
     "quoted": ["tests.pages.test_quoted"],
     "pages": ["tests.pages.test_pages"],
 }
@@ -49,6 +55,21 @@ class Counts(unittest.TextTestResult):
         return len(self.failures) + len(self.errors) + len(self.unexpectedSuccesses)
 
 
+@contextlib.contextmanager
+def nats_server():
+    """Starts a server for the tests on one, and tells whether there is one."""
+    from tests.server import running
+    with tempfile.TemporaryDirectory() as folder:
+        program = running.program(folder)
+        if program is None:
+            yield False
+            return
+        os.environ["NATS_SERVER"] = program
+        with running.Server(program) as server:
+            os.environ["VILGOUED_SERVER"] = server.url
+            yield True
+
+
 def run(part):
     """Runs a part, and tells how many passed and failed."""
     tests = unittest.defaultTestLoader.loadTestsFromNames(PARTS[part])
@@ -60,18 +81,21 @@ def run(part):
 
 def main():
     parser = argparse.ArgumentParser(description=__doc__, formatter_class=argparse.RawDescriptionHelpFormatter)
-    parser.add_argument("parts", nargs="+", choices=PARTS, metavar="PART", help=", ".join(PARTS))
-    parser.add_argument("--program", metavar="PROGRAM")
+    parser.add_argument("part", choices=PARTS, metavar="PART", help=", ".join(PARTS))
+    parser.add_argument("--program")
     parser.add_argument("--library", metavar="FOLDER", default=os.path.join(top, "lib"))
-    parser.add_argument("--tests", metavar="PROGRAM")
+    parser.add_argument("--tests")
     asked = parser.parse_args()
-    if asked.program:
-        os.environ["KVBUCKET"] = os.path.abspath(asked.program)
-    if asked.tests:
-        os.environ["TESTS"] = os.path.abspath(asked.tests)
+    for name, path in (("KVBUCKET", asked.program), ("TESTS", asked.tests)):
+        if path:
+            os.environ[name] = os.path.abspath(path)
     os.environ.setdefault("VILGOUED_LIBRARY", os.path.join(os.path.abspath(asked.library), "libvilgoued.so"))
-    counts = [run(part) for part in asked.parts]
-    passed, failed = (sum(each) for each in zip(*counts))
+    with nats_server() if asked.part == "server" else contextlib.nullcontext(True) as is_there:
+        if not is_there:
+            print("left out, 1 skipped: there is no nats-server: apt-get install nats-server")
+            print("0 passed, 0 failed")
+            return
+        passed, failed = run(asked.part)
     print("%d passed, %d failed" % (passed, failed))
     sys.exit(failed > 0 or passed == 0)
 

@@ -1,6 +1,8 @@
 """Runs a command with one of its requests for memory refused, by refuse.c, which the C compiler of the Rattle kit builds, or
 else cc."""
-import collections, os, subprocess, sys
+import collections, os, subprocess
+
+from scripts import kit
 
 here = os.path.dirname(os.path.abspath(__file__))
 # The seconds that one run may take (in refuse.c likewise).
@@ -11,20 +13,11 @@ LONGEST = 120
 Run = collections.namedtuple("Run", "at is_refused status out err")
 
 
-def kit_compiler():
-    try:
-        page = subprocess.run(["rt", "doc"], capture_output=True, text=True).stdout.strip()
-    except OSError:
-        return "cc"
-    compiler = os.path.join(os.path.dirname(page), "toolchain", "bin", "clang")
-    return compiler if os.access(compiler, os.X_OK) else "cc"
-
-
 def library(folder):
     """The path of the library, which is built in this folder. It needs no headers, and finds the C library when it is loaded."""
     built = os.path.join(folder, "refuse.so")
     asked = ["-O1", "-shared", "-fPIC", "-nostdlib", "-o", built, os.path.join(here, "refuse.c")]
-    compiler = kit_compiler()
+    compiler = kit.compiler()
     subprocess.run([compiler] + asked + (["-ldl"] if compiler == "cc" else ["-fuse-ld=lld"]), check=True)
     return built
 
@@ -65,29 +58,31 @@ def each(command, shim, folder, numbers, stdin=os.devnull):
         else:
             refused[int(at)] = told[1] == b"1"
     if whole.returncode or list(ended) != list(numbers):
-        sys.exit("refusing: %s: not all runs with the requests %s refused took place: %r" % (command, asked, whole.stderr[-300:]))
+        raise RuntimeError("%s: not all runs with the requests %s refused took place: %r" % (command, asked, whole.stderr[-300:]))
     written = {at: [taken("%s-%d.%s" % (log, at, end)) for end in ("out", "err")] for at in numbers}
     return [Run(at, refused.get(at, False), ended[at], *written[at]) for at in numbers]
 
 
-# A test or row that makes so many requests has each of them refused, and of one that makes more a sample is.
-MOST = 20000
+# A test or script that makes so many requests has each of them refused, and of one that makes more a sample is.
+MOST = int(os.environ.get("MOST", 20000))
+# How many runs there are at a time.
+JOBS = int(os.environ.get("JOBS", os.cpu_count()))
 
 
-def step_of(requests, most):
-    """One in how many requests is refused, where so many are at most."""
-    return max(1, -(-requests // most))
+def step_of(requests):
+    """One in how many requests is refused."""
+    return max(1, -(-requests // MOST))
 
 
-def told_of(requests, most):
+def told_of(requests):
     """What is printed of a sample, and nothing where each request is refused."""
-    step = step_of(requests, most)
+    step = step_of(requests)
     return ", a sample: one in %d" % step if step > 1 else ""
 
 
-def in_turn(pool, jobs, command, shim, folder, requests, most, stdin=os.devnull):
+def in_turn(pool, command, shim, folder, requests, stdin=os.devnull):
     """The runs with each of so many requests refused, or with so many of them at most, spread over all."""
-    step = step_of(requests, most)
-    firsts = range(1, min(requests, step * jobs) + 1, step)
-    parts = pool.map(lambda first: each(command, shim, folder, range(first, requests + 1, step * jobs), stdin), firsts)
+    step = step_of(requests)
+    firsts = range(1, min(requests, step * JOBS) + 1, step)
+    parts = pool.map(lambda first: each(command, shim, folder, range(first, requests + 1, step * JOBS), stdin), firsts)
     return sorted(run for part in parts for run in part)

@@ -1,4 +1,4 @@
-"""Tests of vilgoued.py over libvilgoued.so: python3 -m unittest test_vilgoued. Where VILGOUED_SERVER is the URL of a NATS server,
+"""Tests of vilgoued.py over libvilgoued.so, which VILGOUED_LIBRARY names. Where VILGOUED_SERVER is the URL of a NATS server,
 they are the tests of vilgoued_nats.py over it, and those that differ there are expected to fail."""
 import ctypes
 import itertools

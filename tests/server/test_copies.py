@@ -6,13 +6,13 @@ import threading
 import unittest
 
 import vilgoued
-from running import Server
+from tests import program, top
+from tests.server.running import Server
 from vilgoued_nats import MARKER, Bucket, copy_to
 
 server = os.environ["VILGOUED_SERVER"]
 nats_server = os.environ["NATS_SERVER"]
-program = os.environ["KVBUCKET"]
-tools = os.path.join(os.path.dirname(os.path.abspath(__file__)), "..", "..", "python")
+tools = os.path.join(top, "python")
 
 SCRIPT = """put a MQ==
 put a Mg==
@@ -37,7 +37,7 @@ def run(tool, *arguments, script=""):
 
 
 def to_nats(url, name, *arguments, script=SCRIPT):
-    return run("to-nats", url, name, "--program", program, *arguments, script=script)
+    return run("to-nats", url, name, "--program", program.path, *arguments, script=script)
 
 
 def shown(bucket):

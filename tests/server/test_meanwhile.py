@@ -4,10 +4,10 @@ import subprocess
 import threading
 import unittest
 
+from tests import top
 from vilgoued_nats import Bucket, KeyExists
 
 server = os.environ["VILGOUED_SERVER"]
-tools = os.path.join(os.path.dirname(os.path.abspath(__file__)), "..", "..", "python")
 
 
 class Interrupted(Bucket):
@@ -88,7 +88,7 @@ class Meanwhile(unittest.TestCase):
             writer = threading.Thread(target=write)
             writer.start()
             try:
-                done = subprocess.run([os.path.join(tools, "from-nats"), server, "written"], capture_output=True, text=True, timeout=50)
+                done = subprocess.run([os.path.join(top, "python", "from-nats"), server, "written"], capture_output=True, text=True, timeout=50)
             finally:
                 over.set()
                 writer.join()

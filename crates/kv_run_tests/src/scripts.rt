@@ -1,5 +1,5 @@
-//! Tests of scripts beside the rows of rows/, which are run through the program. Each also passes where any one request
-//! for memory is refused: then whole lines of the text were written, and the same run, made again, goes on.
+//! Tests of scripts beside those of tests/scripts, which are run through the program. Each also passes where any one
+//! request for memory is refused: then whole lines of the text were written, and the same run, made again, goes on.
 
 use kv_keys::KvError;
 use kv_model::Config;

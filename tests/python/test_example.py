@@ -1,0 +1,27 @@
+"""The example of the Python module: what it prints, and the pages that quote it."""
+import os, subprocess, sys, unittest
+
+from tests import top
+from tests.pages.examples import first_block
+
+here = os.path.join(top, "python")
+
+
+def lines_of(name):
+    with open(os.path.join(here, name), encoding="utf-8") as file:
+        return file.read().splitlines()
+
+
+class Example(unittest.TestCase):
+    def test_it_says_what_it_is_to_say(self):
+        done = subprocess.run([sys.executable, "-B", os.path.join(here, "example.py")], capture_output=True, text=True)
+        self.assertEqual((done.returncode, done.stdout.splitlines(), done.stderr), (0, lines_of("example.stdout"), ""))
+
+    def test_pages_quote_it(self):
+        for page in "docs/c.md", "README.md":
+            with self.subTest(page):
+                self.assertEqual(first_block(page, "python"), lines_of("example.py"))
+
+
+if __name__ == "__main__":
+    unittest.main()

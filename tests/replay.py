@@ -1,0 +1,166 @@
+"""Runs the lines of a script (docs/script.md) on a bucket of Python, over the library for C or a NATS server, and writes the answers as
+./kvbucket does. So it can be seen what another bucket answers to the same lines. It has no race."""
+import base64, json, re
+
+from vilgoued import BadFilter, KeyNotFound, KvError, NoSuchWatch
+
+NUMBER = r"(\d{1,20})"
+VALUE = r"(-|(?:[A-Za-z0-9+/]{4})*(?:[A-Za-z0-9+/]{4}|[A-Za-z0-9+/]{3}=|[A-Za-z0-9+/]{2}==))"
+COMMANDS = {
+    "put": r"put ([^ ]+) " + VALUE,
+    "create": r"create ([^ ]+) " + VALUE,
+    "update": r"update ([^ ]+) %s %s" % (NUMBER, VALUE),
+    "delete": r"delete ([^ ]+)(?: %s)?" % NUMBER,
+    "purge": r"purge ([^ ]+)(?: %s)?" % NUMBER,
+    "get": r"get ([^ ]+)(?: %s)?" % NUMBER,
+    "history": r"history ([^ ]+)",
+    "keys": r"keys ([^ ]+)",
+    "watch": r"watch ([^ ]+)((?: (?:history|updates|from=\d{1,20}|nodeletes|meta))*)",
+    "take": r"take %s %s" % (NUMBER, NUMBER),
+    "stop": r"stop " + NUMBER,
+    "status": r"status",
+    "seal": r"seal",
+    "compact": r"compact " + NUMBER,
+    "place": r"place ([^ ]+)",
+}
+
+
+class BadCommand(KvError):
+    """A line that is no command."""
+
+    code = 16
+
+
+def number(text):
+    """A number of 64 bits."""
+    if int(text) >= 1 << 64:
+        raise BadCommand()
+    return int(text)
+
+
+def value(text):
+    """The bytes that the base64 of a line stands for."""
+    data = b"" if text == "-" else base64.b64decode(text)
+    if text != "-" and base64.b64encode(data).decode() != text:
+        raise BadCommand()
+    return data
+
+
+def shown(entry):
+    """An entry as an answer shows it."""
+    it = {"key": entry.key, "op": entry.op, "revision": entry.revision, "size": entry.size}
+    return it if entry.value is None else {**it, "value": base64.b64encode(entry.value).decode()}
+
+
+class Session:
+    """A bucket, and the watches that its script opened."""
+
+    def __init__(self, bucket, name):
+        self.bucket, self.name = bucket, name
+        self.watches = {}
+
+    def answers(self, line):
+        """The answers to a line: none, one, or those of a `take`."""
+        if line == "" or line.startswith("#"):
+            return []
+        try:
+            told = self.told(line)
+        except KvError as refusal:
+            told = {"code": refusal.code, "error": type(refusal).__name__}
+            told.update((name, getattr(refusal, name)) for name in ("last", "watch") if hasattr(refusal, name))
+        return [json.dumps(it, separators=(",", ":"), sort_keys=True) for it in (told if isinstance(told, list) else [told])]
+
+    def told(self, line):
+        name = line.split(" ")[0]
+        words = re.fullmatch(COMMANDS[name], line) if name in COMMANDS else None
+        if words is None:
+            raise BadCommand()
+        return getattr(self, name)(*words.groups())
+
+    def put(self, key, text):
+        return {"revision": self.bucket.put(key, value(text))}
+
+    def create(self, key, text):
+        return {"revision": self.bucket.create(key, value(text))}
+
+    def update(self, key, last, text):
+        return {"revision": self.bucket.update(key, value(text), last=number(last))}
+
+    def delete(self, key, last):
+        return {"revision": self.bucket.delete(key, last=None if last is None else number(last))}
+
+    def purge(self, key, last):
+        return {"revision": self.bucket.purge(key, last=None if last is None else number(last))}
+
+    def get(self, key, at):
+        found = self.bucket.get(key, at=None if at is None else number(at))
+        if found is None:
+            raise KeyNotFound()
+        return {"key": key, "op": "PUT", "revision": found.revision, "size": len(found.value),
+                "value": base64.b64encode(found.value).decode()}
+
+    def history(self, key):
+        entries = self.bucket.history(key)
+        if not entries:
+            raise KeyNotFound()
+        return {"entries": [shown(entry) for entry in entries]}
+
+    def keys(self, filter):
+        if "," in filter:
+            raise BadFilter()
+        return {"keys": self.bucket.keys(filter)}
+
+    def watch(self, filters, words):
+        words = words.split()
+        names = [word.partition("=")[0] for word in words]
+        if len(set(names)) < len(names):
+            raise BadCommand()
+        since = next((number(word[5:]) for word in words if word.startswith("from=")), None)
+        watch = self.bucket.watch(filters, history="history" in words, updates="updates" in words, since=since,
+                                  ignore_deletes="nodeletes" in words, headers_only="meta" in words)
+        self.watches[watch.number] = watch
+        return {"watch": watch.number}
+
+    def open_watch(self, text):
+        if number(text) not in self.watches:
+            raise NoSuchWatch()
+        return self.watches[number(text)]
+
+    def take(self, text, count):
+        if not 1 <= number(count) <= 1_000_000:
+            raise BadCommand()
+        watch, items = self.open_watch(text), []
+        for _ in range(number(count)):
+            item = next(watch, None)
+            items.append({"empty": True} if item is None else {"marker": True} if item.marker else shown(item))
+            if item is None:
+                break
+        return [{**it, "watch": watch.number} for it in items]
+
+    def stop(self, text):
+        return {"handed": self.open_watch(text).stop(), "stopped": number(text)}
+
+    def status(self):
+        return {"bucket": self.name, **self.bucket.status()._asdict()}
+
+    def seal(self):
+        self.bucket.seal()
+        return {"sealed": True}
+
+    def compact(self, floor):
+        self.bucket.compact(number(floor))
+        return {"compacted": number(floor)}
+
+    def place(self, key):
+        """The hash of a key, FNV-1a of 32 bits, for which a bucket of Python has no call; a get sees whether it is a key."""
+        self.bucket.get(key)
+        hash = 2166136261
+        for byte in key.encode():
+            hash = (hash ^ byte) * 16777619 % (1 << 32)
+        return {"place": "%08x" % hash}
+
+
+def replay(bucket, script):
+    """The answers of a bucket to a script (worked.py), line by line."""
+    session = Session(bucket, "kv")
+    return [answer for line, _ in script.steps for answer in session.answers(line.decode("latin-1").removesuffix("\r"))]

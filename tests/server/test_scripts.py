@@ -1,0 +1,50 @@
+"""The worked scripts on a NATS server: the answers have to be those that ./kvbucket gives, but for the differences that are listed
+here."""
+import os, unittest
+
+from tests.replay import replay
+from tests.worked import scripts
+from vilgoued_nats import Bucket
+
+server = os.environ["VILGOUED_SERVER"]
+
+# What asks for something that a server doesn't have.
+LEFT_OUT = {
+    "compaction": "a server has no floors",
+    "compaction-and-watches": "a server has no floors",
+    "compaction-frees-the-journal": "a server has no floors",
+    "hostile-place-alone": "place tells of the hash trie",
+    "places-that-collide": "place tells of the hash trie",
+    "race-of-one": "a race is of threads in one process",
+    "race-of-thirty-three-watches": "a race is of threads in one process",
+    "revision-limit": "revisions have no limit there",
+    "sixty-four-watches": "watches have no limit there",
+    "write-limit-and-seal": "writes have no limit there",
+}
+
+# What is answered otherwise, and why: the lines that are not answered there.
+DIFFERS = {
+    "initial-of-its-moment": (
+        "a watch is handed nothing that was overwritten before it was asked for",
+        ['{"key":"k","op":"PUT","revision":1,"size":1,"value":"MQ==","watch":1}',
+         '{"key":"k","op":"PUT","revision":2,"size":1,"value":"Mg==","watch":1}'],
+    ),
+}
+
+
+class Scripts(unittest.TestCase):
+    def test_scripts(self):
+        for script in scripts():
+            if script.name not in LEFT_OUT:
+                with self.subTest(script.name), Bucket(server, "script-" + script.name, **script.settings) as bucket:
+                    wanted = script.output.decode().splitlines()
+                    for line in DIFFERS.get(script.name, ("", []))[1]:
+                        wanted.remove(line)
+                    self.assertEqual(replay(bucket, script), wanted)
+
+    def test_what_is_listed_is_there(self):
+        self.assertLessEqual(set(LEFT_OUT) | set(DIFFERS), {script.name for script in scripts()})
+
+
+if __name__ == "__main__":
+    unittest.main()

@@ -1,0 +1,66 @@
+"""The worked scripts of tests/scripts, one file NAME.txt each, in which what is asked and what is answered stand in turn:
+
+    ./kvbucket --history 2
+    > put a MQ==
+    {"revision":1}
+    > take 1 1
+    {"code":13,"error":"NoSuchWatch"}
+
+The first line is there where the program has arguments. A line of the script stands behind `> `, and the lines that answer it follow,
+each as it is; a race answers when it has read all of its lines. A byte of a script that is no printable character of ASCII, and a
+backslash, is written as `\\xNN`. Each line of a script ends with a line feed, a carriage return before that is written as `\\x0d`."""
+import collections, os, re
+
+from tests import top
+
+folder = os.path.join(top, "tests", "scripts")
+PROMPT, PROGRAM = b"> ", b"./kvbucket "
+
+
+class Script(collections.namedtuple("Script", "name arguments steps")):
+    """A script: its steps are lines, each with the lines that answer it."""
+
+    @property
+    def input(self):
+        return b"".join(line + b"\n" for line, _ in self.steps)
+
+    @property
+    def output(self):
+        return b"".join(answer + b"\n" for _, answers in self.steps for answer in answers)
+
+    @property
+    def is_race(self):
+        return "--race" in self.arguments
+
+    @property
+    def settings(self):
+        """The arguments as those of a bucket in Python, such as history=2."""
+        return {name.removeprefix("--").replace("-", "_"): int(value) for name, value in zip(self.arguments[::2], self.arguments[1::2])}
+
+
+def unescaped(text):
+    return re.sub(rb"\\x([0-9a-f]{2})", lambda found: bytes.fromhex(found[1].decode()), text)
+
+
+def parsed(name, text):
+    """The script of a file's text."""
+    lines = text.split(b"\n")
+    if lines.pop() != b"":
+        raise ValueError("%s: its last line has no end" % name)
+    arguments = lines.pop(0).decode().split()[1:] if lines and lines[0].startswith(PROGRAM) else []
+    steps = []
+    for line in lines:
+        if line.startswith(PROMPT) or line == PROMPT.rstrip():
+            steps.append((unescaped(line[len(PROMPT):]), []))
+        elif line and steps:
+            steps[-1][1].append(line)
+        else:
+            raise ValueError("%s: %r answers no line of the script" % (name, line))
+    return Script(name, arguments, steps)
+
+
+def scripts():
+    """All of them, by name."""
+    for name in sorted(os.listdir(folder)):
+        with open(os.path.join(folder, name), "rb") as file:
+            yield parsed(name.removesuffix(".txt"), file.read())
