@@ -4,7 +4,7 @@ are installed. The C compiler is CC, or else cc, and that for C++ is CXX, or els
 import os, shutil, subprocess, tempfile, unittest
 
 from tests import top
-from tests.pages.examples import first_block
+from tests.pages.examples import first_block, lines_of
 
 here = os.path.dirname(os.path.abspath(__file__))
 libraries = os.path.dirname(os.path.abspath(os.environ["VILGOUED_LIBRARY"]))
@@ -23,11 +23,6 @@ def ran(*command):
     return done.stdout
 
 
-def lines_of(name):
-    with open(os.path.join(here, name), encoding="utf-8") as file:
-        return file.read().splitlines()
-
-
 class Header(unittest.TestCase):
     def test_it_is_c99(self):
         ran(C, "-std=c99", *STRICT, "-fsyntax-only", "-x", "c", HEADER)
@@ -44,11 +39,11 @@ class Names(unittest.TestCase):
         return sorted({words[-1].split("@")[0] for words in told if words[-2] == kind})
 
     def test_it_has_those_of_the_header(self):
-        self.assertEqual(self.names("T", "-D", "--defined-only"), lines_of("exported"))
+        self.assertEqual(self.names("T", "-D", "--defined-only"), lines_of("tests/c/exported"))
 
     def test_it_wants_nothing_but_memory(self):
         """A runtime, threads or locks would show here."""
-        self.assertLessEqual(set(self.names("U", "-u")), set(lines_of("undefined")))
+        self.assertLessEqual(set(self.names("U", "-u")), set(lines_of("tests/c/undefined")))
 
 
 class Programs(unittest.TestCase):
@@ -74,7 +69,7 @@ class Programs(unittest.TestCase):
         ran(self.built("sweep", "-O2"))
 
     def test_the_example_says_what_it_is_to_say(self):
-        self.assertEqual(ran(self.built("example", "-O2")).splitlines(), lines_of("example.stdout"))
+        self.assertEqual(ran(self.built("example", "-O2")).splitlines(), lines_of("tests/c/example.stdout"))
 
     def has_sanitizers(self):
         empty = os.path.join(self.folder, "empty")
@@ -99,7 +94,7 @@ class Programs(unittest.TestCase):
 
 class Quoted(unittest.TestCase):
     def test_the_page_quotes_the_example(self):
-        self.assertEqual(first_block("docs/c.md", "c"), lines_of("example.c"))
+        self.assertEqual(first_block("docs/c.md", "c"), lines_of("tests/c/example.c"))
 
 
 if __name__ == "__main__":

@@ -4,9 +4,14 @@ import os
 from tests import top
 
 
+def lines_of(path):
+    """The lines of a file of the repository."""
+    with open(os.path.join(top, path), encoding="utf-8") as file:
+        return file.read().splitlines()
+
+
 def first_block(page, language):
-    """The lines of the first block in this language."""
-    with open(os.path.join(top, page), encoding="utf-8") as file:
-        lines = file.read().splitlines()
+    """The lines of a page's first block in this language."""
+    lines = lines_of(page)
     start = lines.index("```" + language) + 1
     return lines[start:lines.index("```", start)]

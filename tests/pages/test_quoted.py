@@ -4,21 +4,17 @@ Each example file has to be quoted, too, so that none is left without a word of 
 import os, unittest
 
 from tests import top
+from tests.pages.examples import lines_of
 
 pages = ["README.md", "docs/library.md"]
 crates = [os.path.join(top, "crates", name) for name in ("kv_run_tests", "kv_live_tests")]
 kinds = {"```rust": ".rt", "```antt": ".antt"}
 
 
-def lines_of(path):
-    with open(path, encoding="utf-8") as file:
-        return file.read().splitlines()
-
-
 def blocks_of(page):
     """Of each block of code: its page and first line's number, the ending of the files that it may be of, and its lines."""
     blocks, block = [], None
-    for number, line in enumerate(lines_of(os.path.join(top, page)), 1):
+    for number, line in enumerate(lines_of(page), 1):
         if block is None and line in kinds:
             block = ("%s:%d" % (page, number + 1), kinds[line], [])
         elif block is not None and line == "```":

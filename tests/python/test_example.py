@@ -2,25 +2,18 @@
 import os, subprocess, sys, unittest
 
 from tests import top
-from tests.pages.examples import first_block
-
-here = os.path.join(top, "python")
-
-
-def lines_of(name):
-    with open(os.path.join(here, name), encoding="utf-8") as file:
-        return file.read().splitlines()
+from tests.pages.examples import first_block, lines_of
 
 
 class Example(unittest.TestCase):
     def test_it_says_what_it_is_to_say(self):
-        done = subprocess.run([sys.executable, "-B", os.path.join(here, "example.py")], capture_output=True, text=True)
-        self.assertEqual((done.returncode, done.stdout.splitlines(), done.stderr), (0, lines_of("example.stdout"), ""))
+        done = subprocess.run([sys.executable, "-B", os.path.join(top, "python", "example.py")], capture_output=True, text=True)
+        self.assertEqual((done.returncode, done.stdout.splitlines(), done.stderr), (0, lines_of("python/example.stdout"), ""))
 
     def test_pages_quote_it(self):
         for page in "docs/c.md", "README.md":
             with self.subTest(page):
-                self.assertEqual(first_block(page, "python"), lines_of("example.py"))
+                self.assertEqual(first_block(page, "python"), lines_of("python/example.py"))
 
 
 if __name__ == "__main__":
