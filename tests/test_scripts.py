@@ -3,7 +3,7 @@ for each request for memory that it makes, with that one refused: the program th
 from its beginning with status 1 and `kvbucket: OutOfMemory` on standard error. Of a script that makes more requests than MOST a sample
 is refused, spread over all, which is printed. In a race a write may be refused alone, which is told in its line; then only the number
 of replies is compared."""
-import concurrent.futures, os, tempfile, unittest
+import os, unittest
 
 from tests import program
 from tests.memory import refusing
@@ -24,18 +24,11 @@ def ends_well(run, text):
     return status == 1 and faults == b"kvbucket: OutOfMemory\n" and text.startswith(written) and whole_lines
 
 
-class Scripts(unittest.TestCase):
-    def setUp(self):
-        room = tempfile.TemporaryDirectory()
-        self.addCleanup(room.cleanup)
-        self.folder, self.pool = room.name, concurrent.futures.ThreadPoolExecutor(refusing.JOBS)
-        self.addCleanup(self.pool.shutdown)
-        self.shim = refusing.library(self.folder)
-
+class Scripts(refusing.RefusingTest):
     def refused(self, name, command, stdin, text):
         """Runs a script with each of its requests refused, and answers how many were."""
-        _, requests = refusing.counted(command, self.shim, self.folder, stdin)
-        runs = refusing.in_turn(self.pool, command, self.shim, self.folder, requests, stdin)
+        _, requests = self.counted(command, stdin)
+        runs = self.in_turn(command, requests, stdin)
         wrong = ["refused request %d of %d: status %d, %r %r" % (it.at, requests, it.status, it.out[-200:], it.err[-200:])
                  for it in runs if not ends_well(it, text)]
         met = sum(it.is_refused for it in runs)

@@ -1,6 +1,6 @@
 """Runs a command with one of its requests for memory refused, by refuse.c, which the C compiler of the Rattle kit builds, or
 else cc."""
-import collections, os, subprocess
+import collections, concurrent.futures, os, subprocess, tempfile, unittest
 
 from scripts import kit
 
@@ -86,3 +86,20 @@ def in_turn(pool, command, shim, folder, requests, stdin=os.devnull):
     firsts = range(1, min(requests, step * JOBS) + 1, step)
     parts = pool.map(lambda first: each(command, shim, folder, range(first, requests + 1, step * JOBS), stdin), firsts)
     return sorted(run for part in parts for run in part)
+
+
+class RefusingTest(unittest.TestCase):
+    """A test that runs commands with requests refused, several at a time."""
+
+    def setUp(self):
+        room = tempfile.TemporaryDirectory()
+        self.addCleanup(room.cleanup)
+        self.folder, self.pool = room.name, concurrent.futures.ThreadPoolExecutor(JOBS)
+        self.addCleanup(self.pool.shutdown)
+        self.shim = library(self.folder)
+
+    def counted(self, command, stdin=os.devnull):
+        return counted(command, self.shim, self.folder, stdin)
+
+    def in_turn(self, command, requests, stdin=os.devnull):
+        return in_turn(self.pool, command, self.shim, self.folder, requests, stdin)
