@@ -1,11 +1,11 @@
 //! A live bucket: its readers, its writers and its feeds.
 
 use crate::sides::{Copies, Gets, Named, Puts, Takes};
+use kv_bucket::{Cached, Feed, Key, Live, LiveName, Opened, Reader, Request, Taken};
 use kv_gauge::fault::Fault;
 use kv_gauge::keys::{key, put, puts, spread};
 use kv_gauge::plan::Plan;
 use kv_gauge::subject::config;
-use kv_live::{Cached, Feed, Key, Live, LiveName, Opened, Reader, Request, Taken};
 use std::alloc::Global;
 use std::sync::Wait;
 

@@ -1,6 +1,9 @@
-pub mod Representing
-pub mod Later
-pub mod Moving
-pub mod Answering
-pub mod Running
-pub mod Least
+pub mod Feeds
+pub mod Follow
+pub mod Keeping
+pub mod Going
+pub mod Histories
+pub mod Once
+pub mod Owing
+pub mod Sent
+pub mod Somewhere

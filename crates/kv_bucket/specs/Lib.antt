@@ -1,4 +1,7 @@
-pub mod Held
-pub mod Replies
-pub mod Stepping
+pub mod Feeding
+pub mod Histories
+pub mod Keeping
+pub mod Known
+pub mod Owed
+pub mod Receipts
 pub mod inside

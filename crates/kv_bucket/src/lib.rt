@@ -1,21 +1,26 @@
-//! A bucket: what was accepted, and the watches that are open.
+//! One bucket for many threads: writers share one lock; readers, feeds and receipts take none. What is published lies in
+//! the log of `kv_publish`. It hands on the names of `kv_single`, so that one crate is enough for who shares a bucket.
 #![tactic(auto)]
 
-mod bucket;
-mod compacting;
-mod held;
-mod reading;
-mod reply;
-mod run;
-mod seen;
-mod watching;
-mod writing;
+mod cached;
+mod feed;
+mod keeper;
+mod knowledge;
+pub mod laws;
+mod live;
+mod publisher;
+mod reader;
+mod receipt;
 
-pub use bucket::Bucket;
-pub use kv_keys::{Filter, Filters, Key, KvError, Place, Short, fnv32};
-pub use kv_model::{Call, Config, Event, Op, Options, Request, Start, Status, Stopped, Write};
-pub use kv_store::{Kept, Rev, Version};
-pub use kv_trie::{Trie, Visit};
-pub use kv_watch::{Cursor, Shown, Taken, given};
-pub use reply::Reply;
-pub use seen::Seen;
+pub use cached::Cached;
+pub use feed::Feed;
+pub use keeper::Keeper;
+pub use kv_publish::{LiveName, Woken};
+pub use kv_single::{
+    Bucket, Call, Config, Cursor, Event, Filter, Filters, Kept, Key, KvError, Op, Options, Place,
+    Reply, Request, Rev, Seen, Short, Shown, Start, Status, Stopped, Taken, Trie, Version, Visit,
+    Write, fnv32, given,
+};
+pub use live::{Live, Opened};
+pub use reader::Reader;
+pub use receipt::{Mark, Receipt};

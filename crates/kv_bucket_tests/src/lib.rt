@@ -1,20 +1,14 @@
-//! Tests of the bucket of one thread and of what it stands on: names, tries, versions, watches and buckets, each by worked
-//! rows, and nothing else. They use public calls alone.
+//! Tests of what threads share, of waits and of races, and the examples of docs/library.md with threads. They use public
+//! calls alone.
 #![tactic(auto)]
 
 #[cfg(test)]
-mod buckets;
-#[cfg(test)]
 mod equal;
 #[cfg(test)]
-mod handed_on;
+mod examples;
 #[cfg(test)]
-mod names;
+mod races;
 #[cfg(test)]
-mod same;
+mod threads;
 #[cfg(test)]
-mod tries;
-#[cfg(test)]
-mod versions;
-#[cfg(test)]
-mod watches;
+mod waiting;

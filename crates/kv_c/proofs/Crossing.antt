@@ -2,7 +2,7 @@
 use denote.Param.Send.{IsSend, sendable}
 use Rattle.std.proofs.Crossing.{crosses}
 use Rattle.kv_store.proofs.Sent.{version_send}
-use Rattle.kv_bucket.specs.contracts.bucket.Bucket as Bucket
+use Rattle.kv_single.specs.contracts.bucket.Bucket as Bucket
 use Rattle.kv_c.specs.contracts.content.Content as Content
 use Rattle.kv_c.specs.contracts.feed.Feed as Feed
 use Rattle.kv_watch.proofs.cursor.Cursor.TheSendSync as cursor

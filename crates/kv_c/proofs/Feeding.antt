@@ -3,7 +3,7 @@ use Rattle.std.proofs.Common.{◌≡◌, ℕ, ◌+◌, ◌<◌, ◌≤◌, Bool,
 use Rattle.std.specs.Prelude.{Option, Some, None, option_map, slice_get}
 use Rattle.std.specs.Option.{option_len}
 use Rattle.std.proofs.lemmas.Bool.{lt-ltb, ltb-false}
-use Rattle.kv_bucket.proofs.Least.{not_less}
+use Rattle.kv_single.proofs.Least.{not_less}
 use Rattle.kv_c.specs.Feeding.{Fed, HasHanded, HandsNext, IsRefreshed, lags, next_of}
 use Rattle.kv_c.specs.Handing.{told}
 use Rattle.kv_c.specs.declared.handing.Item.{Item as Told}

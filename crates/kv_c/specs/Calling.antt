@@ -7,7 +7,7 @@ use Rattle.kv_c.specs.declared.handing.Item.{Item}
 use Rattle.kv_c.specs.Codes.{listed}
 use Rattle.kv_c.specs.Handing.{IsEntry}
 use Rattle.kv_c.specs.Feeding.{Fed, HandsNext, HasHanded, IsRefreshed, Opens, lags, next_of}
-use Rattle.kv_bucket.specs.Held.{Bucketed, Represents}
+use Rattle.kv_single.specs.Held.{Bucketed, Represents}
 use Rattle.kv_c.specs.declared.content.Content.{Content}
 use Rattle.kv_c.specs.declared.content.Content.TheVariants.{Bucket, View, Feed}
 use Rattle.kv_keys.specs.Grammar.{is_key}
@@ -17,7 +17,7 @@ use Rattle.kv_model.specs.Acts.{Act, Write}
 use Rattle.kv_store.specs.Standing.{StandsFor}
 use Rattle.kv_store.specs.Stored.{Stored}
 use Rattle.kv_model.specs.State.{State, may_compact}
-use Rattle.kv_bucket.specs.Stepping.{IsStep}
+use Rattle.kv_single.specs.Stepping.{IsStep}
 use Rattle.kv_model.specs.declared.call.Call.TheVariants as calls
 use Rattle.kv_c.specs.declared.asking.Limits.{Limits}
 use Rattle.kv_c.specs.declared.asking.Wanted.{Wanted}

@@ -7,7 +7,7 @@ ghost use Rattle.kv_model.specs.Configuration.{configure};
 ghost use Rattle.kv_model.specs.Requests.{create, delete, purge, put, update};
 
 use crate::names::{key_of, text_of};
-use kv_bucket::{Config, KvError, Options, Request, Start};
+use kv_single::{Config, KvError, Options, Request, Start};
 use std::alloc::Global;
 
 /// The limits of a bucket.

@@ -6,7 +6,7 @@ ghost use Rattle.kv_c.specs.Codes.{own_name};
 ghost use Rattle.kv_keys.specs.Refusals.{code_of};
 ghost use Rattle.kv_keys.specs.declared.error.KvError.TheVariants.{Lagged, WatchBehind, WrongLastRevision};
 
-use kv_bucket::KvError;
+use kv_single::KvError;
 
 /// The handle is not open, or on something else.
 pub(crate) const CLOSED: u64 = 32;

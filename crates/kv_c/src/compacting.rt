@@ -1,8 +1,8 @@
 //! The functions that C calls to compact a bucket.
 
 ghost use Rattle.std.specs.Prelude.{◌≡◌, Err, Some, IsFalse};
-ghost use Rattle.kv_bucket.specs.Held.{Represents};
-ghost use Rattle.kv_bucket.specs.Stepping.{IsStep};
+ghost use Rattle.kv_single.specs.Held.{Represents};
+ghost use Rattle.kv_single.specs.Stepping.{IsStep};
 ghost use Rattle.kv_c.specs.Calling.{IsReach, StandsAt, Steps, holds_bucket};
 ghost use Rattle.kv_c.specs.Codes.{accepted, code_by};
 ghost use Rattle.kv_keys.specs.declared.error.KvError.TheVariants.{WatchBehind};
@@ -13,7 +13,7 @@ ghost use Rattle.kv_model.specs.declared.call.Call.TheVariants.{Compact};
 use crate::codes::{CLOSED, refuse_compaction};
 use crate::content::Content;
 use crate::handle::Handle;
-use kv_bucket::Bucket;
+use kv_single::Bucket;
 use std::alloc::Global;
 
 #[tactic(auto, using(crate::proofs::Refusing::code_from, crate::proofs::Refusing::code_memory, crate::proofs::Refusing::compacted_from))]

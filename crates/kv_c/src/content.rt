@@ -5,7 +5,7 @@ ghost use Rattle.std.specs.Option.{option_copied};
 ghost use Rattle.kv_c.specs.Calling.{version_in};
 
 use crate::feed::Feed;
-use kv_bucket::{Bucket, Version};
+use kv_single::{Bucket, Version};
 
 /// What a handle holds while it is open.
 #[derive(Drop)]

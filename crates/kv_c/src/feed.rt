@@ -10,7 +10,7 @@ ghost use Rattle.kv_model.specs.Answers.{answer_item};
 ghost use Rattle.kv_watch.specs.Following.{IsOpening};
 
 use crate::handing::{self, Item};
-use kv_bucket::{Filters, KvError, Options, Version};
+use kv_single::{Filters, KvError, Options, Version};
 use kv_watch::Cursor;
 use std::alloc::Global;
 use std::marker::Model;

@@ -18,7 +18,7 @@ use crate::feed::Feed;
 use crate::handing::Item;
 use crate::handle::Handle;
 use crate::names::filters_of;
-use kv_bucket::{KvError, Options, Version};
+use kv_single::{KvError, Options, Version};
 use std::alloc::Global;
 
 fn view_of(alloc: Global, version: &Version) -> Result<Box<Content>, KvError>

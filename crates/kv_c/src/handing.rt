@@ -8,7 +8,7 @@ ghost use Rattle.kv_c.specs.Handing.{AreCopied, HasSizes, IsEntry, IsValueCopied
 ghost use Rattle.kv_watch.specs.Taking.{item_taken, entry_shown};
 
 use crate::codes::TOO_LITTLE_ROOM;
-use kv_bucket::{Op, Shown, Taken, Write};
+use kv_single::{Op, Shown, Taken, Write};
 
 /// An entry as C sees it. The bytes of key and value lie in the memory that C gave for them.
 #[repr(C)]

@@ -1,4 +1,4 @@
-//! A bucket for C: what `kv_bucket` does, under functions that C can call.
+//! A bucket for C: what `kv_single` does, under functions that C can call.
 //!
 //! C keeps a `Handle`; all of its bytes 0, it is closed. Each call gives it back as its clauses say.
 #![tactic(auto)]

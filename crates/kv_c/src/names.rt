@@ -5,7 +5,7 @@ ghost use Rattle.std.specs.Str.{IsUtf8};
 ghost use Rattle.kv_keys.specs.Grammar.{are_filters, is_filter, is_key, parts};
 ghost use Rattle.kv_keys.specs.declared.error.KvError.TheVariants.{BadFilter, BadKey, OutOfMemory};
 
-use kv_bucket::{Filter, Filters, Key, KvError};
+use kv_single::{Filter, Filters, Key, KvError};
 use std::alloc::Global;
 
 /// The text of these bytes, or the refusal where they are none.

@@ -7,7 +7,7 @@ ghost use Rattle.kv_keys.specs.declared.error.KvError.{KvError as AnError};
 
 use crate::codes::{NO_SUCH_CODE, own_name};
 use crate::handing::copy_sized;
-use kv_bucket::KvError;
+use kv_single::KvError;
 
 // The refusal of the rules that has a code. What it tells is of no matter here.
 #[tactic(auto, using(crate::proofs::Named::no_refusal))]

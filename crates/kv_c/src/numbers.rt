@@ -7,7 +7,7 @@ ghost use Rattle.kv_model.specs.Answers.{Numbers as Told};
 ghost use Rattle.kv_model.specs.Reads.{status_of};
 ghost use Rattle.kv_store.specs.Standing.{StandsFor};
 
-use kv_bucket::Version;
+use kv_single::Version;
 
 /// How much a bucket holds.
 #[repr(C)]

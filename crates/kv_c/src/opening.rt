@@ -1,7 +1,7 @@
 //! The functions that C calls to open and to close what a handle holds.
 
 ghost use Rattle.std.specs.Prelude.{◌≡◌, Err, Some, None, IfErr, IfOk, is_some, IsTrue};
-ghost use Rattle.kv_bucket.specs.Held.{Bucketed, Represents};
+ghost use Rattle.kv_single.specs.Held.{Bucketed, Represents};
 ghost use Rattle.kv_c.specs.Calling.{StandsAt, configured};
 ghost use Rattle.kv_c.specs.Codes.{accepted, code_by};
 ghost use Rattle.kv_keys.specs.declared.error.KvError.TheVariants.{OutOfMemory};
@@ -12,7 +12,7 @@ use crate::asking::{Limits, config_of};
 use crate::codes::OPEN_ALREADY;
 use crate::content::Content;
 use crate::handle::Handle;
-use kv_bucket::{Bucket, KvError};
+use kv_single::{Bucket, KvError};
 use std::alloc::Global;
 
 // A bucket of this name, in a box of its own.

@@ -14,7 +14,7 @@ ghost use Rattle.kv_store.specs.Standing.{StandsFor};
 
 use crate::handing::{Item, copy_sized, empty_item, hand_write};
 use crate::names::{filter_of, key_of};
-use kv_bucket::{Key, KvError, Version, Write};
+use kv_single::{Key, KvError, Version, Write};
 use std::alloc::Global;
 
 // Hands out the value and the revision of a write that was found.

@@ -1,8 +1,8 @@
 //! The functions that C calls for the watches of a bucket.
 
 ghost use Rattle.std.specs.Prelude.{◌≡◌, if◌then◌else◌, nat_lt, Some, IfErr, IfOk, IsFalse, OnErr};
-ghost use Rattle.kv_bucket.specs.Held.{Represents};
-ghost use Rattle.kv_bucket.specs.Stepping.{IsStep};
+ghost use Rattle.kv_single.specs.Held.{Represents};
+ghost use Rattle.kv_single.specs.Stepping.{IsStep};
 ghost use Rattle.kv_c.specs.Calling.{StandsAt, Steps, holds_bucket, options_asked};
 ghost use Rattle.kv_c.specs.Codes.{answer_code, taken_code, watch_code};
 ghost use Rattle.kv_c.specs.Handing.{HasSizes, Wants, told};
@@ -17,7 +17,7 @@ use crate::content::Content;
 use crate::handing::{self, Item};
 use crate::handle::Handle;
 use crate::names::filters_of;
-use kv_bucket::{Bucket, KvError, Options};
+use kv_single::{Bucket, KvError, Options};
 use std::alloc::Global;
 
 #[tactic(auto, using(crate::proofs::Refusing::code_from, crate::proofs::Refusing::code_memory))]

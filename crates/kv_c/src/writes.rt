@@ -1,8 +1,8 @@
 //! The functions that C calls to write to a bucket.
 
 ghost use Rattle.std.specs.Prelude.{◌≡◌, Err, Some, None, IsFalse, IsTrue};
-ghost use Rattle.kv_bucket.specs.Held.{Represents};
-ghost use Rattle.kv_bucket.specs.Stepping.{IsStep};
+ghost use Rattle.kv_single.specs.Held.{Represents};
+ghost use Rattle.kv_single.specs.Stepping.{IsStep};
 ghost use Rattle.kv_c.specs.Calling.{Accepts, IsAsked, IsWrite, StandsAt, Steps, holds_bucket, if_given};
 ghost use Rattle.kv_c.specs.Codes.{accepted, code_by, outcome};
 ghost use Rattle.kv_keys.specs.declared.error.KvError.TheVariants.{WrongLastRevision};
@@ -15,7 +15,7 @@ use crate::asking;
 use crate::codes::{CLOSED, refuse_write};
 use crate::content::Content;
 use crate::handle::Handle;
-use kv_bucket::{Bucket, KvError, Request};
+use kv_single::{Bucket, KvError, Request};
 use std::alloc::Global;
 
 // Writes what is asked, and hands out its revision; where the key's last revision is another one, that.

@@ -6,7 +6,7 @@ use crate::plan::Plan;
 use crate::series::{Name, Series};
 use crate::subject::{empty, fill, grow, time_writes};
 use crate::{reading, watching};
-use kv_bucket::{Bucket, Filter, Key};
+use kv_single::{Bucket, Filter, Key};
 use std::alloc::Global;
 use std::rt::Clock;
 

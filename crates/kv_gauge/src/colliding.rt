@@ -6,7 +6,7 @@ use crate::plan::Plan;
 use crate::reading;
 use crate::series::{Name, Series};
 use crate::subject::{empty, time_writes, write_all};
-use kv_bucket::{Bucket, Key, Place};
+use kv_single::{Bucket, Key, Place};
 use std::alloc::Global;
 use std::rt::Clock;
 

@@ -6,7 +6,7 @@ use crate::keys::{VALUE, key};
 use crate::plan::Plan;
 use crate::series::{Name, Series};
 use crate::subject::{empty, overwrite};
-use kv_bucket::Bucket;
+use kv_single::Bucket;
 use std::alloc::Global;
 use std::rt::Clock;
 use std::time::Instant;

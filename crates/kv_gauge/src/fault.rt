@@ -2,7 +2,7 @@
 
 ghost use Rattle.std.specs.Prelude.{◌↔◌, IsOk, IsTrue};
 
-use kv_bucket::KvError;
+use kv_single::KvError;
 use std::alloc::{AllocError, AllocFailed};
 use std::io;
 use thiserror::Error;

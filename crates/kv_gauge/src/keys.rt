@@ -3,7 +3,7 @@
 ghost use Rattle.std.specs.Prelude.{◌<◌};
 
 use crate::fault::Fault;
-use kv_bucket::{Filter, Key, Request};
+use kv_single::{Filter, Key, Request};
 use std::alloc::Global;
 
 /// The value of each put: 16 bytes.

@@ -4,7 +4,7 @@ use crate::fault::{Answer, Fault, check};
 use crate::plan::Plan;
 use crate::series::{Name, Series};
 use crate::subject::{empty, overwrite};
-use kv_bucket::{Bucket, Version};
+use kv_single::{Bucket, Version};
 use std::alloc::Global;
 use std::fs;
 use std::rt::Files;

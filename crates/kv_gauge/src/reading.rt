@@ -3,7 +3,7 @@
 use crate::clock::{each, since};
 use crate::fault::{Answer, Fault, check};
 use crate::keys::VALUE;
-use kv_bucket::{Filter, Key, Version};
+use kv_single::{Filter, Key, Version};
 use std::alloc::Global;
 use std::rt::Clock;
 use std::time::Instant;

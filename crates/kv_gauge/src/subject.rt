@@ -3,7 +3,7 @@
 use crate::clock::{each, since};
 use crate::fault::{Answer, Fault, check};
 use crate::keys::{key, keys, put, puts};
-use kv_bucket::{Bucket, Config, Request};
+use kv_single::{Bucket, Config, Request};
 use std::alloc::Global;
 use std::rt::Clock;
 use std::time::Instant;

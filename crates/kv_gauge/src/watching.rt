@@ -3,7 +3,7 @@
 use crate::clock::{each, since};
 use crate::fault::{Answer, Fault, check};
 use crate::subject::write_all;
-use kv_bucket::{Bucket, Filter, Filters, Options, Request, Start, Taken};
+use kv_single::{Bucket, Filter, Filters, Options, Request, Start, Taken};
 use std::alloc::Global;
 use std::rt::Clock;
 use std::time::Instant;

@@ -3,7 +3,7 @@ use Rattle.std.proofs.Common.{◌≡◌, ℕ, ◌+◌, ◌<◌, ◌≤◌, List,
 use Rattle.std.proofs.lemmas.List.{get_or-map, length-map}
 use Rattle.std.proofs.lemmas.List.Elements.{All-more}
 use Rattle.kv_model.specs.Acts.{Act, IsPrefix}
-use Rattle.kv_log.proofs.Prefixes.{prefix_length, prefix_whole}
+use Rattle.kv_publish.proofs.Prefixes.{prefix_length, prefix_whole}
 
 -- of two lists each begins with the other
 pub same_seen : (xs ys : List Act) → IsPrefix xs ys → IsPrefix ys xs → ys ≡ xs

@@ -6,8 +6,8 @@ use Rattle.kv_store.specs.Standing.{StandsFor}
 use Rattle.kv_store.specs.Stored.{Stored}
 use Rattle.kv_model.specs.declared.options.Options.{Options}
 use Rattle.kv_model.specs.Given.{given}
-use Rattle.kv_bucket.specs.declared.reply.Reply.{Reply}
-use Rattle.kv_live.specs.Feeding.{Feeding, HasLearned, IsRefreshed, given_by}
+use Rattle.kv_single.specs.declared.reply.Reply.{Reply}
+use Rattle.kv_bucket.specs.Feeding.{Feeding, HasLearned, IsRefreshed, given_by}
 use Rattle.kv_race.specs.Telling.{Answered, BeginAll, HasLast, IsEnded, IsFollowed, IsShown}
 use Rattle.kv_race.specs.Watching.{Are, Place, Watch, WritesDown, reply_to}
 use Rattle.kv_race.proofs.Fed.{went_on}

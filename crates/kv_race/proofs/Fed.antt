@@ -7,9 +7,9 @@ use Rattle.std.proofs.lemmas.Option.{slice_get_cases}
 use Rattle.kv_model.specs.Acts.{Act, IsPrefix}
 use Rattle.kv_model.specs.Given.{Item}
 use Rattle.kv_model.proofs.GivenLaws.{given_goes_on}
-use Rattle.kv_bucket.specs.Replies.{answer_of}
-use Rattle.kv_bucket.specs.declared.reply.Reply.{Reply}
-use Rattle.kv_live.specs.Feeding.{Feeding, IsRefreshed, IsNotRefreshed, given_by, next_of, after_item}
+use Rattle.kv_single.specs.Replies.{answer_of}
+use Rattle.kv_single.specs.declared.reply.Reply.{Reply}
+use Rattle.kv_bucket.specs.Feeding.{Feeding, IsRefreshed, IsNotRefreshed, given_by, next_of, after_item}
 use Rattle.kv_race.specs.Watching.{HandsOut, reply_to}
 
 take_prefix : {X : Type 0} (n : ℕ) (xs ys : List X) → n ≤ length xs → take n (xs ++ ys) ≡ take n xs

@@ -3,8 +3,8 @@ use Rattle.std.proofs.Common.{◌≡◌, ℕ, ◌+◌, ◌<◌, ◌≤◌, List,
 use Rattle.std.proofs.lemmas.List.{get_or-map, length-map}
 use Rattle.std.proofs.lemmas.List.Elements.{All-more}
 use Rattle.kv_model.specs.Acts.{Act, IsPrefix}
-use Rattle.kv_live.specs.Feeding.{Feeding, HasLearned}
-use Rattle.kv_log.proofs.Prefixes.{prefix_self, prefix_trans}
+use Rattle.kv_bucket.specs.Feeding.{Feeding, HasLearned}
+use Rattle.kv_publish.proofs.Prefixes.{prefix_self, prefix_trans}
 use Rattle.kv_race.specs.Telling.{Answered, Begin, BeginAll}
 
 pub heard_nothing : (feed : Feeding) → HasLearned [] feed feed

@@ -14,7 +14,7 @@ use Rattle.kv_model.specs.declared.options.Start.{Start}
 use Rattle.kv_model.specs.declared.options.Start.TheVariants.{Latest, History, Updates, From}
 use Rattle.kv_model.specs.Given.{Item, AnEntry, matching, all_shown, ending, given, entry_of}
 use Rattle.kv_model.proofs.GivenLaws.{all_shown-matching-append}
-use Rattle.kv_live.specs.Keeping.{PublishesWrite}
+use Rattle.kv_bucket.specs.Keeping.{PublishesWrite}
 use Rattle.kv_race.specs.Racing.{accepted_at, is_at, shown_alone, written_by}
 
 -- ---- one write

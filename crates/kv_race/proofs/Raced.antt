@@ -11,9 +11,9 @@ use Rattle.kv_model.specs.Requests.{Asked}
 use Rattle.kv_store.specs.Stored.{Stored}
 use Rattle.kv_model.specs.declared.options.Options.{Options}
 use Rattle.kv_model.specs.Given.{given}
-use Rattle.kv_bucket.specs.Replies.{answer_of}
-use Rattle.kv_bucket.specs.declared.reply.Reply.{Reply}
-use Rattle.kv_live.specs.Feeding.{Feeding, given_by}
+use Rattle.kv_single.specs.Replies.{answer_of}
+use Rattle.kv_single.specs.declared.reply.Reply.{Reply}
+use Rattle.kv_bucket.specs.Feeding.{Feeding, given_by}
 use Rattle.kv_race.specs.Openings.{IsFresh}
 use Rattle.kv_race.specs.Racing.{AreNumbered, EachReply, IsSeen, IsWritten, IsWatched, IsRaced}
 use Rattle.kv_race.specs.Telling.{Answered, Begin, BeginAll, IsTold, IsFollowed, IsEnded, IsShown, HasLast, reply_of}

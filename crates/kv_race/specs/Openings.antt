@@ -5,7 +5,7 @@ use Rattle.kv_keys.specs.declared.error.KvError.{KvError}
 use Rattle.kv_keys.specs.declared.error.KvError.TheVariants.{BadConfig, NoReader}
 use Rattle.kv_model.specs.Configuration.{Configuration, configure}
 use Rattle.kv_model.specs.declared.options.Options.{Options}
-use Rattle.kv_live.specs.Feeding.{Feeding}
+use Rattle.kv_bucket.specs.Feeding.{Feeding}
 
 -- a race has 1 to 16 workers and at most 32 watches
 abbrev pub for_race : ℕ → ℕ → Configuration → Result Configuration KvError

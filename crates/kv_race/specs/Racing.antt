@@ -9,7 +9,7 @@ use Rattle.kv_store.specs.Stored.{Stored}
 use Rattle.kv_model.specs.Given.{Item, AnEntry, EndMarker, matching, all_shown, given}
 use Rattle.kv_model.specs.declared.options.Options.{Options}
 use Rattle.kv_model.specs.Answers.{Answer}
-use Rattle.kv_live.specs.Keeping.{RefusedSomewhere}
+use Rattle.kv_bucket.specs.Keeping.{RefusedSomewhere}
 use Rattle.std.specs.List.{AllZip, filter_map, find, flat_map, range_with_len}
 use Rattle.std.specs.List.Sorted.{IsPermutation}
 use Rattle.std.specs.Result.{result_ok}

@@ -6,10 +6,10 @@ use Rattle.kv_model.specs.Configuration.{Configuration}
 use Rattle.kv_model.specs.Requests.{Asked}
 use Rattle.kv_store.specs.Standing.{StandsFor}
 use Rattle.kv_store.specs.Stored.{Stored}
-use Rattle.kv_bucket.specs.declared.reply.Reply.{Reply}
-use Rattle.kv_live.specs.Keeping.{PublishesWrite, RefusedSomewhere}
+use Rattle.kv_single.specs.declared.reply.Reply.{Reply}
+use Rattle.kv_bucket.specs.Keeping.{PublishesWrite, RefusedSomewhere}
 use Rattle.kv_model.specs.Given.{given}
-use Rattle.kv_live.specs.Feeding.{Feeding, given_by}
+use Rattle.kv_bucket.specs.Feeding.{Feeding, given_by}
 use Rattle.kv_race.specs.Watching.{Are}
 
 -- what a worker was answered: the revision with the acts that its receipt tells, or the refusal

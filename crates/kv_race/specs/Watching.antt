@@ -3,9 +3,9 @@ use Rattle.std.specs.Prelude.{◌≡◌, ◌<◌, ℕ, List, [], ◌∷◌, ◌+
 use Rattle.kv_model.specs.Acts.{Act}
 use Rattle.kv_model.specs.declared.options.Options.{Options}
 use Rattle.kv_model.specs.Given.{Item}
-use Rattle.kv_bucket.specs.Replies.{answer_of}
+use Rattle.kv_single.specs.Replies.{answer_of}
 use Rattle.kv_model.specs.Answers.{Answer, answer_item}
-use Rattle.kv_bucket.specs.declared.reply.Reply.{Reply}
+use Rattle.kv_single.specs.declared.reply.Reply.{Reply}
 
 -- what is watched: the acts when the watch began, the filters, and how entries are shown
 pub record Watch : Type 0 where

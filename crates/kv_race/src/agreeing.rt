@@ -1,14 +1,14 @@
 //! The one list of acts that all watches of a race saw, and the version that stands for it.
 
 ghost use Rattle.std.specs.Prelude.{◌≡◌, true, [], IfOk, IfErr, All, map};
-ghost use Rattle.kv_live.specs.Known.{IsUnread};
+ghost use Rattle.kv_bucket.specs.Known.{IsUnread};
 ghost use Rattle.kv_race.specs.Telling.{HasLast, IsShown};
 
 use crate::ending::{Answers, Ended, hear_all};
 use crate::feeding::refresh;
 use crate::opening::open_feed;
+use kv_bucket::{Feed, LiveName, Reader};
 use kv_keys::{Filters, KvError};
-use kv_live::{Feed, LiveName, Reader};
 use kv_model::{Options, Start};
 use kv_store::Version;
 use std::alloc::Global;

@@ -3,8 +3,8 @@
 ghost use Rattle.kv_race.specs.Telling.{IsTold};
 
 use crate::worker::Writes;
+use kv_bucket::{Live, LiveName, Receipt};
 use kv_keys::KvError;
-use kv_live::{Live, LiveName, Receipt};
 use kv_model::Request;
 use std::sync::Wait;
 

@@ -2,15 +2,15 @@
 
 ghost use Rattle.std.specs.Prelude.{◌≡◌, [], IfOk, IfErr, map};
 ghost use Rattle.kv_model.specs.Acts.{IsPrefix};
-ghost use Rattle.kv_live.specs.Feeding.{HasLearned};
-ghost use Rattle.kv_live.specs.Known.{IsUnread};
+ghost use Rattle.kv_bucket.specs.Feeding.{HasLearned};
+ghost use Rattle.kv_bucket.specs.Known.{IsUnread};
 ghost use Rattle.kv_race.specs.Telling.{Begin, BeginAll, IsEnded};
 
 use crate::feeding::{is_within, refresh};
 use crate::threads::Watched;
 use crate::watcher::collect;
+use kv_bucket::{Feed, LiveName, Reader, Receipt, Reply};
 use kv_keys::KvError;
-use kv_live::{Feed, LiveName, Reader, Receipt, Reply};
 use kv_store::Version;
 use std::alloc::Global;
 

@@ -5,14 +5,14 @@ ghost use Rattle.kv_model.specs.Acts.{IsPrefix};
 ghost use Rattle.std.specs.Option.{option_map};
 ghost use Rattle.kv_keys.specs.declared.error.KvError.TheVariants.{OutOfMemory};
 ghost use Rattle.kv_watch.specs.Taking.{item_taken};
-ghost use Rattle.kv_bucket.specs.Replies.{answer_of};
-ghost use Rattle.kv_live.specs.Feeding.{IsRefreshed, IsNotRefreshed, given_by};
-ghost use Rattle.kv_live.specs.Known.{IsUnread};
+ghost use Rattle.kv_single.specs.Replies.{answer_of};
+ghost use Rattle.kv_bucket.specs.Feeding.{IsRefreshed, IsNotRefreshed, given_by};
+ghost use Rattle.kv_bucket.specs.Known.{IsUnread};
 ghost use Rattle.kv_race.specs.Watching.{reply_to};
 
 use crate::watcher::Follows;
+use kv_bucket::{Feed, LiveName, Reply, Seen, Taken};
 use kv_keys::KvError;
-use kv_live::{Feed, LiveName, Reply, Seen, Taken};
 use std::alloc::Global;
 use std::sync::Wait;
 

@@ -1,7 +1,7 @@
 //! Laws of races, over every list of accepted acts.
 
 ghost use Rattle.std.specs.Prelude.{◌≡◌, ℕ, [], List, Some, filter};
-ghost use Rattle.kv_live.specs.Keeping.{PublishesWrite};
+ghost use Rattle.kv_bucket.specs.Keeping.{PublishesWrite};
 ghost use Rattle.kv_race.specs.Racing.{accepted_at, is_at, shown_alone, written_by};
 ghost use Rattle.kv_model.specs.Acceptance.{IsLawful};
 ghost use Rattle.kv_model.specs.Acts.{Act, IsPrefix};

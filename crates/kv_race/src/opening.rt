@@ -3,11 +3,11 @@
 ghost use Rattle.std.specs.Prelude.{◌≡◌, IfOk, IfErr};
 ghost use Rattle.kv_keys.specs.declared.error.KvError.TheVariants.{OutOfMemory};
 ghost use Rattle.std.specs.List.{AllZip};
-ghost use Rattle.kv_live.specs.Known.{IsUnread};
+ghost use Rattle.kv_bucket.specs.Known.{IsUnread};
 ghost use Rattle.kv_race.specs.Openings.{IsFresh};
 
+use kv_bucket::{Feed, LiveName, Reader};
 use kv_keys::{Filters, KvError};
-use kv_live::{Feed, LiveName, Reader};
 use kv_model::Options;
 use std::alloc::Global;
 

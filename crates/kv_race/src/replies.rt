@@ -5,8 +5,8 @@ ghost use Rattle.kv_keys.specs.declared.error.KvError.TheVariants.{OutOfMemory};
 ghost use Rattle.kv_race.specs.Telling.{reply_of};
 
 use crate::ending::Answers;
+use kv_bucket::{LiveName, Receipt};
 use kv_keys::KvError;
-use kv_live::{LiveName, Receipt};
 use std::alloc::Global;
 
 // An answer without its receipt.

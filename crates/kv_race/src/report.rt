@@ -1,7 +1,7 @@
 //! What a race answers.
 
-use kv_bucket::Reply;
 use kv_keys::KvError;
+use kv_single::Reply;
 use kv_store::Version;
 
 /// What a race answers.

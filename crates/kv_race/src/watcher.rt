@@ -6,8 +6,8 @@ ghost use Rattle.kv_model.specs.Given.{Item};
 ghost use Rattle.kv_race.specs.Watching.{Watch, Place, HandsOut, WritesDown};
 
 use crate::gate::{Gate, Who};
-use kv_bucket::Reply;
 use kv_keys::KvError;
+use kv_single::Reply;
 use std::alloc::Global;
 use std::sync::Wait;
 

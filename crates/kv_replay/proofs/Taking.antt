@@ -2,7 +2,7 @@
 use Rattle.std.proofs.Common.{◌≡◌, ◌⊎◌, inl, inr, ◌≤◌, ◌+◌, ◌-◌, ◌<◌, ℕ, suc, zero, true, false, cond, List, [], ◌∷◌, ◌++◌, length, take, drop, take-append-drop, length-append, append_assoc, append-nil, Option, refl, sym, ap, subst, ◌∙◌, Ok, arith}
 use Rattle.std.specs.Io.KnownBytes.{Appends}
 use Rattle.std.proofs.lemmas.List.{take_at}
-use Rattle.kv_bucket.specs.Held.{Bucketed, Represents}
+use Rattle.kv_single.specs.Held.{Bucketed, Represents}
 use Rattle.kv_model.specs.State.{State, after, answer_to}
 use Rattle.kv_model.specs.declared.call.Call.TheVariants as calls
 use Rattle.std.specs.Result.{result_unwrap_or}

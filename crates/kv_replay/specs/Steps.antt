@@ -1,6 +1,6 @@
 -- What is made of the calls of a line.
 use Rattle.std.specs.Prelude.{◌≡◌, ◌≤◌, ◌<◌, ◌+◌, ℕ, List, ◌++◌, length, take}
-use Rattle.kv_bucket.specs.Held.{Bucketed, Represents}
+use Rattle.kv_single.specs.Held.{Bucketed, Represents}
 use Rattle.kv_model.specs.State.{State}
 use Rattle.kv_replay.specs.Text.{Step, steps_text, steps_next}
 

@@ -1,7 +1,7 @@
 //! The answer to one line.
 
 ghost use Rattle.std.specs.Prelude.{◌≡◌, ◌++◌, ℕ, [], Ok, OnOk, OnErr, IfErr, IsErrOf};
-ghost use Rattle.kv_bucket.specs.Held.{Represents};
+ghost use Rattle.kv_single.specs.Held.{Represents};
 ghost use Rattle.kv_model.specs.State.{State};
 ghost use Rattle.kv_keys.specs.declared.error.KvError.TheVariants.{OutOfMemory};
 ghost use Rattle.kv_script.specs.Commands.{Take, line_command, meaning_of};
@@ -21,9 +21,9 @@ use crate::refusals::answer_refusal;
 use crate::takes::{answer_takes, pour_takes};
 use crate::watches::{answer_stop, answer_watch};
 use crate::writes::{answer_compact, answer_seal, answer_write};
-use kv_bucket::Bucket;
 use kv_keys::KvError;
 use kv_script::{Command, Form, is_skipped, parse};
+use kv_single::Bucket;
 use std::alloc::Global;
 
 /// Does one command, and appends its answer lines.

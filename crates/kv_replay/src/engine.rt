@@ -17,10 +17,10 @@ ghost use Rattle.kv_model.specs.Configuration.{Configuration};
 use crate::bounded_input::BoundedInput;
 use crate::lines::Script;
 use crate::output::Output;
-use kv_bucket::Bucket;
 use kv_keys::KvError;
 use kv_model::Config;
 use kv_script::Form;
+use kv_single::Bucket;
 use std::alloc::Global;
 
 /// How many bytes are asked for at a time.

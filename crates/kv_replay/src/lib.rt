@@ -20,11 +20,11 @@ pub use answer::{answer_line, answer_line_in};
 pub use bounded_input::{Bounded, BoundedInput};
 pub use engine::{BUFFER_BYTES, new_buffer, run_script};
 pub use input::{CountedReader, Input};
-pub use kv_bucket::{
+pub use kv_script::Form;
+pub use kv_single::{
     Bucket, Config, Filter, Filters, Key, KvError, Options, Reply, Request, Seen, Start, Version,
     Write,
 };
-pub use kv_script::Form;
 pub use lines::KEPT_BYTES;
 pub use output::{CountedWriter, Output};
 pub use streams::{READ_CALLS, replay, replay_bounded, replay_bounded_in, replay_in};

@@ -1,7 +1,7 @@
 //! A script that is being read: the bucket so far, and the line that has begun.
 
 ghost use Rattle.std.specs.Prelude.{◌≡◌, ◌++◌, [], OnOk, IfErr, IsErrOf};
-ghost use Rattle.kv_bucket.specs.Held.{Represents};
+ghost use Rattle.kv_single.specs.Held.{Represents};
 ghost use Rattle.kv_model.specs.State.{State};
 ghost use Rattle.kv_replay.specs.Faults.{IsWriteOrMemory};
 ghost use Rattle.kv_replay.specs.inside.Reading.{Reading, after_bytes, ended, grown, line_ended, said, within};
@@ -11,9 +11,9 @@ ghost use Rattle.kv_replay.specs.inside.Written.{Pours, PoursFront, Puts};
 
 use crate::answer::pour_line;
 use crate::output::Output;
-use kv_bucket::Bucket;
 use kv_keys::KvError;
 use kv_script::{Form, without_return};
+use kv_single::Bucket;
 use memchr::memchr;
 use std::alloc::{AllocError, Global};
 use std::marker::Model;

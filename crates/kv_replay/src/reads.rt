@@ -1,7 +1,7 @@
 //! Answers to reads, which change nothing.
 
 ghost use Rattle.std.specs.Prelude.{◌≡◌, ◌++◌, OnOk, OnErr, IfErr};
-ghost use Rattle.kv_bucket.specs.Held.{Represents};
+ghost use Rattle.kv_single.specs.Held.{Represents};
 ghost use Rattle.kv_model.specs.State.{State, answer_to};
 ghost use Rattle.kv_model.specs.declared.call.Call.TheVariants.{Get, GetAt, History, Keys, Status};
 ghost use Rattle.kv_keys.specs.Places.{fnv32_of};
@@ -10,11 +10,11 @@ ghost use Rattle.kv_script.specs.Answered.{answer_text};
 ghost use Rattle.kv_script.specs.Text.{place_text};
 
 use crate::refusals::answer_refusal;
-use kv_bucket::Bucket;
 use kv_keys::{Filter, Key, KvError, Place};
 use kv_script::{
     Form, append_entry, append_history, append_keys, append_place, append_refusal, append_status,
 };
+use kv_single::Bucket;
 use std::alloc::Global;
 
 /// The latest entry of a key, where it is a put.

@@ -3,7 +3,7 @@
 ghost use Rattle.std.specs.Prelude.{◌≡◌, ◌++◌, IfOk, OnOk, OnErr, IfErr, IsErrOf};
 ghost use Rattle.kv_model.specs.Answers.{answer_item};
 ghost use Rattle.kv_model.specs.further.Events.{event_answered};
-ghost use Rattle.kv_bucket.specs.Held.{Represents};
+ghost use Rattle.kv_single.specs.Held.{Represents};
 ghost use Rattle.kv_model.specs.State.{State, after, answer_to};
 ghost use Rattle.kv_model.specs.declared.call.Call.TheVariants.{Take};
 ghost use Rattle.kv_keys.specs.declared.error.KvError.TheVariants.{OutOfMemory};
@@ -16,9 +16,9 @@ ghost use Rattle.kv_replay.specs.inside.Written.{Pours, PoursFront, Puts};
 
 use crate::output::Output;
 use crate::pouring::pour_many;
-use kv_bucket::{Bucket, Event};
 use kv_keys::KvError;
 use kv_script::{Form, append_empty, append_marker, append_refusal, append_taken_entry};
+use kv_single::{Bucket, Event};
 use kv_watch::Taken;
 use std::alloc::Global;
 

@@ -1,16 +1,16 @@
 //! Answers to new watches and stops.
 
 ghost use Rattle.std.specs.Prelude.{◌≡◌, ◌++◌, ◌⊎◌, OnOk, OnErr, IfErr};
-ghost use Rattle.kv_bucket.specs.Held.{Represents};
+ghost use Rattle.kv_single.specs.Held.{Represents};
 ghost use Rattle.kv_model.specs.State.{State, after, answer_to};
 ghost use Rattle.kv_model.specs.declared.call.Call.TheVariants.{Watch, Stop};
 ghost use Rattle.kv_keys.specs.declared.error.KvError.TheVariants.{OutOfMemory};
 ghost use Rattle.kv_script.specs.Answered.{answer_text, ended_text};
 
-use kv_bucket::Bucket;
 use kv_keys::{Filters, KvError};
 use kv_model::Options;
 use kv_script::{Form, append_refusal, append_stopped, append_watch};
+use kv_single::Bucket;
 use std::alloc::Global;
 
 /// Opens a watch. After want of memory nothing was appended, and the watch was opened or not.

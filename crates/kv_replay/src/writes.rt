@@ -1,7 +1,7 @@
 //! Answers to writes, seals and compactions.
 
 ghost use Rattle.std.specs.Prelude.{◌≡◌, ◌++◌, ◌⊎◌, OnOk, OnErr, IfErr};
-ghost use Rattle.kv_bucket.specs.Held.{Represents};
+ghost use Rattle.kv_single.specs.Held.{Represents};
 ghost use Rattle.kv_model.specs.State.{State, after, after_write, answer_to, answer_write as answered};
 ghost use Rattle.kv_model.specs.declared.call.Call.TheVariants.{Compact, Seal};
 ghost use Rattle.kv_keys.specs.declared.error.KvError.TheVariants.{OutOfMemory};
@@ -9,10 +9,10 @@ ghost use Rattle.kv_script.specs.Answered.{answer_text};
 ghost use Rattle.kv_model.specs.Acceptance.{accept};
 ghost use Rattle.kv_model.specs.Requests.{asked};
 
-use kv_bucket::Bucket;
 use kv_keys::KvError;
 use kv_model::Request;
 use kv_script::{Form, append_compacted, append_refusal, append_revision, append_sealed};
+use kv_single::Bucket;
 use std::alloc::Global;
 
 /// Does what is asked. After want of memory nothing was appended, and the write was accepted or not.

@@ -1,7 +1,7 @@
 -- What a script's run holds: a bucket that represents a state of the model, and the line that has begun.
 use Rattle.std.specs.Prelude.{◌≡◌, ℕ, List}
 use Rattle.kv_model.specs.State.{State}
-use Rattle.kv_bucket.specs.Held.{Bucketed, Represents}
+use Rattle.kv_single.specs.Held.{Bucketed, Represents}
 use Rattle.kv_replay.specs.inside.Reading.{Reading}
 
 pub record Scripted : Type 0 where

@@ -2,16 +2,16 @@
 
 ghost use Rattle.std.specs.Prelude.{◌≡◌, ◌++◌, OnOk, IfErr, map};
 ghost use Rattle.kv_keys.specs.declared.error.KvError.TheVariants.{OutOfMemory};
-ghost use Rattle.kv_bucket.specs.Replies.{answer_of};
+ghost use Rattle.kv_single.specs.Replies.{answer_of};
 ghost use Rattle.kv_script.specs.Answered.{taken_text};
 ghost use Rattle.kv_run.specs.Reporting.{replies_text, reply_text, seen_text};
 
-use kv_bucket::{Reply, Seen};
 use kv_keys::KvError;
 use kv_script::{
     Form, append_empty, append_marker, append_refusal, append_taken_entry, append_told,
     append_worker_refusal,
 };
+use kv_single::{Reply, Seen};
 use std::alloc::Global;
 
 fn append_reply(

@@ -2,17 +2,17 @@
 
 ghost use Rattle.std.specs.Prelude.{map, OnOk, OnErr, IfErr, IsErrOf};
 ghost use Rattle.std.specs.Io.KnownBytes.{Appends};
-ghost use Rattle.kv_bucket.specs.Replies.{answer_of};
+ghost use Rattle.kv_single.specs.Replies.{answer_of};
 ghost use Rattle.kv_run.specs.Reporting.{numbered, replies_text, report_text, seen_text};
 ghost use Rattle.kv_replay.specs.Faults.{IsWriteOrMemory};
 ghost use Rattle.kv_replay.specs.inside.Written.{Puts};
 
 use crate::races::reporting::{append_replies, append_seen};
-use kv_bucket::Reply;
 use kv_keys::KvError;
 use kv_race::Report;
 use kv_replay::Output;
 use kv_script::Form;
+use kv_single::Reply;
 use std::alloc::Global;
 
 /// Writes the replies, worker by worker.

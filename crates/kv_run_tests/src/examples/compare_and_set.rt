@@ -1,7 +1,7 @@
 //! Compare-and-set.
 
 use super::*;
-use kv_bucket::{Bucket, Config, Key, KvError, Request};
+use kv_single::{Bucket, Config, Key, KvError, Request};
 
 // Sets a value where nobody has written the key since this revision of it; 0: where nobody ever has.
 fn set(

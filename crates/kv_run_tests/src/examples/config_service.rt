@@ -1,7 +1,7 @@
 //! A service that hands out configuration.
 
 use super::*;
-use kv_bucket::{Bucket, Config, Filters, Key, KvError, Options, Request, Start, Taken};
+use kv_single::{Bucket, Config, Filters, Key, KvError, Options, Request, Start, Taken};
 
 const LATEST: Options = Options {
     start: Start::Latest,

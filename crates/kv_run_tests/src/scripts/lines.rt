@@ -1,8 +1,8 @@
 //! Lines by themselves, on one bucket, in both forms of values.
 
 use super::*;
-use kv_bucket::Bucket;
 use kv_run::answer_line_in;
+use kv_single::Bucket;
 
 const LINES: &[(Form, &str)] = &[
     // An empty line and a comment have no answer.

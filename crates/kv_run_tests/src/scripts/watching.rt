@@ -1,8 +1,8 @@
 //! Watches, line by line: each line is answered by itself, on one bucket, with values in base64.
 
 use super::*;
-use kv_bucket::Bucket;
 use kv_run::answer_line;
+use kv_single::Bucket;
 
 // A line, and the answers to it.
 type Row = (&'static str, &'static str);

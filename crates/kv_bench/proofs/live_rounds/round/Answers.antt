@@ -3,7 +3,7 @@ use denote.Param.Send.{sendable}
 use Rattle.std.proofs.Crossing.{crosses}
 use Rattle.kv_keys.proofs.key.Key.TheSendSync as key
 use Rattle.kv_model.proofs.request.Request.TheSendSync as request
-use Rattle.kv_live.proofs.Sent.{cached_send, feed_send, live_sync, reader_send}
+use Rattle.kv_bucket.proofs.Sent.{cached_send, feed_send, live_sync, reader_send}
 use Rattle.kv_bench.proofs.live_rounds.round.Goals as goal
 
 pub perform_all-requires-send-P : goal.perform_all-requires-send-P

@@ -1,6 +1,6 @@
 use Rattle.std.proofs.Common.{◌+◌, List, take, sym, subst, ap, ◌∙◌}
 use Rattle.std.specs.List.{AllZip}
-use Rattle.kv_live.specs.Feeding.{Feeding}
+use Rattle.kv_bucket.specs.Feeding.{Feeding}
 use Rattle.kv_race.specs.Openings.{IsFresh}
 use Rattle.kv_race.proofs.Zips.{zip_more}
 use Rattle.kv_race.proofs.opening.open_feeds.Goals as goal

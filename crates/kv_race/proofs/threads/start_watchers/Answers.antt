@@ -4,8 +4,8 @@ use denote.Param.Send.{sendable}
 use Rattle.std.proofs.Crossing.{crosses}
 use Rattle.std.specs.Vec.Iter.{into_iter_items}
 use Rattle.std.proofs.lemmas.Grind.{common_steps}
-use Rattle.kv_live.proofs.Sent.{feed_send}
-use Rattle.kv_bucket.proofs.reply.Reply.TheSendSync as reply
+use Rattle.kv_bucket.proofs.Sent.{feed_send}
+use Rattle.kv_single.proofs.reply.Reply.TheSendSync as reply
 use Rattle.kv_race.proofs.threads.start_watchers.Goals as goal
 
 pub returns-clause-ok : goal.returns-clause-ok

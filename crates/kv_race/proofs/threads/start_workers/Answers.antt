@@ -3,7 +3,7 @@ use denote.Param.{param}
 use denote.Param.Send.{sendable}
 use Rattle.std.proofs.Crossing.{crosses}
 use Rattle.kv_model.proofs.request.Request.TheSendSync as request
-use Rattle.kv_live.proofs.Sent.{live_sync}
+use Rattle.kv_bucket.proofs.Sent.{live_sync}
 use Rattle.kv_race.proofs.threads.start_workers.Goals as goal
 
 pub returns-clause-ok : goal.returns-clause-ok

@@ -1,8 +1,8 @@
 use Rattle.std.proofs.Common.{◌≡◌, ℕ, List, [], ◌∷◌, ◌++◌, Option, Some, map, ap, subst, ◌∙◌}
 use Rattle.std.proofs.lemmas.List.{map-append}
 use Rattle.kv_model.specs.Given.{Item}
-use Rattle.kv_bucket.specs.Replies.{answer_of}
-use Rattle.kv_bucket.specs.declared.reply.Reply.{Reply}
+use Rattle.kv_single.specs.Replies.{answer_of}
+use Rattle.kv_single.specs.declared.reply.Reply.{Reply}
 use Rattle.kv_race.specs.Watching.{HandsOut, WritesDown, reply_to}
 use Rattle.kv_race.proofs.watcher.collect.Goals as goal
 

@@ -1,7 +1,7 @@
 use Rattle.std.proofs.Common.{◌≡◌, rules, Ok, refl, sym, subst}
 use Rattle.std.specs.Prelude.{IsOk}
 use Rattle.std.proofs.lemmas.Result.{IfErr-weaker, on_ok_weaker}
-use Rattle.kv_bucket.specs.Held.{Represents}
+use Rattle.kv_single.specs.Held.{Represents}
 use Rattle.kv_model.specs.State.{empty}
 use Rattle.kv_keys.specs.declared.error.KvError.TheVariants.{OutOfMemory}
 use Rattle.kv_replay.specs.Faults.{EndsRun}

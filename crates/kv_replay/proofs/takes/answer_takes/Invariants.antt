@@ -1,4 +1,4 @@
-use Rattle.kv_bucket.specs.Held.{Represents}
+use Rattle.kv_single.specs.Held.{Represents}
 use Rattle.kv_model.specs.State.{State}
 use Rattle.kv_replay.proofs.Taking.{Took}
 use Rattle.kv_replay.proofs.takes.answer_takes.Given as goal

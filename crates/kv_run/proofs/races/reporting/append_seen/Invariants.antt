@@ -1,5 +1,5 @@
 use Rattle.std.proofs.Common.{◌≡◌, ◌++◌, drop, map}
-use Rattle.kv_bucket.specs.Replies.{answer_of}
+use Rattle.kv_single.specs.Replies.{answer_of}
 use Rattle.kv_run.specs.Reporting.{seen_text}
 use Rattle.kv_run.proofs.races.reporting.append_seen.Given as goal
 

@@ -1,5 +1,5 @@
 use Rattle.std.proofs.Common.{map}
-use Rattle.kv_bucket.specs.Replies.{answer_of}
+use Rattle.kv_single.specs.Replies.{answer_of}
 use Rattle.kv_run.specs.Reporting.{seen_text}
 use Rattle.kv_run.proofs.Reporting.{Told}
 use Rattle.kv_run.proofs.races.writing.write_seen.Given as goal

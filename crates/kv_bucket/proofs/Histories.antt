@@ -1,0 +1,42 @@
+-- A published history goes on act by act.
+use Rattle.std.proofs.Common.{◌≡◌, ◌⊎◌, ⊎_elim, inl, inr, List, [], ◌∷◌, ◌++◌, refl, sym, subst}
+use Rattle.kv_model.specs.Acceptance.{IsLawful}
+use Rattle.kv_model.specs.Acts.{Act, IsPrefix}
+use Rattle.kv_model.specs.Configuration.{Configuration}
+use Rattle.kv_store.specs.Standing.{StandsFor}
+use Rattle.kv_store.specs.Stored.{Stored}
+use Rattle.kv_bucket.specs.Histories.{IsPublishedHistory}
+
+-- a beginning of a list with one more is a beginning of the list, or all of it with that one
+one_more : {A : Type 0} (xs ys : List A) (y : A) → IsPrefix xs (ys ++ y ∷ []) → IsPrefix xs ys ⊎ (xs ≡ ys ++ y ∷ [])
+one_more [] ys y p = inl (ys, refl)
+one_more (x ∷ []) [] y p = inr (cc (p.1))
+one_more (x ∷ z ∷ xs) [] y p = absurd (cc (p.1))
+one_more (x ∷ xs) (z ∷ ys) y p =
+    let head : x ≡ z = cc (p.1) in
+    ⊎_elim (λ (q : IsPrefix xs ys). inl (q.0, cc (head, q.1))) (λ (e : xs ≡ ys ++ y ∷ []). inr (cc (head, e)))
+    (one_more xs ys y (p.0, cc (p.1)))
+
+only_none : {A : Type 0} (xs : List A) → IsPrefix xs [] → [] ≡ xs
+only_none [] p = refl
+only_none (x ∷ xs) p = absurd (cc (p.1))
+
+lawful_under : (config : Configuration) (acts : List Act) (version : Stored) → version.config ≡ config → StandsFor acts version → IsLawful config acts
+lawful_under config acts version same stands = subst (λ (c : Configuration). IsLawful c acts) same stands.lawful
+
+-- with no acts it has the empty version
+pub begins : (config : Configuration) (version : Stored) → version.config ≡ config → StandsFor [] version → IsPublishedHistory config []
+begins config version same stands = record {
+  lawful = lawful_under config [] version same stands;
+  versions = λ beginning p. (version, (same, subst (λ (acts : List Act). StandsFor acts version) (only_none beginning p) stands));
+}
+
+-- one act more needs one version more
+pub goes_on_by : (config : Configuration) (acts : List Act) (act : Act) (version : Stored) → IsPublishedHistory config acts → version.config ≡ config → StandsFor (acts ++ act ∷ []) version → IsPublishedHistory config (acts ++ act ∷ [])
+goes_on_by config acts act version before same stands = record {
+  lawful = lawful_under config (acts ++ act ∷ []) version same stands;
+  versions = λ beginning p. ⊎_elim
+      (λ (q : IsPrefix beginning acts). before.versions beginning q)
+      (λ (e : beginning ≡ acts ++ act ∷ []). (version, (same, subst (λ (l : List Act). StandsFor l version) (sym e) stands)))
+      (one_more beginning acts act p);
+}

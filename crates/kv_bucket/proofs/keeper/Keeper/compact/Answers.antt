@@ -1,0 +1,54 @@
+use Rattle.std.proofs.Common.{rules}
+use Rattle.kv_keys.specs.Outcome.{Refuses}
+use Rattle.kv_model.specs.State.{State, may_compact}
+use Rattle.kv_bucket.specs.Keeping.{IsAt}
+use Rattle.kv_model.specs.Answers.{Compacted}
+use Rattle.kv_model.specs.declared.call.Call.TheVariants as calls
+use Rattle.kv_bucket.proofs.Keeping.{compact_steps, compacts_kept, somewhere_left, refused_later}
+use Rattle.kv_bucket.proofs.keeper.Keeper.compact.Goals as goal
+
+pub returns-in_err-may_compact-clause-refused : goal.returns-in_err-may_compact-clause-refused
+returns-in_err-may_compact-clause-refused g c = search rules
+
+pub returns-in_err-may_compact-clause-unchanged : goal.returns-in_err-may_compact-clause-unchanged
+returns-in_err-may_compact-clause-unchanged g c = search rules
+
+pub returns-in_err-next-clause-unchanged : goal.returns-in_err-next-clause-unchanged
+returns-in_err-next-clause-unchanged g c = search rules
+
+pub returns-in_err-keep-clause-refused : goal.returns-in_err-keep-clause-refused
+returns-in_err-keep-clause-refused g c = search rules
+
+pub returns-in_err-keep-clause-unchanged : goal.returns-in_err-keep-clause-unchanged
+returns-in_err-keep-clause-unchanged g c = search rules
+
+pub keep-requires-clause-stands : goal.keep-requires-clause-stands
+keep-requires-clause-stands g c = search rules
+
+pub keep-requires-clause-config : goal.keep-requires-clause-config
+keep-requires-clause-config g c = search rules
+
+pub returns-clause-refused : goal.returns-clause-refused
+returns-clause-refused g c = search
+
+pub returns-clause-unchanged : goal.returns-clause-unchanged
+returns-clause-unchanged g c = search
+
+pub invariant_of-self-2 : goal.invariant_of-self-2
+invariant_of-self-2 g c = (compacts_kept g.N.LiveName.opening.config c.args.self.now c.self.inside.bucket c.keep.new.bucket c.self.inside.publisher c.keep.new.publisher c.args.floor c.compact-2.result c.version.result.now c.in_ok-next.next c.self.view_is c.self.invariant c.version.ensures.value c.in_ok-next.ensures.config c.in_ok-next.ensures.ok c.in_ok-may_compact.ensures.ok c.compact-2.ensures c.in_ok-keep.ensures.ok).0
+
+pub returns-clause-ok : goal.returns-clause-ok
+returns-clause-ok g c = (compacts_kept g.N.LiveName.opening.config c.args.self.now c.self.inside.bucket c.keep.new.bucket c.self.inside.publisher c.keep.new.publisher c.args.floor c.compact-2.result c.version.result.now c.in_ok-next.next c.self.view_is c.self.invariant c.version.ensures.value c.in_ok-next.ensures.config c.in_ok-next.ensures.ok c.in_ok-may_compact.ensures.ok c.compact-2.ensures c.in_ok-keep.ensures.ok).1
+
+pub invariant_of-self-in_err-keep : goal.invariant_of-self-in_err-keep
+invariant_of-self-in_err-keep g c = somewhere_left g.N.LiveName.opening.config c.self.inside.bucket c.keep.new.bucket c.self.inside.publisher c.keep.new.publisher c.self.invariant c.in_err-keep.ensures.unchanged.0 c.in_err-keep.ensures.unchanged.1
+
+pub returns-in_err-next-clause-refused : goal.returns-in_err-next-clause-refused
+returns-in_err-next-clause-refused g c =
+    let inner : (state : State) → IsAt state c.args.self.now → Refuses c.in_err-next.field-0.0 (may_compact c.args.floor state) =
+    refused_later c.args.self.now c.self.inside.bucket c.self.inside.publisher c.args.floor c.in_err-next.field-0.0 c.version.result.now c.self.view_is c.version.ensures.value c.in_ok-may_compact.ensures.ok c.in_err-next.ensures.refused in
+    search (rules, inner)
+
+pub keep-requires-clause-step : goal.keep-requires-clause-step
+keep-requires-clause-step g c =
+    (calls.Compact c.args.floor, (Compacted c.args.floor, compact_steps c.self.inside.bucket c.args.floor c.version.result.now c.in_ok-next.next c.version.ensures.value c.in_ok-next.ensures.config c.in_ok-next.ensures.ok c.in_ok-may_compact.ensures.ok))

@@ -1,0 +1,14 @@
+use Rattle.std.proofs.Common.{◌++◌, ◌∷◌, [], List, sym, subst, refl}
+use Rattle.kv_model.specs.Acts.{Act}
+use Rattle.kv_store.specs.Standing.{StandsFor}
+use Rattle.kv_bucket.specs.Histories.{IsPublishedHistory}
+use Rattle.kv_bucket.proofs.Histories.{goes_on_by}
+use Rattle.kv_bucket.proofs.publisher.Publisher.publish.Goals as goal
+
+pub invariant_of-self : goal.invariant_of-self
+invariant_of-self g c =
+    let config = g.N.LiveName.opening.config in
+    let was : List Act = c.self.inside.whole in
+    let stands : StandsFor (was ++ c.args.deed ∷ []) c.args.next.now = subst (λ (a : List Act). StandsFor (a ++ c.args.deed ∷ []) c.args.next.now) (sym c.self.view_is) c.requires.stands in
+    let more : IsPublishedHistory config (was ++ c.args.deed ∷ []) = goes_on_by config was c.args.deed c.args.next.now c.self.invariant.4 c.requires.config stands in
+    rw c.put.ensures (refl, c.show-copies.ensures.shown, c.self.invariant.2, c.self.invariant.3, subst (IsPublishedHistory config) (sym c.show-copies.ensures.added) more)

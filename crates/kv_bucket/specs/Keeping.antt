@@ -1,0 +1,86 @@
+-- What lies under the lock, and what a call makes of it.
+use Rattle.std.specs.Prelude.{◌≡◌, ℕ, List, [], ◌∷◌, ◌++◌, Result, Ok, Err, ◌&&◌, nat_le, if◌then◌else◌}
+use Rattle.kv_keys.specs.declared.error.KvError.{KvError}
+use Rattle.kv_keys.specs.declared.error.KvError.TheVariants.{NoReader}
+use Rattle.kv_keys.specs.Outcome.{Refuses}
+use Rattle.kv_model.specs.Acceptance.{accept, IsLawful}
+use Rattle.kv_model.specs.Acts.{Act, Wrote, Write}
+use Rattle.kv_model.specs.Configuration.{Configuration, configure}
+use Rattle.kv_model.specs.Requests.{Asked}
+use Rattle.kv_publish.specs.Openings.{Opening}
+use Rattle.kv_model.specs.declared.call.Call.{Call}
+use Rattle.kv_model.specs.Answers.{Answer}
+use Rattle.kv_single.specs.Held.{Bucketed, Represents}
+use Rattle.kv_model.specs.State.{State, Watch, after, answer_to, may_compact}
+
+-- a bucket, and the acts that are published of its opening
+pub record Kept : Type 0 where
+  pub bucket : Bucketed
+  pub published : List Act
+
+abbrev pub kept_of : Bucketed → List Act → Kept
+kept_of bucket published = record { bucket = bucket; published = published }
+
+-- the value under the lock is at a state of the model: its bucket represents it, and the acts of the state are those
+-- that are published
+pub record IsAt (state : State) (kept : Kept) : Type 0 where
+  pub represents : Represents state kept.bucket
+  pub published : kept.published ≡ state.acts
+
+-- the state of these acts and watches
+abbrev pub state_of : Configuration → List Act → List Watch → State
+state_of config acts watches = record { config = config; acts = acts; watches = watches }
+
+-- it is at some state of this configuration
+abbrev pub IsSomewhere : Configuration → Kept → Type 0
+IsSomewhere config kept = (watches : List Watch) × IsAt (state_of config kept.published watches) kept
+
+-- a call is one step of the model, from every state that the value was at, in full
+abbrev pub IsKeptStep : Kept → Call → Answer → Kept → Type 0
+IsKeptStep old call answer new = (state : State) → IsAt state old → (answer ≡ answer_to state call) ×
+    IsAt (after state call) new
+
+-- a request was accepted after the acts before, at this revision, and the acts after are those with its write
+abbrev pub PublishesWrite : Configuration → Asked → ℕ → List Act → List Act → Type 0
+PublishesWrite config request revision before later = (w : Write) ×
+    ((accept config request before ≡ Ok w) × (w.revision ≡ revision) × (later ≡ before ++ Wrote w ∷ []))
+
+-- the same after some lawful acts
+abbrev pub WritesSomewhere : Configuration → Asked → ℕ → List Act → Type 0
+WritesSomewhere config request revision later = (before : List Act) ×
+    (IsLawful config before × PublishesWrite config request revision before later)
+
+-- the refusal is the one that the rules give after some lawful acts
+abbrev pub RefusedSomewhere : Configuration → Asked → KvError → Type 0
+RefusedSomewhere config request error = (before : List Act) ×
+    (IsLawful config before × Refuses error (accept config request before))
+
+-- a state of this configuration, of lawful acts
+abbrev pub IsLawfulState : Configuration → State → Type 0
+IsLawfulState config state = (state.config ≡ config) × IsLawful config state.acts
+
+-- at some such state a compaction to the floor is made
+abbrev pub CompactsSomewhere : Configuration → ℕ → Type 0
+CompactsSomewhere config floor = (state : State) × (IsLawfulState config state × (may_compact floor state ≡ Ok floor))
+
+-- the refusal of a compaction is the one that the rules give at some such state
+abbrev pub UncompactedSomewhere : Configuration → ℕ → KvError → Type 0
+UncompactedSomewhere config floor error = (state : State) ×
+    (IsLawfulState config state × Refuses error (may_compact floor state))
+
+-- an opening that has no name yet, and how many readers it is for
+pub record Unnamed : Type 0 where
+  pub opening : Opening
+  pub readers : ℕ
+
+-- an opening is for 1 to 32 readers
+abbrev pub for_readers : ℕ → Configuration → Result Configuration KvError
+for_readers readers config = if nat_le 1 readers && nat_le readers 32 then Ok config else Err NoReader
+
+abbrev pub then_readers : ℕ → Result Configuration KvError → Result Configuration KvError
+then_readers readers (Ok config) = for_readers readers config
+then_readers readers (Err error) = Err error
+
+-- the refusal of an opening: that of its configuration first, then that of its number of readers
+abbrev pub may_open : Configuration → ℕ → Result Configuration KvError
+may_open config readers = then_readers readers (configure config)

@@ -1,0 +1,337 @@
+//! Feeds: watches outside the lock.
+
+ghost use Rattle.std.specs.Prelude.{◌≡◌, ◌≤◌, ◌↔◌, false, List, [], ⊤, None, IfOk, IfErr, OnOk, MatchResult, is_some, length, take};
+ghost use Rattle.std.specs.Borrow.{sem, follows_so};
+ghost use Rattle.std.specs.Option.{option_map};
+ghost use mathlib.Core.Option.{none};
+ghost use Rattle.kv_keys.specs.declared.error.KvError.TheVariants.{OutOfMemory};
+ghost use Rattle.kv_model.specs.Acceptance.{IsLawful};
+ghost use Rattle.kv_model.specs.Acts.{Act, Write, IsPrefix, floor_of};
+ghost use Rattle.kv_store.specs.Standing.{StandsFor};
+ghost use Rattle.kv_watch.specs.Following.{InReach, IsOpening};
+ghost use Rattle.kv_model.specs.further.Events.{event_of};
+ghost use Rattle.kv_store.specs.Stored.{Stored};
+ghost use Rattle.kv_watch.specs.Taking.{item_taken};
+ghost use Rattle.kv_bucket.specs.inside.Fed.{acts_on, opened};
+ghost use Rattle.kv_bucket.specs.Feeding.{Feeding, HasSeenMore, HasLearned, IsRefreshed, IsNotRefreshed, IsStopped, lags, WentOn, HandsNext, given_by, next_of, after_item};
+ghost use Rattle.kv_bucket.specs.Known.{IsUnread};
+ghost use Rattle.kv_bucket.specs.Owed.{Owes, HasOnce};
+ghost use Rattle.kv_publish.specs.Shelves.{IsOf};
+
+use crate::reader::Reader;
+use crate::receipt::{Mark, Receipt};
+use kv_keys::{Filters, KvError};
+use kv_model::{Event, Options, Stopped};
+use kv_publish::{LiveName, Shelf, Woken};
+use kv_store::Version;
+use kv_watch::{Cursor, Taken};
+use std::alloc::Global;
+use std::marker::Model;
+use std::mem;
+use std::rt::Clock;
+use std::snapshot::Snapshot;
+use std::sync::Wait;
+use std::time::Duration;
+
+/// A watch that takes no lock: it goes on from version to version as it is refreshed. Contracts see its reader, the
+/// acts when it was opened, those that its version stands for, what it shows, and how many items it handed out.
+pub struct Feed<N: LiveName> {
+    reader: Reader<N>,
+    held: Held,
+    cursor: Cursor,
+}
+
+impl<N: LiveName> Drop for Feed<N> {
+    fn drop(self) {
+        let Self {
+            reader: _,
+            held: _,
+            cursor: _,
+        } = self;
+    }
+}
+
+// What a feed was opened on, as contracts see it and as long as initial entries are owed, and what it went on to: one
+// field, which `take` lends from.
+struct Held {
+    base: Snapshot<Shelf>,
+    kept: Option<Version>,
+    current: Shelf,
+}
+
+impl Drop for Held {
+    fn drop(self) {
+        let Self {
+            base: _,
+            kept: _,
+            current: _,
+        } = self;
+    }
+}
+
+impl<N: LiveName> Model for Feed<N> {
+    ghost use Rattle.kv_bucket.specs.inside.Fed.{IsFed, feeding_of};
+    ghost use Rattle.kv_bucket.specs.Feeding.{Feeding};
+    ghost use Rattle.kv_watch.specs.Following.{IsOpening};
+
+    ghost Value = { Feeding };
+
+    ghost view = { λ f. feeding_of f.reader f.held.base.value f.held.current f.cursor };
+
+    ghost invariant = { λ f. IsFed N.opening.config f.reader f.held.base.value f.held.current f.cursor
+        × IsOpening f.held.kept f.held.base.value.version f.cursor };
+}
+
+// What a feed needs that begins on a shelf: a cursor before the first item, and a snapshot as long as that needs it.
+fn beginning(
+    alloc: Global,
+    shelf: &Shelf,
+    filters: &Filters,
+    options: Options,
+) -> Result<(Option<Version>, Cursor), KvError>
+    ensures kept { IfOk result (λ p. IsOpening p.0 shelf.now.version p.1) }
+    ensures shows { IfOk result (λ p. (p.1.filters ≡ filters.now) × (p.1.options ≡ options)) }
+    ensures place { IfOk result
+        (λ p. InReach (acts_on shelf.now) (acts_on shelf.now) 0 shelf.now.version shelf.now.version p.1) }
+    ensures err { IfErr result (λ e. e ≡ OutOfMemory) }
+{
+    let base = shelf.version().snapshot()?;
+    let cursor = Cursor::open(alloc, shelf.version(), filters, options)?;
+    let kept = cursor.keep(base);
+    Ok((kept, cursor))
+}
+
+// A feed that begins on a shelf.
+fn begin<N: LiveName>(
+    reader: Reader<N>,
+    shelf: Shelf,
+    filters: &Filters,
+    options: Options,
+) -> Result<Feed<N>, (Reader<N>, KvError)>
+    requires of { IsOf N.opening shelf }
+    requires seen { IsPrefix (acts_on shelf) reader.seen }
+    ensures ok { IfOk result (λ feed. feed ≡ opened reader (acts_on shelf) filters.now options) }
+    ensures err { IfErr result (λ e. (e.0 ≡ reader) × (e.1 ≡ OutOfMemory)) }
+{
+    match beginning(reader.alloc(), &shelf, filters, options) {
+        Ok((kept, cursor)) => Ok(Feed {
+            reader,
+            held: Held {
+                base: Snapshot::of(&shelf),
+                kept,
+                current: shelf,
+            },
+            cursor,
+        }),
+        Err(refusal) => Err((reader, refusal)),
+    }
+}
+
+impl<N: LiveName> Reader<N> {
+    /// A feed that begins with the version that is published. It costs an entry, the keys, and what it will hand out.
+    /// Where it is refused the reader comes back.
+    pub fn watch(self, filters: &Filters, options: Options) -> Result<Feed<N>, (Reader<N>, KvError)>
+        ensures reader { IfOk result (λ feed. HasSeenMore self feed.reader × IsPrefix self.told feed.reader.seen) }
+        ensures ok { IfOk result (λ feed. feed ≡ opened feed.reader feed.reader.seen filters.now options) }
+        ensures err { IfErr result (λ e. HasSeenMore self e.0 × IsUnread e.1) }
+    {
+        let mut reader = self;
+        match reader.shelf() {
+            Ok(shelf) => begin(reader, shelf, filters, options),
+            Err(refusal) => Err((reader, refusal)),
+        }
+    }
+
+    /// A feed that begins with the empty version, so that every accepted write is live for it. It doesn't enter: it has
+    /// nothing to hand out but the end marker before it is refreshed.
+    pub fn watch_from_empty(
+        self,
+        filters: &Filters,
+        options: Options,
+    ) -> Result<Feed<N>, (Reader<N>, KvError)>
+        ensures ok { IfOk result (λ feed. feed ≡ opened self [] filters.now options) }
+        ensures err { IfErr result (λ e. (e.0 ≡ self) × (e.1 ≡ OutOfMemory)) }
+    {
+        match self.empty_shelf() {
+            Ok(shelf) => begin(self, shelf, filters, options),
+            Err(refusal) => Err((self, refusal)),
+        }
+    }
+}
+
+impl<N: LiveName> Feed<N> {
+    ghost use Rattle.kv_bucket.specs.contracts.feed.Feed.{the_row};
+
+    /// Goes on to the version that is published. Where it is refused the feed stays on its version, with its count.
+    /// `Lagged` tells the floor of the published version: it is above the last revision of the feed's version, or the
+    /// feed has still to hand out an entry at or below it that came after its opening. What the feed owes by its own
+    /// version it can still hand out, and then be opened anew. It frees of the version that it leaves what nobody else
+    /// holds; `refresh_keeping` hands that out.
+    pub fn refresh(&mut self) -> Result<(), KvError>
+        ensures ok { IfOk result (λ _. IsRefreshed self.old self.new) }
+        ensures ahead { IfOk result (λ _. lags N.opening.config.history (floor_of self.new.acts) self.old ≡ false) }
+        ensures refused { IfErr result
+            (λ e. IsStopped N.opening.config.history self.old self.new e × IsNotRefreshed self.old self.new) }
+    {
+        self.refresh_keeping()?;
+        Ok(())
+    }
+
+    /// The same, at once at every size: it frees nothing, and answers the version that it left, to be dropped when and
+    /// where there is time for that.
+    pub fn refresh_keeping(&mut self) -> Result<Version, KvError>
+        ensures ok { OnOk result (IsRefreshed self.old self.new) }
+        ensures ahead { OnOk result (lags N.opening.config.history (floor_of self.new.acts) self.old ≡ false) }
+        ensures left { IfOk result (λ left. StandsFor self.old.acts left × (left.config ≡ N.opening.config)) }
+        ensures refused { IfErr result
+            (λ e. IsStopped N.opening.config.history self.old self.new e × IsNotRefreshed self.old self.new) }
+    {
+        let shelf = self.reader.shelf_ahead(&self.held.current, &self.cursor)?;
+        let left = mem::replace(&mut self.held.current, shelf);
+        Ok(left.into_version())
+    }
+
+    /// The version that it went on to: a snapshot. While somebody has it, the feed's next refresh frees nothing of it.
+    pub fn version(&self) -> Result<Version, KvError>
+        ensures ok { IfOk result (λ v. StandsFor self.now.acts v × (v.config ≡ N.opening.config)) }
+        ensures err { IfErr result (λ e. e ≡ OutOfMemory) }
+    {
+        self.held.current.version().snapshot()
+    }
+
+    /// What `take` would hand out.
+    pub fn peek(&self) -> Taken<'_>
+        ensures { item_taken result ≡ next_of N.opening.config.history self.now }
+    {
+        self.cursor
+            .peek(self.held.kept.as_ref(), self.held.current.version())
+    }
+
+    /// Hands out the next item, lent from the feed's version. Where all was handed out it is `Empty`, and nothing
+    /// changes.
+    pub fn take(&mut self) -> Taken<'_>
+        ensures* after { sem 𝓛 (follows_so (the_row N.row N.LiveName) (the_row N.row N.LiveName)
+            self.entry.ghost_name none (λ _ _. ⊤)
+            (λ left. left ≡ after_item self.old (item_taken result))) }
+        ensures once { item_taken result ≡ None → (told : List Act) (w : Write) → Owes self.old told w →
+            HasOnce self.old w (take self.old.handed (given_by N.opening.config.history self.old)) }
+        ensures value { item_taken result ≡ next_of N.opening.config.history self.old }
+        ensures end { (item_taken result ≡ None) ↔ (self.old.handed
+            ≡ length (given_by N.opening.config.history self.old)) }
+    {
+        self.cursor.let_go(&mut self.held.kept);
+        let held = &self.held;
+        self.cursor
+            .take_settled(held.kept.as_ref(), held.current.version())
+    }
+
+    /// Moves on behind the item that `peek` showed, as `take` does, and doesn't look it up again: so that what is shown
+    /// can be copied first, and want of memory loses no item.
+    pub fn pass(&mut self, peeked: Option<Event>)
+        requires next { peeked ≡ option_map event_of (next_of N.opening.config.history self.old) }
+        ensures after { self.new ≡ after_item self.old (next_of N.opening.config.history self.old) }
+        ensures once { peeked ≡ None → (told : List Act) (w : Write) → Owes self.old told w →
+            HasOnce self.old w (take self.old.handed (given_by N.opening.config.history self.old)) }
+    {
+        self.cursor.pass(peeked, self.held.current.version());
+        self.cursor.let_go(&mut self.held.kept);
+    }
+
+    /// Sleeps until more is published than it went on to, or the bucket is closed, and says which. It takes no lock.
+    pub fn wait<R: Wait>(&self, rt: &R) -> Woken {
+        self.reader.bell().wait(rt, self.held.current.acts())
+    }
+
+    /// The same, for no longer than the limit. It is `None` where the time was over first, or the clock couldn't be
+    /// read.
+    pub fn wait_timeout<R: Wait + Clock>(&self, rt: &R, limit: Duration) -> Option<Woken> {
+        self.reader
+            .bell()
+            .wait_timeout(rt, self.held.current.acts(), limit)
+    }
+
+    // Whether there is a next item. It notes how far it looked, so that what was looked at in vain is not looked at
+    // again, and a take of the item finds it at once.
+    fn settle(&mut self) -> bool
+        ensures same { self.new ≡ self.old }
+        ensures found { result ≡ is_some (next_of N.opening.config.history self.old) }
+    {
+        self.cursor.settle(self.held.current.version())
+    }
+
+    // Goes on until there is a next item, or the bucket was closed and there will never be one.
+    fn go_on<R: Wait>(&mut self, rt: &R) -> Result<(), KvError>
+        ensures goes { WentOn self.old self.new }
+        ensures refused { IfErr result (λ e. IsStopped N.opening.config.history self.new self.new e) }
+    {
+        for _ in rt.forever() {
+            if self.settle() {
+                return Ok(());
+            }
+            match self.wait(rt) {
+                Woken::Changed => self.refresh()?,
+                Woken::Closed => return Ok(()),
+            }
+        }
+        unreachable!()
+    }
+
+    /// Hands out the next item, lent from the feed's version, and waits where there is none yet. It is `Empty` once the
+    /// bucket was closed and all was handed out. It looks at each write once, and at the one that it hands out twice:
+    /// to find it and to lend it.
+    pub fn next<R: Wait>(&mut self, rt: &R) -> Result<Taken<'_>, KvError>
+        ensures* after { sem 𝓛 (follows_so (the_row N.row N.LiveName) (the_row N.row N.LiveName)
+            self.entry.ghost_name none (λ _ _. ⊤)
+            (λ left. MatchResult result
+            (λ taken. HandsNext N.opening.config.history self.old (item_taken taken) left)
+            (λ e. WentOn self.old left × IsStopped N.opening.config.history left left e))) }
+    {
+        self.go_on(rt)?;
+        Ok(self.take())
+    }
+
+    /// How many items were handed out, the end marker counted.
+    pub fn handed(&self) -> u64
+        ensures value { result ≡ self.now.handed }
+        ensures within { result ≤ length (given_by N.opening.config.history self.now) }
+        ensures prefix { IsPrefix self.now.began self.now.acts }
+        ensures seen { IsPrefix self.now.acts self.now.reader.seen }
+        ensures lawful { IsLawful N.opening.config self.now.acts }
+    {
+        self.cursor.handed()
+    }
+
+    /// Ends the feed. Its reader comes back.
+    pub fn stop(self) -> (Reader<N>, Stopped)
+        ensures reader { result.0 ≡ self.reader }
+        ensures handed { result.1.handed ≡ self.handed }
+    {
+        let Feed {
+            reader,
+            held: _,
+            cursor,
+        } = self;
+        let handed = cursor.handed();
+        (reader, Stopped { handed })
+    }
+
+    /// Takes in a receipt. Each refresh from now on goes on to acts that begin with those that the receipt tells.
+    pub fn learn(&mut self, receipt: &Receipt<N>)
+        ensures { HasLearned receipt.now self.old self.new }
+    {
+        self.reader.learn(receipt);
+    }
+
+    /// Takes in a mark, as a receipt.
+    pub fn learn_mark(&mut self, mark: &Mark<N>)
+        ensures { HasLearned mark.now self.old self.new }
+    {
+        self.reader.learn_mark(mark);
+    }
+
+    pub(crate) fn reader(&self) -> &Reader<N>
+        ensures { result.now ≡ self.now.reader }
+    {
+        &self.reader
+    }
+}

@@ -1,0 +1,265 @@
+//! What lies under the lock: the bucket, and what publishes its acts.
+
+ghost use Rattle.std.specs.Prelude.{◌≡◌, ◌<◌, ◌++◌, ◌∷◌, [], ⊤, true, false, List, Some, IfErr, IfOk, OnErr, OnOk, MatchResult, length};
+ghost use Rattle.std.specs.Borrow.{sem, follows_so};
+ghost use mathlib.Core.Option.{none};
+ghost use Rattle.kv_keys.specs.Outcome.{Refuses};
+ghost use Rattle.kv_keys.specs.declared.error.KvError.TheVariants.{OutOfMemory, NoSuchWatch};
+ghost use Rattle.kv_model.specs.Acceptance.{accept, IsLawful};
+ghost use Rattle.kv_model.specs.Acts.{Act, IsPrefix, Wrote, Write as AWrite, writes_of};
+ghost use Rattle.kv_model.specs.Requests.{asked};
+ghost use Rattle.kv_store.specs.Standing.{StandsFor};
+ghost use Rattle.kv_bucket.specs.Known.{IsUnread};
+ghost use Rattle.kv_watch.specs.Taking.{item_taken};
+ghost use Rattle.kv_single.specs.Stepping.{IsStep};
+ghost use Rattle.kv_model.specs.declared.call.Call.{Call as ACall};
+ghost use Rattle.kv_model.specs.declared.call.Call.TheVariants.{Write, Seal, Watch, Take, Stop, Compact};
+ghost use Rattle.kv_model.specs.Answers.{Answer, Revision, Sealed, Watching, Ended, Compacted, Refused, answer_item};
+ghost use Rattle.kv_bucket.specs.Histories.{IsPublishedHistory};
+ghost use Rattle.kv_bucket.specs.Keeping.{IsAt, IsSomewhere, IsKeptStep, PublishesWrite};
+ghost use Rattle.kv_model.specs.State.{State, answer_to, may_compact, next_number};
+
+use crate::feed::Feed;
+use crate::publisher::Publisher;
+use crate::reader::Reader;
+use crate::receipt::{Mark, Receipt};
+use kv_keys::{Filters, KvError};
+use kv_model::{Options, Request, Stopped};
+use kv_publish::{Deed, LiveName};
+use kv_single::Bucket;
+use kv_store::Version;
+use kv_watch::Taken;
+use std::marker::Model;
+use std::sync::Wait;
+
+/// The bucket of the opening N, and what publishes its acts. Contracts see the bucket and the acts that are published,
+/// which are always at one state of the model. What is published is one history: all that readers and feeds of N have
+/// seen, and all that receipts and marks of N tell, are beginnings of it (`is_seen_by`, `is_followed_by`, `is_told_by`).
+/// It is not `Drop`: `Live::close` ends it.
+pub struct Keeper<N: LiveName> {
+    pub(crate) bucket: Bucket,
+    pub(crate) publisher: Publisher<N>,
+}
+
+impl<N: LiveName> Model for Keeper<N> {
+    ghost use Rattle.kv_bucket.specs.Keeping.{Kept, IsSomewhere, kept_of};
+
+    ghost Value = { Kept };
+
+    ghost view = { λ k. kept_of k.bucket k.publisher };
+
+    ghost invariant = { λ k. IsSomewhere N.opening.config (kept_of k.bucket k.publisher) };
+}
+
+// Publishes an act, and only then puts the version after it in place.
+fn keep<N: LiveName, R: Wait>(
+    rt: &R,
+    bucket: &mut Bucket,
+    publisher: &mut Publisher<N>,
+    deed: Deed,
+    next: Version,
+) -> Result<(), KvError>
+    requires stands { StandsFor (publisher.old ++ deed ∷ []) next }
+    requires config { next.config ≡ N.opening.config }
+    requires step { (call : ACall) × ((answer : Answer) × IsStep bucket.old call answer (record bucket.old { version = next })) }
+    ensures ok { OnOk result ((publisher.new ≡ publisher.old ++ deed ∷ [])
+        × (bucket.new ≡ record bucket.old { version = next })) }
+    ensures err { IfErr result (λ e. e ≡ OutOfMemory) }
+    ensures unchanged { OnErr result ((publisher.new ≡ publisher.old) × (bucket.new ≡ bucket.old)) }
+{
+    publisher.publish(rt, deed, &next)?;
+    bucket.go_on_to(next);
+    Ok(())
+}
+
+impl<N: LiveName> Keeper<N> {
+    ghost use Rattle.kv_bucket.specs.contracts.keeper.Keeper.{the_row};
+
+    // It does nothing: who calls it knows that what lies under the lock is at a state of the model.
+    pub(crate) fn is_somewhere(&self)
+        ensures state { IsSomewhere N.opening.config self.now }
+        ensures lawful { IsLawful N.opening.config self.now.published }
+        ensures history { IsPublishedHistory N.opening.config self.now.published }
+    {
+        self.bucket();
+        self.publisher.history();
+    }
+
+    /// The bucket.
+    pub fn bucket(&self) -> &Bucket
+        ensures value { result.now ≡ self.now.bucket }
+        ensures state { IsSomewhere N.opening.config self.now }
+    {
+        &self.bucket
+    }
+
+    /// Does what is asked, publishes it, and answers the revision of the write. A refused request changes nothing,
+    /// publishes nothing and uses no revision. It waits for readers that are inside the copy that is to change.
+    pub fn write<R: Wait>(&mut self, rt: &R, request: &Request) -> Result<u64, KvError>
+        ensures ok { IfOk result (λ revision. IsKeptStep self.old (Write request.now) (Revision revision) self.new) }
+        ensures published { IfOk result
+            (λ revision. PublishesWrite N.opening.config (asked request.now) revision self.old.published
+            self.new.published) }
+        ensures refused { IfErr result (λ e. (state : State) → IsAt state self.old →
+            Refuses e (accept state.config (asked request.now) state.acts)) }
+        ensures unchanged { OnErr result (self.new ≡ self.old) }
+    {
+        let Keeper { bucket, publisher } = self;
+        let next = bucket.version().apply(bucket.alloc(), request)?;
+        let revision = next.revision();
+        let deed = Deed::wrote(request, revision);
+        keep(rt, bucket, publisher, deed, next)?;
+        Ok(revision)
+    }
+
+    /// Ends writes, and publishes it. Reads, takes, stops and new watches go on.
+    pub fn seal<R: Wait>(&mut self, rt: &R) -> Result<(), KvError>
+        ensures ok { OnOk result (IsKeptStep self.old Seal Sealed self.new) }
+        ensures err { IfErr result (λ e. e ≡ OutOfMemory) }
+        ensures unchanged { OnErr result (self.new ≡ self.old) }
+    {
+        let Keeper { bucket, publisher } = self;
+        let next = bucket.version().seal(bucket.alloc())?;
+        keep(rt, bucket, publisher, Deed::seal(), next)?;
+        Ok(())
+    }
+
+    /// Compacts to the floor, as `Bucket::compact` does, and publishes it. A watch of the bucket that is behind the
+    /// floor refuses it; a feed is told by its next refresh where it lags behind it.
+    pub fn compact<R: Wait>(&mut self, rt: &R, floor: u64) -> Result<(), KvError>
+        ensures ok { OnOk result (IsKeptStep self.old (Compact floor) (Compacted floor) self.new) }
+        ensures refused { IfErr result
+            (λ e. (state : State) → IsAt state self.old → Refuses e (may_compact floor state)) }
+        ensures unchanged { OnErr result (self.new ≡ self.old) }
+    {
+        let Keeper { bucket, publisher } = self;
+        bucket.may_compact(floor)?;
+        let next = bucket.version().compact(bucket.alloc(), floor)?;
+        keep(rt, bucket, publisher, Deed::compact(floor), next)?;
+        Ok(())
+    }
+
+    /// Opens a watch on the bucket, as `Bucket::watch` does.
+    pub fn watch(&mut self, filters: &Filters, options: Options) -> Result<u64, KvError>
+        ensures ok { IfOk result
+            (λ number. IsKeptStep self.old (Watch filters.now options) (Watching number) self.new) }
+        ensures refused { IfErr result (λ e. (state : State) → IsAt state self.old → Refuses e (next_number state)) }
+        ensures unchanged { OnErr result (self.new ≡ self.old) }
+    {
+        self.bucket.watch(filters, options)
+    }
+
+    /// What `take` would hand out.
+    pub fn peek(&self, number: u64) -> Result<Taken<'_>, KvError>
+        ensures ok { IfOk result (λ taken. (state : State) → IsAt state self.now →
+            answer_item (item_taken taken) ≡ answer_to state (Take number)) }
+        ensures refused { IfErr result (λ e. (e ≡ NoSuchWatch) × ((state : State) → IsAt state self.now →
+            Refused e ≡ answer_to state (Take number))) }
+    {
+        self.bucket.peek(number)
+    }
+
+    /// Hands out the next item of a watch, lent from the bucket, and moves the watch on behind it, as `Bucket::take`
+    /// does.
+    pub fn take(&mut self, number: u64) -> Result<Taken<'_>, KvError>
+        ensures* after { sem 𝓛 (follows_so (the_row N.row N.LiveName) (the_row N.row N.LiveName)
+            self.entry.ghost_name none (λ _ _. ⊤)
+            (λ left. MatchResult result
+            (λ taken. IsKeptStep self.old (Take number) (answer_item (item_taken taken)) left)
+            (λ e. left ≡ self.old))) }
+        ensures ok { IfOk result (λ taken. (state : State) → IsAt state self.old →
+            answer_item (item_taken taken) ≡ answer_to state (Take number)) }
+        ensures refused { IfErr result (λ e. (e ≡ NoSuchWatch) × ((state : State) → IsAt state self.old →
+            Refused e ≡ answer_to state (Take number))) }
+    {
+        self.bucket.take(number)
+    }
+
+    /// Stops a watch of the bucket, as `Bucket::stop` does.
+    pub fn stop(&mut self, number: u64) -> Result<Stopped, KvError>
+        ensures ok { IfOk result (λ stopped. IsKeptStep self.old (Stop number) (Ended stopped.handed) self.new) }
+        ensures refused { IfErr result
+            (λ e. (e ≡ NoSuchWatch) × IsKeptStep self.old (Stop number) (Refused e) self.new) }
+        ensures unchanged { OnErr result (self.new ≡ self.old) }
+    {
+        self.bucket.stop(number)
+    }
+
+    /// Whether the reader has seen all that is published. What it has seen, and what it was told, are always beginnings
+    /// of that.
+    pub fn is_seen_by(&mut self, reader: &Reader<N>) -> bool
+        ensures same { self.new ≡ self.old }
+        ensures within { IsPrefix reader.now.seen self.old.published }
+        ensures told { IsPrefix reader.now.told self.old.published }
+        ensures yes { result ≡ true → reader.now.seen ≡ self.old.published }
+        ensures no { result ≡ false → length reader.now.seen < length self.old.published }
+    {
+        self.publisher.is_seen(reader.told());
+        self.publisher.is_seen(reader.seen())
+    }
+
+    /// Whether the reader of the feed has seen all that is published. What it has seen, and what the feed went on to, are
+    /// always beginnings of that.
+    #[tactic(auto, using(kv_publish::proofs::Prefixes::prefix_trans))]
+    pub fn is_followed_by(&mut self, feed: &Feed<N>) -> bool
+        ensures same { self.new ≡ self.old }
+        ensures within { IsPrefix feed.now.acts self.old.published }
+        ensures seen { IsPrefix feed.now.reader.seen self.old.published }
+        ensures told { IsPrefix feed.now.reader.told self.old.published }
+        ensures yes { result ≡ true → feed.now.reader.seen ≡ self.old.published }
+        ensures no { result ≡ false → length feed.now.reader.seen < length self.old.published }
+    {
+        feed.handed();
+        self.is_seen_by(feed.reader())
+    }
+
+    /// Whether the receipt tells all that is published. What it tells is always a beginning of that.
+    pub fn is_told_by(&mut self, receipt: &Receipt<N>) -> bool
+        ensures same { self.new ≡ self.old }
+        ensures within { IsPrefix receipt.now self.old.published }
+        ensures yes { result ≡ true → receipt.now ≡ self.old.published }
+        ensures no { result ≡ false → length receipt.now < length self.old.published }
+    {
+        self.publisher.is_seen(receipt.mark().front())
+    }
+
+    /// A mark behind all that is published.
+    pub fn mark(&self) -> Mark<N>
+        ensures { result ≡ self.now.published }
+    {
+        self.publisher.mark()
+    }
+
+    /// As `write` does, with a receipt for it.
+    pub fn write_told<R: Wait>(
+        &mut self,
+        rt: &R,
+        request: &Request,
+    ) -> Result<(u64, Receipt<N>), KvError>
+        ensures ok { IfOk result (λ r. IsKeptStep self.old (Write request.now) (Revision r.0) self.new) }
+        ensures published { IfOk result
+            (λ r. PublishesWrite N.opening.config (asked request.now) r.0 self.old.published self.new.published) }
+        ensures told { IfOk result (λ r. r.1 ≡ self.new.published) }
+        ensures refused { IfErr result (λ e. (state : State) → IsAt state self.old →
+            Refuses e (accept state.config (asked request.now) state.acts)) }
+        ensures unchanged { OnErr result (self.new ≡ self.old) }
+    {
+        let revision = self.write(rt, request)?;
+        Ok((revision, self.publisher.receipt(revision)))
+    }
+
+    /// Seats another reader, which has seen nothing and is told of all that is published. `NoReader` where all places
+    /// of the opening are taken; a reader that is dropped frees its place.
+    pub fn reader(&self) -> Result<Reader<N>, KvError>
+        ensures ok { IfOk result (λ reader. (reader.seen ≡ []) × (reader.told ≡ self.now.published)) }
+        ensures err { IfErr result IsUnread }
+    {
+        self.publisher.reader()
+    }
+
+    /// Ends the publisher. Readers read what is published on. It waits for the readers that are reading.
+    pub(crate) fn close<R: Wait>(self, rt: &R) {
+        let Keeper { bucket, publisher } = self;
+        publisher.close(rt, bucket.version());
+    }
+}

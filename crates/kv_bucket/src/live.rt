@@ -1,0 +1,270 @@
+//! A bucket that threads share: writers take one lock, readers none.
+
+ghost use Rattle.std.specs.Prelude.{◌≡◌, List, [], Ok, IfErr, IfOk, OnOk, All, length};
+ghost use Rattle.std.specs.Sync.Mutex.{mutex_guard_value};
+ghost use Rattle.kv_keys.specs.declared.error.KvError.TheVariants.{OutOfMemory, NoReader};
+ghost use Rattle.kv_keys.specs.Outcome.{Refuses};
+ghost use Rattle.kv_model.specs.Acceptance.{IsLawful};
+ghost use Rattle.kv_model.specs.Acts.{Act};
+ghost use Rattle.kv_model.specs.Requests.{asked};
+ghost use Rattle.kv_bucket.specs.Known.{IsUnread};
+ghost use Rattle.kv_bucket.specs.Histories.{IsPublishedHistory};
+ghost use Rattle.kv_bucket.specs.Keeping.{IsSomewhere, PublishesWrite, WritesSomewhere, RefusedSomewhere, CompactsSomewhere, UncompactedSomewhere, may_open};
+
+use crate::keeper::Keeper;
+use crate::publisher::Publisher;
+use crate::reader::Reader;
+use crate::receipt::Receipt;
+use kv_keys::KvError;
+use kv_model::{Config, Request};
+use kv_publish::{Bell, Blank, LiveName};
+use kv_single::Bucket;
+use std::alloc::Global;
+use std::marker::{Brand, Model};
+use std::sync::{Mutex, MutexGuard, Wait};
+
+/// The most readers of one opening.
+const MOST_READERS: usize = 32;
+
+/// An opening that has no name yet. Contracts see which history and which configuration it is of, and for how many
+/// readers.
+pub struct Opened {
+    alloc: Global,
+    bucket: Bucket,
+    blank: Blank,
+    readers: usize,
+}
+
+impl Drop for Opened {
+    fn drop(self) {
+        let Self {
+            alloc: _,
+            bucket: _,
+            blank: _,
+            readers: _,
+        } = self;
+    }
+}
+
+impl Model for Opened {
+    ghost use Rattle.std.specs.Prelude.{◌<◌, ◌≤◌};
+    ghost use Rattle.kv_single.specs.Held.{Represents};
+    ghost use Rattle.kv_bucket.specs.Keeping.{Unnamed};
+    ghost use Rattle.kv_model.specs.State.{empty};
+
+    ghost Value = { Unnamed };
+
+    ghost view = { λ o. record {
+      opening = record { book = o.blank.sight.book; config = o.bucket.version.config };
+      readers = o.readers;
+    } };
+
+    ghost invariant = { λ o. Represents (empty o.bucket.version.config) o.bucket × (0 < o.readers) × (o.readers ≤ 32) };
+}
+
+/// The bucket of the opening N. Threads share it by reference. It is not `Drop`: end it by `close`.
+pub struct Live<N: LiveName> {
+    keeper: Mutex<Keeper<N>>,
+    /// It tells the readers that sleep.
+    bell: Bell<N>,
+}
+
+impl Live<Brand> {
+    /// Opens an empty bucket for 1 to 32 readers. The name is checked before the numbers, and these before the number
+    /// of readers.
+    pub fn open(alloc: Global, config: &Config, readers: usize) -> Result<Opened, KvError>
+        ensures ok { IfOk result
+            (λ opened. (may_open config.now readers ≡ Ok config.now) × (opened.opening.config ≡ config.now)
+            × (opened.readers ≡ readers)) }
+        ensures refused { IfErr result (λ e. Refuses e (may_open config.now readers)) }
+    {
+        config.check()?;
+        if readers == 0 || readers > MOST_READERS {
+            return Err(KvError::NoReader);
+        }
+        let bucket = Bucket::open(alloc, config)?;
+        let Some(blank) = Blank::new() else {
+            return Err(KvError::OutOfMemory);
+        };
+        Ok(Opened {
+            alloc,
+            bucket,
+            blank,
+            readers,
+        })
+    }
+}
+
+fn readers_and_bell<N: LiveName>(
+    publisher: &Publisher<N>,
+    readers: usize,
+) -> Result<(Vec<Reader<N>>, Bell<N>), KvError>
+    ensures ok { IfOk result
+        (λ r. (length r.0.items ≡ readers)
+        × All (λ reader. (reader.seen ≡ []) × (reader.told ≡ publisher.now)) r.0.items) }
+    ensures err { IfErr result IsUnread }
+{
+    let readers = publisher.readers(readers)?;
+    Ok((readers, publisher.bell()?))
+}
+
+// What this lies under the lock of, and its readers. Where they are refused it has ended.
+fn live_of<N: LiveName, R: Wait>(
+    rt: &R,
+    keeper: Keeper<N>,
+    readers: usize,
+) -> Result<(Live<N>, Vec<Reader<N>>), KvError>
+    ensures ok { IfOk result
+        (λ r. (length r.1.items ≡ readers)
+        × All (λ reader. (reader.seen ≡ []) × (reader.told ≡ keeper.published)) r.1.items) }
+    ensures err { IfErr result IsUnread }
+{
+    match readers_and_bell(&keeper.publisher, readers) {
+        Ok((readers, bell)) => {
+            let live = Live {
+                keeper: Mutex::new(keeper),
+                bell,
+            };
+            Ok((live, readers))
+        }
+        Err(refusal) => {
+            keeper.close(rt);
+            Err(refusal)
+        }
+    }
+}
+
+impl Opened {
+    /// The bucket under a name, and its readers, which have seen nothing. Where it is refused the opening ends.
+    pub fn live<N: LiveName, R: Wait>(self, rt: &R) -> Result<(Live<N>, Vec<Reader<N>>), KvError>
+        requires { self.opening ≡ N.opening }
+        ensures ok { IfOk result
+            (λ r. (length r.1.items ≡ self.readers)
+            × All (λ reader. (reader.seen ≡ []) × (reader.told ≡ [])) r.1.items) }
+        ensures err { IfErr result IsUnread }
+    {
+        let Opened {
+            alloc,
+            bucket,
+            blank,
+            readers,
+        } = self;
+        let publisher: Publisher<N> = Publisher::new(rt, alloc, blank, bucket.version(), readers)?;
+        live_of(rt, Keeper { bucket, publisher }, readers)
+    }
+}
+
+// Writes. What is answered is what the rules give after the acts that were published before, which are lawful.
+fn write_on<N: LiveName, R: Wait>(
+    rt: &R,
+    keeper: &mut Keeper<N>,
+    request: &Request,
+) -> Result<u64, KvError>
+    ensures ok { IfOk result
+        (λ revision. (later : List Act) × WritesSomewhere N.opening.config (asked request.now) revision later) }
+    ensures published { IfOk result
+        (λ revision. PublishesWrite N.opening.config (asked request.now) revision keeper.old.published
+        keeper.new.published) }
+    ensures refused { IfErr result (λ e. RefusedSomewhere N.opening.config (asked request.now) e) }
+{
+    keeper.is_somewhere();
+    keeper.write(rt, request)
+}
+
+// Writes, and tells of it.
+fn write_and_tell<N: LiveName, R: Wait>(
+    rt: &R,
+    keeper: &mut Keeper<N>,
+    request: &Request,
+) -> Result<(u64, Receipt<N>), KvError>
+    ensures ok { IfOk result (λ r. PublishesWrite N.opening.config (asked request.now) r.0 keeper.old.published r.1) }
+    ensures lawful { IfOk result (λ r. IsLawful N.opening.config r.1) }
+    ensures refused { IfErr result (λ e. RefusedSomewhere N.opening.config (asked request.now) e) }
+{
+    keeper.is_somewhere();
+    let told = keeper.write_told(rt, request)?;
+    keeper.is_somewhere();
+    Ok(told)
+}
+
+// Compacts. What is answered is what the rules give at a state of the acts that were published before, which are
+// lawful.
+fn compact_on<N: LiveName, R: Wait>(
+    rt: &R,
+    keeper: &mut Keeper<N>,
+    floor: u64,
+) -> Result<(), KvError>
+    ensures ok { OnOk result (CompactsSomewhere N.opening.config floor) }
+    ensures refused { IfErr result (λ e. UncompactedSomewhere N.opening.config floor e) }
+{
+    keeper.is_somewhere();
+    keeper.compact(rt, floor)
+}
+
+impl<N: LiveName> Live<N> {
+    /// The keeper, for several calls in a row, at a state of the model, whose acts are those that are published: one
+    /// history, of which all that anybody has seen or was told is a beginning. It waits until the lock is free.
+    pub fn lock<R: Wait>(&self, rt: &R) -> MutexGuard<'_, Keeper<N>>
+        ensures state { IsSomewhere N.opening.config (mutex_guard_value result) }
+        ensures history { IsPublishedHistory N.opening.config (mutex_guard_value result).published }
+    {
+        let keeper = self.keeper.lock(rt);
+        keeper.is_somewhere();
+        keeper
+    }
+
+    /// Does what is asked, and answers the revision of the write, as `Keeper::write` does.
+    pub fn write<R: Wait>(&self, rt: &R, request: &Request) -> Result<u64, KvError>
+        ensures ok { IfOk result
+            (λ revision. (later : List Act) × WritesSomewhere N.opening.config (asked request.now) revision later) }
+        ensures refused { IfErr result (λ e. RefusedSomewhere N.opening.config (asked request.now) e) }
+    {
+        let mut keeper = self.keeper.lock(rt);
+        write_on(rt, &mut *keeper, request)
+    }
+
+    /// The same, with a receipt: readers that learn it see the write from then on. The receipt tells all acts up to the
+    /// write, which is its last.
+    pub fn write_told<R: Wait>(
+        &self,
+        rt: &R,
+        request: &Request,
+    ) -> Result<(u64, Receipt<N>), KvError>
+        ensures ok { IfOk result
+            (λ r. (before : List Act) × PublishesWrite N.opening.config (asked request.now) r.0 before r.1) }
+        ensures lawful { IfOk result (λ r. IsLawful N.opening.config r.1) }
+        ensures refused { IfErr result (λ e. RefusedSomewhere N.opening.config (asked request.now) e) }
+    {
+        let mut keeper = self.keeper.lock(rt);
+        write_and_tell(rt, &mut *keeper, request)
+    }
+
+    /// Ends writes, as `Keeper::seal` does.
+    pub fn seal<R: Wait>(&self, rt: &R) -> Result<(), KvError>
+        ensures err { IfErr result (λ e. e ≡ OutOfMemory) }
+    {
+        self.keeper.lock(rt).seal(rt)
+    }
+
+    /// Compacts to the floor, as `Keeper::compact` does.
+    pub fn compact<R: Wait>(&self, rt: &R, floor: u64) -> Result<(), KvError>
+        ensures ok { OnOk result (CompactsSomewhere N.opening.config floor) }
+        ensures refused { IfErr result (λ e. UncompactedSomewhere N.opening.config floor e) }
+    {
+        let mut keeper = self.keeper.lock(rt);
+        compact_on(rt, &mut *keeper, floor)
+    }
+
+    /// Tells those who wait, and those who will, that no write comes any more: their waits end once they have seen all
+    /// that was published. It takes no lock, and changes nothing else; a write that comes all the same is published.
+    pub fn finish(&self) {
+        self.bell.close();
+    }
+
+    /// Ends the bucket's writer. Readers and feeds go on, to the last version that was published. It waits for the
+    /// readers that are reading.
+    pub fn close<R: Wait>(self, rt: &R) {
+        let Live { keeper, bell: _ } = self;
+        keeper.into_inner().close(rt);
+    }
+}

@@ -1,0 +1,323 @@
+//! Readers, which take no lock and wait for nobody.
+
+ghost use Rattle.std.specs.Prelude.{◌≡◌, ◌⊎◌, ◌≤◌, IfOk, IfErr, IfSome, OnErr, OnOk, Some, MatchResult, [], true, false};
+ghost use Rattle.std.specs.Option.{option_map};
+ghost use Rattle.kv_keys.specs.declared.error.KvError.TheVariants.{OutOfMemory};
+ghost use Rattle.kv_model.specs.Acts.{IsPrefix, floor_of};
+ghost use Rattle.kv_store.specs.Standing.{StandsFor};
+ghost use Rattle.kv_bucket.specs.Known.{IsUnread};
+ghost use Rattle.kv_bucket.specs.inside.Fed.{TellsLag, TellsLagOf, IsNotShown};
+ghost use Rattle.kv_publish.specs.Shelves.{IsOf};
+
+use crate::cached::Cached;
+use crate::knowledge::Knowledge;
+use crate::receipt::{Mark, Receipt};
+use kv_keys::KvError;
+use kv_publish::{Bell, Front, Gets, LiveName, Published, Shelf, Side, Woken};
+use kv_store::Version;
+use kv_watch::Cursor;
+use left_right::reader::Reader as Seat;
+use std::alloc::Global;
+use std::marker::Model;
+use std::rt::Clock;
+use std::sync::Wait;
+use std::time::Duration;
+
+/// A reader of the opening N. It takes no lock. Contracts see it as the acts that it has seen, and those that it was
+/// told of.
+pub struct Reader<N: LiveName> {
+    alloc: Global,
+    bell: Bell<N>,
+    seat: Option<Seat<Side, (), Published<N>>>,
+    knowledge: Knowledge<N>,
+    empty: Shelf,
+}
+
+impl<N: LiveName> Drop for Reader<N> {
+    fn drop(self) {
+        let Self {
+            alloc: _,
+            bell: _,
+            seat: _,
+            knowledge: _,
+            empty: _,
+        } = self;
+    }
+}
+
+impl<N: LiveName> Model for Reader<N> {
+    ghost use Rattle.std.specs.Prelude.{◌≡◌, [], IsSome};
+    ghost use Rattle.kv_bucket.specs.Known.{Known};
+    ghost use Rattle.kv_publish.specs.Shelves.{IsOf};
+
+    ghost Value = { Known };
+
+    ghost view = { λ r. r.knowledge };
+
+    ghost invariant = { λ r. IsSome r.seat × IsOf N.opening r.empty × (r.empty.glimpse.acts ≡ []) };
+}
+
+impl<N: LiveName> Reader<N> {
+    pub(crate) fn new(
+        alloc: Global,
+        bell: Bell<N>,
+        seat: Seat<Side, (), Published<N>>,
+        told: Front<N>,
+        empty: Shelf,
+    ) -> Reader<N>
+        requires { IsOf N.opening empty × (empty.glimpse.acts ≡ []) }
+        ensures { (result.seen ≡ []) × (result.told ≡ told) }
+    {
+        Reader {
+            alloc,
+            bell,
+            seat: Some(seat),
+            knowledge: Knowledge::new(&empty, told),
+            empty,
+        }
+    }
+
+    /// The version that is published; once the bucket was closed, the last one. It costs an entry, a snapshot and a
+    /// leave. `NoReader` where the store lets no reader enter and no last version was left, as far as clauses go; the
+    /// code never comes to that.
+    pub fn version(&mut self) -> Result<Version, KvError>
+        ensures later { IsPrefix self.old.seen self.new.seen }
+        ensures told { self.new.told ≡ self.old.told }
+        ensures ok { IfOk result
+            (λ v. StandsFor self.new.seen v × (v.config ≡ N.opening.config) × IsPrefix self.old.told self.new.seen) }
+        ensures err { IfErr result IsUnread }
+    {
+        let shelf = self.shelf()?;
+        Ok(shelf.into_version())
+    }
+
+    /// The version that is published, to be kept for many reads and refreshed between them. It costs what `version`
+    /// costs.
+    pub fn cached(&mut self) -> Result<Cached<N>, KvError>
+        ensures later { IsPrefix self.old.seen self.new.seen }
+        ensures told { self.new.told ≡ self.old.told }
+        ensures ok { IfOk result (λ c. (c ≡ self.new.seen) × IsPrefix self.old.told self.new.seen) }
+        ensures err { IfErr result IsUnread }
+    {
+        let shelf = self.shelf()?;
+        Ok(Cached::new(shelf))
+    }
+
+    /// Has what was cached go on to the version that is published; once the bucket was closed, to the last one. Where
+    /// it is that already it costs a look at one word, and nothing is written that another thread reads; else it costs
+    /// what `version` costs, and the version that it leaves is let go. Where it is refused it stays as it was.
+    pub fn refresh(&mut self, cached: &mut Cached<N>) -> Result<(), KvError>
+        ensures later { IsPrefix self.old.seen self.new.seen }
+        ensures told { self.new.told ≡ self.old.told }
+        ensures ok { OnOk result ((cached.new ≡ self.new.seen) × IsPrefix self.old.told self.new.seen) }
+        ensures unchanged { OnErr result (cached.new ≡ cached.old) }
+        ensures err { IfErr result IsUnread }
+    {
+        if cached.is_all_of(&self.knowledge) && !self.bell.has_more(self.knowledge.taken_in()) {
+            return Ok(());
+        }
+        self.go_on(cached)?;
+        Ok(())
+    }
+
+    // Enters, has what was cached go on to what is there, and answers what that left: who lets it go does so outside,
+    // where no publish waits for it.
+    fn go_on(&mut self, cached: &mut Cached<N>) -> Result<Option<Shelf>, KvError>
+        ensures later { IsPrefix self.old.seen self.new.seen }
+        ensures told { self.new.told ≡ self.old.told }
+        ensures ok { OnOk result ((cached.new ≡ self.new.seen) × IsPrefix self.old.told self.new.seen) }
+        ensures left { IfOk result (λ left. IfSome left (λ shelf. shelf.glimpse.acts ≡ cached.old)) }
+        ensures unchanged { OnErr result (cached.new ≡ cached.old) }
+        ensures err { IfErr result IsUnread }
+    {
+        let Some(seat) = self.seat.take() else {
+            unreachable!()
+        };
+        match seat.enter_as::<Gets<N>>() {
+            Ok(reading) => {
+                let done = cached.go_on(&mut self.knowledge, reading.get().shelf());
+                self.seat = Some(reading.leave());
+                done
+            }
+            Err(seat) => {
+                self.seat = Some(seat);
+                match self.bell.last() {
+                    Some(last) => cached.go_on(&mut self.knowledge, last.shelf()),
+                    None => Err(KvError::NoReader),
+                }
+            }
+        }
+    }
+
+    /// Sleeps until something is published that it has not taken in, or the bucket is closed. It takes no lock.
+    pub fn wait<R: Wait>(&self, rt: &R) -> Woken {
+        self.bell.wait(rt, self.knowledge.taken_in())
+    }
+
+    /// The same, for no longer than the limit. It is `None` where the time was over first, or the clock couldn't be
+    /// read.
+    pub fn wait_timeout<R: Wait + Clock>(&self, rt: &R, limit: Duration) -> Option<Woken> {
+        self.bell.wait_timeout(rt, self.knowledge.taken_in(), limit)
+    }
+
+    /// A published version with at least this revision. Where there is none yet it waits; it is `None` where the bucket
+    /// was closed before there was one.
+    pub fn wait_for<R: Wait>(&mut self, rt: &R, revision: u64) -> Result<Option<Version>, KvError>
+        ensures later { IsPrefix self.old.seen self.new.seen }
+        ensures told { self.new.told ≡ self.old.told }
+        ensures ok { IfOk result
+            (λ found. IfSome found
+            (λ v. StandsFor self.new.seen v × (v.config ≡ N.opening.config) × (revision ≤ v.last))) }
+        ensures learned { IfOk result (λ _. IsPrefix self.old.told self.new.seen) }
+        ensures err { IfErr result IsUnread }
+    {
+        for _ in rt.forever() {
+            if let Some(version) = self.version_from(revision)? {
+                return Ok(Some(version));
+            }
+            if self.wait(rt) == Woken::Closed {
+                return Ok(None);
+            }
+        }
+        unreachable!()
+    }
+
+    // The version that is published, if it has at least this revision.
+    fn version_from(&mut self, revision: u64) -> Result<Option<Version>, KvError>
+        ensures later { IsPrefix self.old.seen self.new.seen }
+        ensures told { self.new.told ≡ self.old.told }
+        ensures ok { IfOk result
+            (λ found. IfSome found
+            (λ v. StandsFor self.new.seen v × (v.config ≡ N.opening.config) × (revision ≤ v.last))) }
+        ensures learned { IfOk result (λ _. IsPrefix self.old.told self.new.seen) }
+        ensures err { IfErr result IsUnread }
+    {
+        let version = self.version()?;
+        if version.revision() >= revision {
+            Ok(Some(version))
+        } else {
+            Ok(None)
+        }
+    }
+
+    /// What is published.
+    pub(crate) fn shelf(&mut self) -> Result<Shelf, KvError>
+        ensures later { IsPrefix self.old.seen self.new.seen }
+        ensures told { self.new.told ≡ self.old.told }
+        ensures ok { IfOk result
+            (λ s. (s.glimpse.acts ≡ self.new.seen) × IsOf N.opening s × IsPrefix self.old.told self.new.seen) }
+        ensures stands { IfOk result (λ s. StandsFor self.new.seen s.version) }
+        ensures err { IfErr result IsUnread }
+    {
+        self.look(None)
+    }
+
+    /// What is published, for a feed that is on this shelf with this cursor, unless it lags behind that.
+    pub(crate) fn shelf_ahead(&mut self, current: &Shelf, cursor: &Cursor) -> Result<Shelf, KvError>
+        ensures later { IsPrefix self.old.seen self.new.seen }
+        ensures told { self.new.told ≡ self.old.told }
+        ensures ok { IfOk result
+            (λ s. (s.glimpse.acts ≡ self.new.seen) × IsOf N.opening s × IsPrefix self.old.told self.new.seen) }
+        ensures stands { IfOk result (λ s. StandsFor self.new.seen s.version) }
+        ensures ahead { IfOk result (λ _. TellsLag current.now cursor.now (floor_of self.new.seen) false) }
+        ensures err { IfErr result (IsNotShown (Some (current.now, cursor.now)) self.new.seen) }
+    {
+        self.look(Some((current, cursor)))
+    }
+
+    // What is published, or what was published last where the store lets nobody enter any more, unless this follower
+    // lags behind it.
+    fn look(&mut self, follower: Option<(&Shelf, &Cursor)>) -> Result<Shelf, KvError>
+        ensures later { IsPrefix self.old.seen self.new.seen }
+        ensures told { self.new.told ≡ self.old.told }
+        ensures ok { IfOk result
+            (λ s. (s.glimpse.acts ≡ self.new.seen) × IsOf N.opening s × IsPrefix self.old.told self.new.seen) }
+        ensures stands { IfOk result (λ s. StandsFor self.new.seen s.version) }
+        ensures ahead { IfOk result
+            (λ _. TellsLagOf (option_map (λ f. (f.0.now, f.1.now)) follower.entry) (floor_of self.new.seen) false) }
+        ensures err { IfErr result
+            (IsNotShown (option_map (λ f. (f.0.now, f.1.now)) follower.entry) self.new.seen) }
+    {
+        let Some(seat) = self.seat.take() else {
+            unreachable!()
+        };
+        match seat.enter_as::<Gets<N>>() {
+            Ok(reading) => {
+                let shelf = self.knowledge.take_in(follower, reading.get().shelf());
+                self.seat = Some(reading.leave());
+                shelf
+            }
+            Err(seat) => {
+                self.seat = Some(seat);
+                match self.bell.last() {
+                    Some(last) => self.knowledge.take_in(follower, last.shelf()),
+                    None => Err(KvError::NoReader),
+                }
+            }
+        }
+    }
+
+    pub(crate) fn seen(&self) -> &Front<N>
+        ensures { result.now ≡ self.now.seen }
+    {
+        self.knowledge.seen()
+    }
+
+    pub(crate) fn told(&self) -> &Front<N>
+        ensures { result.now ≡ self.now.told }
+    {
+        self.knowledge.told()
+    }
+
+    pub(crate) fn bell(&self) -> &Bell<N> {
+        &self.bell
+    }
+
+    pub(crate) fn alloc(&self) -> Global {
+        self.alloc
+    }
+
+    /// The empty version, as a shelf.
+    pub(crate) fn empty_shelf(&self) -> Result<Shelf, KvError>
+        ensures { MatchResult result (λ s. IsOf N.opening s × (s.glimpse.acts ≡ [])) (λ e. e ≡ OutOfMemory) }
+    {
+        self.empty.again()
+    }
+
+    /// Takes in a receipt. Each version from now on stands for acts that begin with those that the receipt tells.
+    pub fn learn(&mut self, receipt: &Receipt<N>)
+        ensures seen { self.new.seen ≡ self.old.seen }
+        ensures told { IsPrefix self.old.told self.new.told }
+        ensures learned { IsPrefix receipt.now self.new.told }
+        ensures one_list { (self.new.told ≡ self.old.told) ⊎ (self.new.told ≡ receipt.now) }
+    {
+        self.knowledge.learn(receipt.mark());
+    }
+
+    /// Takes in a mark, as a receipt.
+    pub fn learn_mark(&mut self, mark: &Mark<N>)
+        ensures seen { self.new.seen ≡ self.old.seen }
+        ensures told { IsPrefix self.old.told self.new.told }
+        ensures learned { IsPrefix mark.now self.new.told }
+        ensures one_list { (self.new.told ≡ self.old.told) ⊎ (self.new.told ≡ mark.now) }
+    {
+        self.knowledge.learn(mark);
+    }
+
+    /// Whether it has seen all that the other reader has. What the readers of one opening have seen are beginnings of
+    /// one list: where it has not seen all of that, the other has seen all that it has.
+    pub fn has_seen_all_of(&self, other: &Reader<N>) -> bool
+        ensures yes { result ≡ true → IsPrefix other.now.seen self.now.seen }
+        ensures no { result ≡ false → IsPrefix self.now.seen other.now.seen }
+    {
+        self.knowledge.has_seen_all_of(&other.knowledge)
+    }
+
+    /// Whether it has seen what the receipt tells. Where it has not, what it has seen is a beginning of that.
+    pub fn has_seen(&self, receipt: &Receipt<N>) -> bool
+        ensures yes { result ≡ true → IsPrefix receipt.now self.now.seen }
+        ensures no { result ≡ false → IsPrefix self.now.seen receipt.now }
+    {
+        self.knowledge.has_seen(receipt.mark())
+    }
+}

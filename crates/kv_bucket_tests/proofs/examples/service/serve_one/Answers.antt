@@ -1,0 +1,15 @@
+use denote.Param.{param}
+use denote.Param.Send.{sendable}
+use Rattle.std.proofs.Crossing.{crosses}
+use Rattle.kv_keys.proofs.error.KvError.TheSendSync as error
+use Rattle.kv_bucket.proofs.Sent.{feed_send}
+use Rattle.kv_bucket_tests.proofs.examples.service.serve_one.Goals as goal
+
+pub join-followed-requires-send-F : goal.join-followed-requires-send-F
+join-followed-requires-send-F g c κs within =
+    let feed = feed_send (param 0 g.row.N) g.N.LiveName c.type_bounds.send-N c.type_bounds.sync-N in
+    let rt = c.type_bounds.sync-R in
+    search (sendable, crosses) depth 20
+
+pub join-followed-requires-send-A : goal.join-followed-requires-send-A
+join-followed-requires-send-A g c κs within = search (sendable, crosses, error.the_send) depth 30

@@ -1,0 +1,11 @@
+use denote.Param.{param}
+use denote.Param.Send.{sendable}
+use Rattle.std.proofs.Crossing.{crosses}
+use Rattle.kv_bucket.proofs.Sent.{live_sync}
+use Rattle.kv_bucket_tests.proofs.threads.told.told_write.Goals as goal
+
+pub join-receipt-requires-send-F : goal.join-receipt-requires-send-F
+join-receipt-requires-send-F g c κs within =
+    let live = live_sync (param 0 g.row.N) g.N.LiveName c.type_bounds.send-N c.type_bounds.sync-N in
+    let rt = c.type_bounds.sync-R in
+    search (sendable, crosses) depth 20

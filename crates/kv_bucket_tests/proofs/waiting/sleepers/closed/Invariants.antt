@@ -1,0 +1,5 @@
+use Rattle.kv_bucket_tests.proofs.waiting.sleepers.closed.Given as goal
+
+-- the opening that was just made
+abbrev pub ghosts-close_beside : goal.ghosts-close_beside
+ghosts-close_beside g a = record { opening = a.opened.opening }

@@ -1,0 +1,111 @@
+//! Many clients of one reader: each has a cursor of its own, and all of them are served from the versions that the
+//! reader shows.
+
+ghost use Rattle.std.specs.Prelude.{◌≡◌};
+
+use super::*;
+use kv_bucket::{
+    Config, Filters, Key, KvError, Live, LiveName, Opened, Options, Reader, Request, Start, Taken,
+    Version,
+};
+use kv_watch::Cursor;
+use std::marker::Brand;
+use std::sync::Wait;
+
+const UPDATES: Options = Options {
+    start: Start::Updates,
+    ignore_deletes: false,
+    headers_only: false,
+};
+
+// A client: where it is in what it is given. It begins with updates, so that it needs no version of its own.
+#[derive(Drop)]
+struct Client {
+    cursor: Cursor,
+}
+
+fn come(alloc: Global, now: &Version, filters: &Filters) -> Result<Client, KvError> {
+    let cursor = Cursor::open(alloc, now, filters, UPDATES)?;
+    Ok(Client { cursor })
+}
+
+// Hands a client what is next for it in this version, if anything is.
+fn serve<'a>(client: &'a mut Client, now: &'a Version) -> Taken<'a> {
+    client.cursor.take_settled(None, now)
+}
+
+fn all_come(alloc: Global, now: &Version, count: usize) -> Result<Vec<Client>, KvError> {
+    let filters = Filters::parse(alloc, "app.>")?;
+    let mut clients = Vec::new(alloc);
+    for _ in 0..count {
+        clients.push(come(alloc, now, &filters)?)?;
+    }
+    Ok(clients)
+}
+
+// How many clients are handed an entry next.
+fn serve_all(clients: &mut Vec<Client>, now: &Version) -> u64 {
+    let mut entries = 0_u64;
+    for n in 0..clients.len() {
+        if let Taken::Entry(_) = serve(&mut clients[n], now) {
+            entries = entries.saturating_add(1);
+        }
+    }
+    entries
+}
+
+fn put<N: LiveName, R: Wait>(rt: &R, alloc: Global, live: &Live<N>) -> Result<u64, KvError> {
+    let key = Key::parse(alloc, "app.port")?;
+    let value = Vec::from_slice(alloc, b"80")?;
+    live.write(rt, &Request::Put { key, value })
+}
+
+// What a hundred clients of one reader are handed by one write.
+fn one_write_for_all<N: LiveName, R: Wait>(
+    rt: &R,
+    alloc: Global,
+    live: &Live<N>,
+    reader: &mut Reader<N>,
+) -> Result<u64, KvError> {
+    let mut clients = all_come(alloc, &reader.version()?, 100)?;
+    put(rt, alloc, live)?;
+    let now = reader.version()?;
+    let markers = serve_all(&mut clients, &now);
+    Ok(markers.saturating_add(serve_all(&mut clients, &now)))
+}
+
+fn with_one_reader<N: LiveName, R: Wait>(
+    rt: &R,
+    alloc: Global,
+    live: &Live<N>,
+    mut readers: Vec<Reader<N>>,
+) -> Result<u64, KvError> {
+    match readers.pop() {
+        Some(mut reader) => one_write_for_all(rt, alloc, live, &mut reader),
+        None => Err(KvError::NoReader),
+    }
+}
+
+fn served<N: LiveName, R: Wait>(rt: &R, alloc: Global, opened: Opened) -> Result<u64, KvError>
+    requires { opened.opening ≡ N.opening }
+{
+    let (live, readers) = opened.live::<N, R>(rt)?;
+    let done = with_one_reader(rt, alloc, &live, readers);
+    live.close(rt);
+    done
+}
+
+fn hundred_clients<R: Wait>(rt: &R, alloc: Global) -> Result<u64, KvError> {
+    let opened = Live::open(alloc, &Config::named(alloc, "settings")?, 1)?;
+    served::<Brand, R>(rt, alloc, opened)
+}
+
+#[test]
+fn a_hundred_clients_of_one_reader(rt: HostRuntime) -> Result<(), Fail> {
+    let entries = match hundred_clients(&rt, rt.alloc()) {
+        Err(KvError::OutOfMemory) => hundred_clients(&rt, rt.alloc())?,
+        done => done?,
+    };
+    assert_eq!(rt; entries, 100);
+    Ok(())
+}

@@ -1,0 +1,168 @@
+//! What is done with a live bucket and through a guard of its lock, line by line. A call that is refused changes
+//! nothing there: neither its version, nor its watches, nor what each of them is given next.
+
+use super::*;
+use kv_bucket::{Keeper, Key, Request, Stopped};
+
+#[derive(Clone, Copy)]
+pub(super) enum Call {
+    Put(&'static str),
+    Seal,
+    Compact(u64),
+    // On a guard of its own.
+    Guarded(Step),
+}
+
+// What is done through a guard.
+#[derive(Clone, Copy)]
+pub(super) enum Step {
+    Put(&'static str),
+    Delete(&'static str),
+    Seal,
+    Watch,
+    Take(u64),
+    Stop(u64),
+    Compact(u64),
+}
+
+pub(super) fn put_request(alloc: Global, key: &str) -> Result<Request, KvError> {
+    let key = Key::parse(alloc, key)?;
+    let value = Vec::from_slice(alloc, b"1")?;
+    Ok(Request::Put { key, value })
+}
+
+fn delete_request(alloc: Global, key: &str) -> Result<Request, KvError> {
+    let key = Key::parse(alloc, key)?;
+    Ok(Request::Delete { key, last: None })
+}
+
+fn put<N: LiveName, R: Wait>(
+    rt: &R,
+    alloc: Global,
+    live: &Live<N>,
+    key: &str,
+) -> Result<u64, KvError> {
+    let request = put_request(alloc, key)?;
+    live.write(rt, &request)
+}
+
+fn keep<N: LiveName, R: Wait>(
+    rt: &R,
+    keeper: &mut Keeper<N>,
+    request: Result<Request, KvError>,
+) -> Result<u64, KvError> {
+    keeper.write(rt, &request?)
+}
+
+fn watch<N: LiveName>(alloc: Global, keeper: &mut Keeper<N>) -> Result<u64, KvError> {
+    let filters = Filters::parse(alloc, ">")?;
+    keeper.watch(&filters, LATEST)
+}
+
+fn brief_stopped(stopped: Result<Stopped, KvError>) -> Answer {
+    match stopped {
+        Ok(stopped) => Answer::Stopped(stopped.handed),
+        Err(error) => Answer::Refused(error),
+    }
+}
+
+// Takes the item that is next.
+fn take<N: LiveName, R: Abort>(rt: &R, keeper: &mut Keeper<N>, number: u64) -> Answer {
+    let next = brief_taken(keeper.peek(number));
+    let taken = brief_taken(keeper.take(number));
+    equal(rt, taken, next);
+    taken
+}
+
+fn step_once<N: LiveName, R: Wait + Abort>(
+    rt: &R,
+    alloc: Global,
+    keeper: &mut Keeper<N>,
+    step: Step,
+) -> Answer {
+    match step {
+        Step::Put(key) => number(keep(rt, keeper, put_request(alloc, key))),
+        Step::Delete(key) => number(keep(rt, keeper, delete_request(alloc, key))),
+        Step::Seal => done(keeper.seal(rt)),
+        Step::Watch => number(watch(alloc, keeper)),
+        Step::Take(number) => take(rt, keeper, number),
+        Step::Stop(number) => brief_stopped(keeper.stop(number)),
+        Step::Compact(floor) => done(keeper.compact(rt, floor)),
+    }
+}
+
+fn call_once<N: LiveName, R: Wait + Abort>(
+    rt: &R,
+    alloc: Global,
+    live: &Live<N>,
+    call: Call,
+) -> Answer {
+    match call {
+        Call::Put(key) => number(put(rt, alloc, live, key)),
+        Call::Seal => done(live.seal(rt)),
+        Call::Compact(floor) => done(live.compact(rt, floor)),
+        Call::Guarded(step) => guarded_once(rt, alloc, live, step),
+    }
+}
+
+fn guarded_once<N: LiveName, R: Wait + Abort>(
+    rt: &R,
+    alloc: Global,
+    live: &Live<N>,
+    step: Step,
+) -> Answer {
+    let mut keeper = live.lock(rt);
+    step_once(rt, alloc, &mut *keeper, step)
+}
+
+// Each line on one guard.
+pub(super) fn steps<N: LiveName, R: Wait + Abort>(
+    rt: &R,
+    alloc: Global,
+    keeper: &mut Keeper<N>,
+    lines: &[(Step, Answer)],
+) {
+    for (step, answer) in lines {
+        equal(rt, step_made(rt, alloc, keeper, *step), *answer);
+    }
+}
+
+fn step_made<N: LiveName, R: Wait + Abort>(
+    rt: &R,
+    alloc: Global,
+    keeper: &mut Keeper<N>,
+    step: Step,
+) -> Answer {
+    made(
+        rt,
+        keeper,
+        |keeper| look_through(keeper),
+        |keeper| step_once(rt, alloc, keeper, step),
+    )
+}
+
+pub(super) fn calls<N: LiveName, R: Wait + Abort>(
+    rt: &R,
+    alloc: Global,
+    live: &Live<N>,
+    lines: &[(Call, Answer)],
+) {
+    for (call, answer) in lines {
+        equal(rt, call_made(rt, alloc, live, *call), *answer);
+    }
+}
+
+fn call_made<N: LiveName, R: Wait + Abort>(
+    rt: &R,
+    alloc: Global,
+    live: &Live<N>,
+    call: Call,
+) -> Answer {
+    let mut live = live;
+    made(
+        rt,
+        &mut live,
+        |live| look(rt, *live),
+        |live| call_once(rt, alloc, *live, call),
+    )
+}

@@ -1,0 +1,91 @@
+//! What tests of followers have in common: a write, a reader, a watch of its own, and its items to the end.
+
+use kv_bucket::{
+    Feed, Filters, Key, KvError, Live, LiveName, Options, Reader, Request, Start, Taken,
+};
+use std::alloc::Global;
+use std::sync::Wait;
+use std::sync::atomic::{AtomicU64, Ordering};
+
+const LATEST: Options = Options {
+    start: Start::Latest,
+    ignore_deletes: false,
+    headers_only: false,
+};
+
+pub fn put<N: LiveName, R: Wait>(rt: &R, alloc: Global, live: &Live<N>) -> Result<u64, KvError> {
+    let key = Key::parse(alloc, "app.port")?;
+    let value = Vec::from_slice(alloc, b"80")?;
+    live.write(rt, &Request::Put { key, value })
+}
+
+// A reader at a place that is free.
+pub fn seat<N: LiveName, R: Wait>(rt: &R, live: &Live<N>) -> Result<Reader<N>, KvError> {
+    live.lock(rt).reader()
+}
+
+// Where a feed begins.
+#[derive(Clone, Copy)]
+pub enum From {
+    EmptyBucket,
+    ItsReader,
+}
+
+pub fn watch<N: LiveName>(
+    reader: Reader<N>,
+    filters: &Filters,
+    from: From,
+) -> Result<Feed<N>, KvError> {
+    let opened = match from {
+        From::EmptyBucket => reader.watch_from_empty(filters, LATEST),
+        From::ItsReader => reader.watch(filters, LATEST),
+    };
+    match opened {
+        Ok(feed) => Ok(feed),
+        Err((_, refusal)) => Err(refusal),
+    }
+}
+
+// A feed of a reader of its own, which has yet to look at any write.
+pub fn watch_all<N: LiveName, R: Wait>(
+    rt: &R,
+    alloc: Global,
+    live: &Live<N>,
+) -> Result<Feed<N>, KvError> {
+    let filters = Filters::parse(alloc, "app.>")?;
+    watch(seat(rt, live)?, &filters, From::EmptyBucket)
+}
+
+// Whether an item comes after all that came before it. The revisions of entries rise one by one.
+fn is_next(item: Taken<'_>, last: &mut u64) -> bool {
+    match item {
+        Taken::Entry(shown) => {
+            *last = last.saturating_add(1);
+            shown.revision() == *last
+        }
+        _ => true,
+    }
+}
+
+// How many items it was handed, or 0 where one was left out or out of order. Each is counted, and who waits for that
+// is woken.
+pub fn follow_to_the_end<N: LiveName, R: Wait>(
+    rt: &R,
+    feed: &mut Feed<N>,
+    handed: &AtomicU64,
+) -> Result<u64, KvError> {
+    let mut last = 0;
+    for _ in rt.forever() {
+        match feed.next(rt)? {
+            Taken::Empty => return Ok(feed.handed()),
+            item => {
+                if !is_next(item, &mut last) {
+                    return Ok(0);
+                }
+            }
+        }
+        handed.fetch_add(1, Ordering::SeqCst);
+        handed.wake_all();
+    }
+    Ok(0)
+}

@@ -1,0 +1,216 @@
+//! Four followers in `next` beside two writers. The threads wait for one another, so no request for memory is refused to
+//! them.
+
+use crate::equal::equal;
+use crate::waiting::following::{follow_to_the_end, put, watch_all};
+use crate::waiting::opening::{Row, run};
+use crate::waiting::sleepers::pause;
+use kv_bucket::{KvError, Live, LiveName};
+use std::alloc::Global;
+use std::process::Abort;
+use std::rt::Clock;
+use std::sync::Wait;
+use std::sync::atomic::{AtomicU64, Ordering};
+use std::test::Fail;
+use std::thread;
+use std::thread::{Threads, join};
+use std::time::{CpuClock, Duration};
+
+// What a writer does.
+#[derive(Clone, Copy)]
+pub enum Plan {
+    // So many writes, with a pause after each thousandth.
+    Pauses(u64),
+    // So many writes, each once all four were handed the one before.
+    Rounds(u64),
+    // A write, and a second without one.
+    Idle,
+}
+
+fn write<N: LiveName, R: Wait + Clock + CpuClock + Abort>(
+    rt: &R,
+    alloc: Global,
+    live: &Live<N>,
+    handed: &AtomicU64,
+    plan: Plan,
+) -> Result<(), KvError> {
+    match plan {
+        Plan::Pauses(count) => write_with_pauses(rt, alloc, live, count),
+        Plan::Rounds(count) => write_in_rounds(rt, alloc, live, handed, count),
+        Plan::Idle => write_once(rt, alloc, live),
+    }
+}
+
+fn write_with_pauses<N: LiveName, R: Wait + Clock>(
+    rt: &R,
+    alloc: Global,
+    live: &Live<N>,
+    count: u64,
+) -> Result<(), KvError> {
+    for n in 0..count {
+        put(rt, alloc, live)?;
+        if n % 1000 == 0 {
+            thread::sleep(rt, Duration::from_millis(1));
+        }
+    }
+    Ok(())
+}
+
+fn write_in_rounds<N: LiveName, R: Wait>(
+    rt: &R,
+    alloc: Global,
+    live: &Live<N>,
+    handed: &AtomicU64,
+    count: u64,
+) -> Result<(), KvError> {
+    for _ in 0..count {
+        let revision = put(rt, alloc, live)?;
+        // the marker, and the writes
+        let items = revision.saturating_add(1);
+        wait_for(rt, handed, items.saturating_mul(4));
+    }
+    Ok(())
+}
+
+fn wait_for<R: Wait>(rt: &R, handed: &AtomicU64, items: u64) {
+    for _ in rt.forever() {
+        let seen = handed.load(Ordering::SeqCst);
+        if seen >= items {
+            return;
+        }
+        handed.park(rt, (seen & 0xffff_ffff) as u32);
+    }
+}
+
+// The processor spends less than ten milliseconds over a second in which all four sleep.
+fn write_once<N: LiveName, R: Wait + Clock + CpuClock + Abort>(
+    rt: &R,
+    alloc: Global,
+    live: &Live<N>,
+) -> Result<(), KvError> {
+    put(rt, alloc, live)?;
+    thread::sleep(rt, Duration::from_millis(100));
+    let before = rt.process_cpu_time().unwrap_or(Duration::ZERO);
+    thread::sleep(rt, Duration::from_millis(1000));
+    let after = rt.process_cpu_time().unwrap_or(Duration::MAX);
+    assert!(rt; after.saturating_sub(before) < Duration::from_millis(10));
+    Ok(())
+}
+
+// The last of both writers ends the waits, behind a seal, which wakes the followers and gives them nothing.
+fn write_to_the_end<N: LiveName, R: Wait + Clock + CpuClock + Abort>(
+    rt: &R,
+    alloc: Global,
+    live: &Live<N>,
+    (handed, ended): (&AtomicU64, &AtomicU64),
+    plan: Plan,
+) -> Result<(), KvError> {
+    let written = write(rt, alloc, live, handed, plan);
+    if ended.fetch_add(1, Ordering::SeqCst) == 0 {
+        return written;
+    }
+    let sealed = live.seal(rt);
+    pause(rt);
+    live.finish();
+    written?;
+    sealed
+}
+
+fn follow<N: LiveName, R: Wait + Abort>(
+    rt: &R,
+    alloc: Global,
+    live: &Live<N>,
+    handed: &AtomicU64,
+    all: u64,
+) -> Result<(), KvError> {
+    let mut feed = watch_all(rt, alloc, live)?;
+    equal(rt, follow_to_the_end(rt, &mut feed, handed)?, all);
+    Ok(())
+}
+
+fn write_beside_one<N: LiveName + Send + Sync, R: Threads + Wait + Clock + CpuClock + Abort + Sync>(
+    rt: &R,
+    alloc: Global,
+    live: &Live<N>,
+    handed: &AtomicU64,
+    ended: &AtomicU64,
+    plan: Plan,
+    all: u64,
+) -> Result<(), KvError> {
+    let (followed, written) = join(
+        rt,
+        || follow(rt, alloc, live, handed, all),
+        || write_to_the_end(rt, alloc, live, (handed, ended), plan),
+    );
+    followed?;
+    written
+}
+
+fn write_beside_two<N: LiveName + Send + Sync, R: Threads + Wait + Clock + CpuClock + Abort + Sync>(
+    rt: &R,
+    alloc: Global,
+    live: &Live<N>,
+    handed: &AtomicU64,
+    ended: &AtomicU64,
+    plan: Plan,
+    all: u64,
+) -> Result<(), KvError> {
+    let (followed, written) = join(
+        rt,
+        || follow(rt, alloc, live, handed, all),
+        || write_beside_one(rt, alloc, live, handed, ended, plan, all),
+    );
+    followed?;
+    written
+}
+
+// Each follower is handed all, and each writer has two of them beside it.
+pub fn follow_four<N: LiveName + Send + Sync, R: Threads + Wait + Clock + CpuClock + Abort + Sync>(
+    rt: &R,
+    alloc: Global,
+    live: &Live<N>,
+    (plan, others): (Plan, u64),
+    all: u64,
+) -> Result<(), KvError> {
+    let handed = AtomicU64::new(0);
+    let ended = AtomicU64::new(0);
+    follow_beside(rt, alloc, live, &handed, &ended, (plan, others), all)
+}
+
+fn follow_beside<N: LiveName + Send + Sync, R: Threads + Wait + Clock + CpuClock + Abort + Sync>(
+    rt: &R,
+    alloc: Global,
+    live: &Live<N>,
+    handed: &AtomicU64,
+    ended: &AtomicU64,
+    (plan, others): (Plan, u64),
+    all: u64,
+) -> Result<(), KvError> {
+    let (followed, beside) = join(
+        rt,
+        || write_beside_two(rt, alloc, live, handed, ended, Plan::Pauses(others), all),
+        || write_beside_two(rt, alloc, live, handed, ended, plan, all),
+    );
+    followed?;
+    beside
+}
+
+#[test]
+fn four_followers_and_two_writers(rt: HostRuntime) -> Result<(), Fail> {
+    let row = Row::Followers(Plan::Pauses(50_000), 50_000, 100_001);
+    run(&rt, rt.alloc(), row)?;
+    Ok(())
+}
+
+#[test]
+fn no_wake_up_is_lost(rt: HostRuntime) -> Result<(), Fail> {
+    let row = Row::Followers(Plan::Rounds(10_000), 0, 10_001);
+    run(&rt, rt.alloc(), row)?;
+    Ok(())
+}
+
+#[test]
+fn a_sleeper_takes_no_processor_time(rt: HostRuntime) -> Result<(), Fail> {
+    run(&rt, rt.alloc(), Row::Followers(Plan::Idle, 0, 2))?;
+    Ok(())
+}

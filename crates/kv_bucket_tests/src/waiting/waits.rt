@@ -1,0 +1,258 @@
+//! Tests of waits: what ends them, and what they answer.
+
+use crate::equal::equal;
+use crate::waiting::following::{From, put, seat, watch};
+use crate::waiting::opening::{Row, run};
+use kv_bucket::{Feed, Filters, KvError, Live, LiveName, Reader, Version, Woken};
+use std::alloc::Global;
+use std::process::Abort;
+use std::rt::Clock;
+use std::sync::Wait;
+use std::test::Fail;
+use std::time::Duration;
+
+// What is done to the bucket.
+#[derive(Clone, Copy)]
+pub enum Act {
+    Put,
+    Seal,
+    Compact,
+    Finish,
+}
+
+pub fn make<N: LiveName, R: Wait>(
+    rt: &R,
+    alloc: Global,
+    live: &Live<N>,
+    act: Act,
+) -> Result<(), KvError> {
+    match act {
+        Act::Put => {
+            put(rt, alloc, live)?;
+            Ok(())
+        }
+        Act::Seal => live.seal(rt),
+        Act::Compact => live.compact(rt, 1),
+        Act::Finish => {
+            live.finish();
+            Ok(())
+        }
+    }
+}
+
+// What is done beside a reader, or by it.
+#[derive(Clone, Copy)]
+pub enum Step {
+    Do(Act),
+    // A look at what is published.
+    Look,
+    // A wait for a moment, and what it is told; None is the limit.
+    Moment(Option<Woken>),
+    // A wait without a limit.
+    Wait(Woken),
+    // A wait for a revision, and the revision of the version that was found.
+    For(u64, Option<u64>),
+}
+
+// Long enough for who doesn't wait, and short enough for a test.
+fn moment() -> Duration {
+    Duration::from_millis(20)
+}
+
+pub fn take_step<N: LiveName, R: Wait + Clock + Abort>(
+    rt: &R,
+    alloc: Global,
+    live: &Live<N>,
+    reader: &mut Reader<N>,
+    step: Step,
+) -> Result<(), KvError> {
+    match step {
+        Step::Do(one) => make(rt, alloc, live, one),
+        Step::Look => look(reader),
+        Step::Moment(woken) => {
+            equal(rt, reader.wait_timeout(rt, moment()), woken);
+            Ok(())
+        }
+        Step::Wait(woken) => {
+            equal(rt, reader.wait(rt), woken);
+            Ok(())
+        }
+        Step::For(revision, found) => finds(rt, reader, revision, found),
+    }
+}
+
+fn look<N: LiveName>(reader: &mut Reader<N>) -> Result<(), KvError> {
+    reader.version()?;
+    Ok(())
+}
+
+fn revision_of(found: Option<Version>) -> Option<u64> {
+    match found {
+        Some(version) => Some(version.revision()),
+        None => None,
+    }
+}
+
+fn finds<N: LiveName, R: Wait + Abort>(
+    rt: &R,
+    reader: &mut Reader<N>,
+    revision: u64,
+    found: Option<u64>,
+) -> Result<(), KvError> {
+    equal(rt, revision_of(reader.wait_for(rt, revision)?), found);
+    Ok(())
+}
+
+pub fn steps<N: LiveName, R: Wait + Clock + Abort>(
+    rt: &R,
+    alloc: Global,
+    live: &Live<N>,
+    all: &[Step],
+) -> Result<(), KvError> {
+    let mut reader = seat(rt, live)?;
+    steps_of(rt, alloc, live, &mut reader, all)
+}
+
+pub fn steps_of<N: LiveName, R: Wait + Clock + Abort>(
+    rt: &R,
+    alloc: Global,
+    live: &Live<N>,
+    reader: &mut Reader<N>,
+    all: &[Step],
+) -> Result<(), KvError> {
+    for one in all {
+        take_step(rt, alloc, live, reader, *one)?;
+    }
+    Ok(())
+}
+
+// What is new goes before the end.
+const TIMEOUTS: &[Step] = &[
+    Step::Moment(None),
+    Step::Do(Act::Put),
+    Step::Moment(Some(Woken::Changed)),
+    Step::Look,
+    Step::Moment(None),
+    Step::Do(Act::Finish),
+    Step::Moment(Some(Woken::Closed)),
+    Step::Do(Act::Put),
+    Step::Moment(Some(Woken::Changed)),
+];
+
+#[test]
+fn a_timeout_ends_a_wait(rt: HostRuntime) -> Result<(), Fail> {
+    run(&rt, rt.alloc(), Row::Reader(TIMEOUTS))?;
+    Ok(())
+}
+
+// A seal is news, too.
+const ENDS: &[Step] = &[
+    Step::Do(Act::Put),
+    Step::Wait(Woken::Changed),
+    Step::Look,
+    Step::Do(Act::Seal),
+    Step::Wait(Woken::Changed),
+    Step::Look,
+    Step::Do(Act::Finish),
+    Step::Wait(Woken::Closed),
+];
+
+#[test]
+fn a_wait_ends_by_news_and_by_the_end(rt: HostRuntime) -> Result<(), Fail> {
+    run(&rt, rt.alloc(), Row::Reader(ENDS))?;
+    Ok(())
+}
+
+const REVISIONS: &[Step] = &[
+    Step::For(0, Some(0)),
+    Step::Do(Act::Put),
+    Step::Do(Act::Put),
+    Step::For(1, Some(2)),
+    Step::Do(Act::Finish),
+    Step::For(3, None),
+    Step::For(2, Some(2)),
+];
+
+#[test]
+fn a_revision_is_waited_for_to_the_end(rt: HostRuntime) -> Result<(), Fail> {
+    run(&rt, rt.alloc(), Row::Reader(REVISIONS))?;
+    Ok(())
+}
+
+// Where a feed begins, and what its first wait is told.
+#[derive(Clone, Copy)]
+pub struct First {
+    from: From,
+    woken: Option<Woken>,
+}
+
+#[test]
+fn a_feed_waits_from_its_refresh_on(rt: HostRuntime) -> Result<(), Fail> {
+    let first = First {
+        from: From::ItsReader,
+        woken: None,
+    };
+    run(&rt, rt.alloc(), Row::Feed(first))?;
+    Ok(())
+}
+
+// The feed has yet to hand out what its reader has seen before.
+#[test]
+fn a_feed_from_the_empty_bucket_is_behind_what_its_reader_saw(rt: HostRuntime) -> Result<(), Fail> {
+    let first = First {
+        from: From::EmptyBucket,
+        woken: Some(Woken::Changed),
+    };
+    run(&rt, rt.alloc(), Row::Feed(first))?;
+    Ok(())
+}
+
+const SEEN: &[Step] = &[Step::Do(Act::Put), Step::Look, Step::Moment(None)];
+
+pub fn feed_waits_first<N: LiveName, R: Wait + Clock + Abort>(
+    rt: &R,
+    alloc: Global,
+    live: &Live<N>,
+    first: First,
+) -> Result<(), KvError> {
+    let mut feed = watch_what_is_seen(rt, alloc, live, first.from)?;
+    feed_waits(rt, alloc, live, &mut feed, first.woken)
+}
+
+// A feed of a reader that has seen a write.
+fn watch_what_is_seen<N: LiveName, R: Wait + Clock + Abort>(
+    rt: &R,
+    alloc: Global,
+    live: &Live<N>,
+    from: From,
+) -> Result<Feed<N>, KvError> {
+    let filters = Filters::parse(alloc, "app.>")?;
+    watch(see(rt, alloc, live)?, &filters, from)
+}
+
+fn see<N: LiveName, R: Wait + Clock + Abort>(
+    rt: &R,
+    alloc: Global,
+    live: &Live<N>,
+) -> Result<Reader<N>, KvError> {
+    let mut reader = seat(rt, live)?;
+    steps_of(rt, alloc, live, &mut reader, SEEN)?;
+    Ok(reader)
+}
+
+fn feed_waits<N: LiveName, R: Wait + Clock + Abort>(
+    rt: &R,
+    alloc: Global,
+    live: &Live<N>,
+    feed: &mut Feed<N>,
+    first: Option<Woken>,
+) -> Result<(), KvError> {
+    equal(rt, feed.wait_timeout(rt, moment()), first);
+    put(rt, alloc, live)?;
+    equal(rt, feed.wait(rt), Woken::Changed);
+    feed.refresh()?;
+    equal(rt, feed.wait_timeout(rt, moment()), None);
+    live.finish();
+    equal(rt, feed.wait(rt), Woken::Closed);
+    Ok(())
+}

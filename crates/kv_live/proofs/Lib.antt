@@ -1,9 +1,0 @@
-pub mod Feeds
-pub mod Follow
-pub mod Keeping
-pub mod Going
-pub mod Histories
-pub mod Once
-pub mod Owing
-pub mod Sent
-pub mod Somewhere

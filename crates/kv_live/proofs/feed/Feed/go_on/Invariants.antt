@@ -1,6 +1,0 @@
-use Rattle.kv_live.specs.Feeding.{WentOn}
-use Rattle.kv_live.proofs.feed.Feed.go_on.Given as goal
-
--- it went on from where it was
-abbrev pub invariant-loop : goal.invariant-loop
-invariant-loop g l = WentOn l.fn.self l.self

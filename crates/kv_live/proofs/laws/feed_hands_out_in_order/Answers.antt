@@ -1,5 +1,0 @@
-use Rattle.kv_live.proofs.Follow.{run_hands_out}
-use Rattle.kv_live.proofs.laws.feed_hands_out_in_order.Goals as goal
-
-pub returns : goal.returns
-returns c = run_hands_out

@@ -1,5 +1,0 @@
-use Rattle.kv_live.proofs.Owing.{told_once}
-use Rattle.kv_live.proofs.laws.told_write_is_handed_out_once.Goals as goal
-
-pub returns : goal.returns
-returns c = told_once

@@ -1,4 +1,0 @@
-use Rattle.kv_live.proofs.live.Live.compact.Goals as goal
-
-pub returns-clause-ok : goal.returns-clause-ok
-returns-clause-ok g c = search

@@ -1,5 +1,0 @@
-use Rattle.kv_live_tests.proofs.waiting.sleepers.closed.Given as goal
-
--- the opening that was just made
-abbrev pub ghosts-close_beside : goal.ghosts-close_beside
-ghosts-close_beside g a = record { opening = a.opened.opening }

@@ -1,0 +1,22 @@
+-- What a change of what is published leaves.
+use Rattle.std.proofs.Common.{◌≡◌, true, false, List, [], ◌∷◌, ◌++◌, Option, Some, None, is_some, Result, Ok, Err, is_ok, refl, sym, ◌∙◌, fold, append-nil}
+use Rattle.std.specs.Prelude.{MatchResult}
+use Rattle.logbook.specs.Pages.{Named}
+use Rattle.kv_model.specs.Configuration.{Configuration}
+use Rattle.kv_publish.specs.Glimpses.{Glimpsed}
+use Rattle.kv_publish.specs.Shelves.{Shelved, common_after}
+use Rattle.kv_publish.specs.inside.Waiting.{waiting}
+
+-- what is absorbed last stands alone
+pub common_last : (s : Glimpsed × Configuration × Named) (ops : List Shelved) (op : Shelved) → fold common_after s (ops ++ op ∷ []) ≡ common_after s op
+common_last s [] op = refl
+common_last s (x ∷ ops) op = common_last (common_after s x) ops op
+
+pub at_ok : {X E : Type 0} (r : Result X E) (P : X → Type 0) (Q : E → Type 0) (R : Type 0) → ((x : X) → P x → R) → is_ok r ≡ true → MatchResult r P Q → R
+at_ok (Ok x) P Q R f ok h = f x h
+at_ok (Err e) P Q R f ok h = absurd (cc ok)
+
+-- where nothing waits, what is pending is all
+pub nothing_waits : {A : Type 0} (pending all : List A) (offered : Option A) → is_some offered ≡ false → pending ++ waiting offered ≡ all → pending ≡ all
+nothing_waits pending all None f e = sym (append-nil pending) ∙ e
+nothing_waits pending all (Some x) f e = absurd (cc f)

@@ -1,0 +1,56 @@
+-- The rule of the history, and what its steps tell.
+use Rattle.std.specs.Prelude.{ℕ, ◌≡◌, ◌<◌, true, List, [], ◌∷◌, ◌++◌, length, map}
+use Rattle.logbook.specs.Pages.{Cell, Step, View, Book, Named, cell, nib, may_make, may_write}
+use Rattle.kv_model.specs.Acts.{Act, Seal, IsPrefix}
+use Rattle.kv_publish.specs.declared.entry.Entry.{Entry}
+
+abbrev pub entry : Act → ℕ → Entry
+entry act next = record { deed = act; next = next }
+
+-- stands where a step asks for nothing
+abbrev pub no_entry : Entry
+no_entry = entry Seal 0
+
+-- the acts of a history
+abbrev pub acts_in : List Entry → List Act
+acts_in log = map (λ e. e.deed) log
+
+-- the cell whose pen is the right to add an entry behind these, where the one behind nothing is `first`
+abbrev pub right_behind : ℕ → List Entry → ℕ
+right_behind first [] = first
+right_behind first (e ∷ log) = right_behind e.next log
+
+-- each entry was added by who had the right: the cell of that right came home with it, and only its pen could bring it
+abbrev pub Came : List Cell → ℕ → List Entry → Type 0
+Came cells right [] = Unit {0}
+Came cells right (e ∷ log) = ((cell cells right).1 ≡ true) × Came cells e.next log
+
+-- The first three words are at home from the beginning. The first one holds 0 until the first right is made, whose cell
+-- is then the fourth
+pub record IsKept (cells : List Cell) (log : List Entry) : Type 0 where
+  pub head : (cell cells 0).1 ≡ true
+  pub alone : (cell cells 0).0 ≡ 0 → length cells ≡ 3
+  pub came : Came cells 3 log
+
+abbrev pub head_of : Book → Named
+head_of b = record { tracked = true; key = 0; book = b }
+
+-- the word is the second or the third of the book: the right to be a copy
+pub record IsSide (book : Book) (word : Named) : Type 0 where
+  pub tracked : word.tracked ≡ true
+  pub of : word.book ≡ book
+  pub behind : 0 < word.key
+  pub within : word.key < 3
+
+-- a cell was added, and its pen is had; it is the fourth where none was added before
+abbrev pub Making : Step Entry → View Entry ℕ → ℕ → View Entry ℕ → Type 0
+Making s v found w = (key : ℕ) × ((w.1.0 ≡ nib may_make key 0) × (found ≡ 0 → key ≡ 3))
+
+-- the entry was added to all that had been seen
+abbrev pub Adding : Step Entry → View Entry ℕ → ℕ → View Entry ℕ → Type 0
+Adding s v found w = w.0 ≡ v.0 ++ s.ask ∷ []
+
+-- the pen stays; where it is the right to add an entry behind some that were seen, these are all that there are
+abbrev pub Looking : Step Entry → View Entry ℕ → ℕ → View Entry ℕ → Type 0
+Looking s v found w = (w.1.0 ≡ v.1.0) ×
+    ((all : List Entry) → IsPrefix all v.0 → v.1.0 ≡ nib may_write (right_behind 3 all) 0 → w.0 ≡ all)

@@ -1,0 +1,6 @@
+pub mod Representing
+pub mod Later
+pub mod Moving
+pub mod Answering
+pub mod Running
+pub mod Least

@@ -1,0 +1,4 @@
+pub mod Held
+pub mod Replies
+pub mod Stepping
+pub mod inside

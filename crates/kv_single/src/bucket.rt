@@ -1,0 +1,96 @@
+//! A bucket: its version, and the watches that are open.
+
+ghost use Rattle.std.specs.Prelude.{◌≡◌, length, IfErr, IfOk};
+ghost use Rattle.kv_keys.specs.Outcome.{Refuses};
+ghost use Rattle.kv_model.specs.Configuration.{configure};
+ghost use Rattle.kv_store.specs.Standing.{StandsFor};
+ghost use Rattle.kv_single.specs.Held.{Represents};
+ghost use Rattle.kv_single.specs.Stepping.{IsStep};
+ghost use Rattle.kv_model.specs.Answers.{Answer};
+ghost use Rattle.kv_model.specs.declared.call.Call.{Call as ACall};
+ghost use Rattle.kv_model.specs.State.{State, empty, open_count};
+
+use crate::held::Held;
+use kv_keys::KvError;
+use kv_model::Config;
+use kv_store::Version;
+use std::alloc::Global;
+use std::marker::Model;
+
+/// A bucket: its version, and at most 64 watches that are open. It keeps the allocator that it was opened with.
+///
+/// Contracts say which states of the model it represents, and that each call is one step of the model.
+pub struct Bucket {
+    pub(crate) version: Version,
+    pub(crate) watches: Vec<Held>,
+    pub(crate) opened: u64,
+    pub(crate) alloc: Global,
+}
+
+impl Drop for Bucket {
+    fn drop(self) {
+        let Self {
+            version: _,
+            watches: _,
+            opened: _,
+            alloc: _,
+        } = self;
+    }
+}
+
+impl Model for Bucket {
+    ghost use Rattle.kv_single.specs.Held.{Bucketed};
+
+    ghost Value = { Bucketed };
+
+    ghost view = { λ b. record { version = b.version; watches = b.watches.items; opened = b.opened } };
+}
+
+impl Bucket {
+    /// A bucket with no writes and no watches. The name is checked before the numbers, and both before any request
+    /// for memory.
+    pub fn open(alloc: Global, config: &Config) -> Result<Bucket, KvError>
+        ensures ok { IfOk result (λ bucket. Represents (empty config.now) bucket) }
+        ensures refused { IfErr result (λ e. Refuses e (configure config.now)) }
+    {
+        let version = Version::empty(alloc, config)?;
+        Ok(Bucket {
+            version,
+            watches: Vec::new(alloc),
+            opened: 0,
+            alloc,
+        })
+    }
+
+    /// The version with all that was accepted.
+    pub fn version(&self) -> &Version
+        ensures value { result.now ≡ self.now.version }
+        ensures acts { (state : State) → Represents state self.now →
+            (result.now.config ≡ state.config) × StandsFor state.acts result.now }
+    {
+        &self.version
+    }
+
+    /// The allocator that it was opened with.
+    pub fn alloc(&self) -> Global {
+        self.alloc
+    }
+
+    /// Puts another version in place of its own, and changes nothing else: for a layer that makes the next version
+    /// apart, and puts it in place once it has done with it what may be refused. It asks that this is one step of the
+    /// model: what some call does, from every state that the bucket represents.
+    pub fn go_on_to(&mut self, next: Version)
+        requires step { (call : ACall) × ((answer : Answer) × IsStep self.old call answer (record self.old { version = next })) }
+        ensures { self.new ≡ record self.old { version = next } }
+    {
+        self.version = next;
+    }
+
+    /// How many watches are open.
+    pub fn watches(&self) -> u64
+        ensures value { result ≡ length self.now.watches }
+        ensures open { (state : State) → Represents state self.now → result ≡ open_count state.watches }
+    {
+        self.watches.len() as u64
+    }
+}

@@ -1,0 +1,21 @@
+//! A bucket: what was accepted, and the watches that are open.
+#![tactic(auto)]
+
+mod bucket;
+mod compacting;
+mod held;
+mod reading;
+mod reply;
+mod run;
+mod seen;
+mod watching;
+mod writing;
+
+pub use bucket::Bucket;
+pub use kv_keys::{Filter, Filters, Key, KvError, Place, Short, fnv32};
+pub use kv_model::{Call, Config, Event, Op, Options, Request, Start, Status, Stopped, Write};
+pub use kv_store::{Kept, Rev, Version};
+pub use kv_trie::{Trie, Visit};
+pub use kv_watch::{Cursor, Shown, Taken, given};
+pub use reply::Reply;
+pub use seen::Seen;
