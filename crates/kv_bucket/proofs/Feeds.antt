@@ -21,11 +21,11 @@ use Rattle.kv_keys.specs.declared.error.KvError.TheVariants.{Lagged}
 use Rattle.kv_bucket.specs.inside.Fed.{IsFed, TellsLag, TellsLagOf, IsNotShown, acts_on, feeding_of}
 use Rattle.kv_bucket.specs.Feeding.{Feeding, HasSeenMore, IsRefreshed, given_by, lags, next_of, after_item}
 use Rattle.kv_bucket.specs.Known.{Known}
-use Rattle.kv_publish.specs.Shelves.{Shelved}
+use Rattle.kv_publish.specs.Publications.{Published}
 use Rattle.kv_publish.proofs.Prefixes.{prefix_self, prefix_trans}
 
 -- a feed that goes on to what its reader has seen by now
-pub fed_later : (config : Configuration) (before after : Known) (base now next : Shelved) (cursor : Following) → IsFed config before base now cursor → IsPrefix before.seen after.seen
+pub fed_later : (config : Configuration) (before after : Known) (base now next : Published) (cursor : Following) → IsFed config before base now cursor → IsPrefix before.seen after.seen
     → acts_on next ≡ after.seen → next.version.config ≡ config → StandsFor after.seen next.version
     → lags config.history next.version.floor (feeding_of before base now cursor) ≡ false → IsFed config after base next cursor
 fed_later config before after base now next cursor fed grows seen same stands ahead =
@@ -45,7 +45,7 @@ fed_later config before after base now next cursor fed grows seen same stands ah
     neither false b e = (refl, e)
 
 -- a feed whose reader has seen more
-pub fed_seen : (config : Configuration) (before after : Known) (base now : Shelved) (cursor : Following) → IsFed config before base now cursor → IsPrefix before.seen after.seen → IsFed config after base now cursor
+pub fed_seen : (config : Configuration) (before after : Known) (base now : Published) (cursor : Following) → IsFed config before base now cursor → IsPrefix before.seen after.seen → IsFed config after base now cursor
 fed_seen config before after base now cursor fed grows = record {
   same_config = fed.same_config;
   seen = prefix_trans (acts_on now) before.seen after.seen fed.seen grows;
@@ -61,7 +61,7 @@ lags_near h floor feed behind l e =
     let within : nat_lt (length (writes_of feed.acts)) floor ≡ false = not_less (length (writes_of feed.acts)) floor l in
     e ∙ sym (ap (λ b. b || is_behind floor feed.handed h feed.began feed.acts feed.filters feed.options) within)
 
-pub refreshed : (before after : Known) (base now next : Shelved) (cursor : Following) → HasSeenMore before after → IsPrefix (acts_on now) before.seen → acts_on next ≡ after.seen
+pub refreshed : (before after : Known) (base now next : Published) (cursor : Following) → HasSeenMore before after → IsPrefix (acts_on now) before.seen → acts_on next ≡ after.seen
     → IsPrefix before.told after.seen → IsRefreshed (feeding_of before base now cursor) (feeding_of after base next cursor)
 refreshed before after base now next cursor more low seen told = record {
   reader = more;
@@ -71,7 +71,7 @@ refreshed before after base now next cursor more low seen told = record {
 }
 
 -- what a feed went on to is lawful
-pub lawful_fed : (config : Configuration) (reader : Known) (base now : Shelved) (cursor : Following) → IsFed config reader base now cursor → IsLawful config (acts_on now)
+pub lawful_fed : (config : Configuration) (reader : Known) (base now : Published) (cursor : Following) → IsFed config reader base now cursor → IsLawful config (acts_on now)
 lawful_fed config reader base now cursor fed =
     let same : now.version.config ≡ config = fed.reach.place.same_config ∙ fed.same_config in
     subst (λ (c : Configuration). IsLawful c (acts_on now)) same fed.reach.place.now_stands.lawful
@@ -94,7 +94,7 @@ counted feed n None e =
 counted feed n (Some item) e = ap (λ (k : ℕ). let f : Feeding = record feed { handed = k } in f) e
 
 -- a take: what was lent is the next item, there is none exactly where all was handed out, and the feed counts it
-pub took : (config : Configuration) (reader : Known) (base now : Shelved) (old new : Following) (item : Option Item) → IsFed config reader base now old
+pub took : (config : Configuration) (reader : Known) (base now : Published) (old new : Following) (item : Option Item) → IsFed config reader base now old
     → new.filters ≡ old.filters → new.options ≡ old.options
     → item ≡ slice_get (given base.version.config.history (acts_on base) (acts_on now) old.filters old.options) old.handed
     → new.handed ≡ old.handed + option_len item
@@ -121,7 +121,7 @@ no_event : (item : Option Item) → None ≡ option_map event_of item → item �
 no_event None e = refl
 no_event (Some x) e = cc
 
-pub all_handed : (config : Configuration) (reader : Known) (base now : Shelved) (cursor : Following) → IsFed config reader base now cursor
+pub all_handed : (config : Configuration) (reader : Known) (base now : Published) (cursor : Following) → IsFed config reader base now cursor
     → None ≡ option_map event_of (next_of config.history (feeding_of reader base now cursor)) → cursor.handed ≡ length (given_by config.history (feeding_of reader base now cursor))
 all_handed config reader base now cursor fed e =
     let feed = feeding_of reader base now cursor in
@@ -134,7 +134,7 @@ shown_len : (item : Option Item) → option_len (option_map event_of item) ≡ o
 shown_len None = refl
 shown_len (Some x) = refl
 
-pub passed : (config : Configuration) (reader : Known) (base now : Shelved) (old new : Following) (peeked : Option Event) (version : Stored) → IsFed config reader base now old → new.filters ≡ old.filters → new.options ≡ old.options → version ≡ now.version
+pub passed : (config : Configuration) (reader : Known) (base now : Published) (old new : Following) (peeked : Option Event) (version : Stored) → IsFed config reader base now old → new.filters ≡ old.filters → new.options ≡ old.options → version ≡ now.version
     → peeked ≡ option_map event_of (next_of config.history (feeding_of reader base now old))
     → ((n : ℕ) (began acts : List Act) (opening : Stored) → InReach began acts n opening version old → peeked ≡ option_map event_of (slice_get (given_to opening.config.history began acts old) n) → InReach began acts (n + option_len peeked) opening version new)
     → IsFed config reader base now new × (feeding_of reader base now new ≡ after_item (feeding_of reader base now old) (next_of config.history (feeding_of reader base now old)))
@@ -160,16 +160,16 @@ passed config reader base now old new peeked version fed filters options same sh
 
 -- ---- what is handed over to a feed
 
-pub at_floor : (follower : Option (Shelved × Following)) (current : Shelved) (cursor : Following) (acts : List Act) (floor : ℕ) (behind answer : Bool) → follower ≡ Some (current, cursor) → floor ≡ floor_of acts → behind ≡ answer
+pub at_floor : (follower : Option (Published × Following)) (current : Published) (cursor : Following) (acts : List Act) (floor : ℕ) (behind answer : Bool) → follower ≡ Some (current, cursor) → floor ≡ floor_of acts → behind ≡ answer
     → TellsLag current cursor floor behind → TellsLagOf follower (floor_of acts) answer
 at_floor follower current cursor acts floor behind answer some same is tells =
-    subst (λ (f : Option (Shelved × Following)). TellsLagOf f (floor_of acts) answer) (sym some)
+    subst (λ (f : Option (Published × Following)). TellsLagOf f (floor_of acts) answer) (sym some)
     (subst (λ (n : ℕ). TellsLag current cursor n answer) same (subst (λ (b : Bool). TellsLag current cursor floor b) is tells))
 
-pub none_behind : (follower : Option (Shelved × Following)) (floor : ℕ) → follower ≡ None → TellsLagOf follower floor false
-none_behind follower floor none = subst (λ (f : Option (Shelved × Following)). TellsLagOf f floor false) (sym none) refl
+pub none_behind : (follower : Option (Published × Following)) (floor : ℕ) → follower ≡ None → TellsLagOf follower floor false
+none_behind follower floor none = subst (λ (f : Option (Published × Following)). TellsLagOf f floor false) (sym none) refl
 
-pub told_behind : (follower : Option (Shelved × Following)) (acts : List Act) (floor : ℕ) → floor ≡ floor_of acts → TellsLagOf follower (floor_of acts) true → IsNotShown follower acts (Lagged floor)
+pub told_behind : (follower : Option (Published × Following)) (acts : List Act) (floor : ℕ) → floor ≡ floor_of acts → TellsLagOf follower (floor_of acts) true → IsNotShown follower acts (Lagged floor)
 told_behind follower acts floor same tells = inr (inl (ap Lagged same, tells))
 
 pub whatever_is_ok : {T E : Type 0} (r : Result T E) (P : Type 0) → P → IfOk r (λ _. P)

@@ -177,18 +177,18 @@ publishes config old request w version revision published some accepted stands l
 
 -- ---- what an act that is kept makes of what lies under the lock
 
-kept_put : (was bucket : Bucketed) (before posted : List Act) (act deed : Act) (version : Stored) → deed ≡ act → (posted ≡ before ++ deed ∷ []) × (bucket ≡ record was { version = version }) → kept_after (kept_of was before) act version ≡ kept_of bucket posted
-kept_put was bucket before posted act deed version same kept = kept_same (kept_of was before) was bucket act version posted refl (kept.0 ∙ ap (posted_after (kept_of was before)) same) kept.1
+kept_put : (was bucket : Bucketed) (before posted : List Act) (act ghost_act : Act) (version : Stored) → ghost_act ≡ act → (posted ≡ before ++ ghost_act ∷ []) × (bucket ≡ record was { version = version }) → kept_after (kept_of was before) act version ≡ kept_of bucket posted
+kept_put was bucket before posted act ghost_act version same kept = kept_same (kept_of was before) was bucket act version posted refl (kept.0 ∙ ap (posted_after (kept_of was before)) same) kept.1
 
 kept_step : (call : Call) (answer : Answer) (old now next new : Kept) → old ≡ now → next ≡ new → IsKeptStep old call answer next → IsKeptStep now call answer new
 kept_step call answer old now next new is put step = subst (λ (k : Kept). IsKeptStep k call answer new) is (subst (λ (k : Kept). IsKeptStep old call answer k) put step)
 
-pub seals_kept : (config : Configuration) (now : Kept) (was bucket : Bucketed) (before posted : List Act) (deed : Act) (seen version : Stored) → kept_of was before ≡ now → IsSomewhere config (kept_of was before) → seen ≡ was.version
-    → version ≡ record seen { sealed = true } → ((acts : List Act) → StandsFor acts seen → StandsFor (acts ++ Seal ∷ []) version) → deed ≡ Seal → (posted ≡ before ++ deed ∷ []) × (bucket ≡ record was { version = version })
+pub seals_kept : (config : Configuration) (now : Kept) (was bucket : Bucketed) (before posted : List Act) (ghost_act : Act) (seen version : Stored) → kept_of was before ≡ now → IsSomewhere config (kept_of was before) → seen ≡ was.version
+    → version ≡ record seen { sealed = true } → ((acts : List Act) → StandsFor acts seen → StandsFor (acts ++ Seal ∷ []) version) → ghost_act ≡ Seal → (posted ≡ before ++ ghost_act ∷ []) × (bucket ≡ record was { version = version })
     → IsSomewhere config (kept_of bucket posted) × IsKeptStep now calls.Seal Sealed (kept_of bucket posted)
-seals_kept config now was bucket before posted deed seen version is some value sealed stands same kept =
+seals_kept config now was bucket before posted ghost_act seen version is some value sealed stands same kept =
     let old : Kept = kept_of was before in
-    let put : kept_after old Seal version ≡ kept_of bucket posted = kept_put was bucket before posted Seal deed version same kept in
+    let put : kept_after old Seal version ≡ kept_of bucket posted = kept_put was bucket before posted Seal ghost_act version same kept in
     let own : version.config ≡ was.version.config = ap (λ (v : Stored). v.config) sealed ∙ ap (λ (v : Stored). v.config) value in
     let on : GoesOn old Seal version = goes_on old Seal version refl own (stands before (subst (StandsFor before) (sym value) (published_stands config old some))) in
     let step : IsKeptStep old calls.Seal Sealed (kept_after old Seal version) = λ state at. (refl, at_act state old Seal version on at) in (
@@ -196,14 +196,14 @@ seals_kept config now was bucket before posted deed seen version is some value s
       kept_step calls.Seal Sealed old now (kept_after old Seal version) (kept_of bucket posted) is put step,
     )
 
-pub compacts_kept : (config : Configuration) (now : Kept) (was bucket : Bucketed) (before posted : List Act) (floor : ℕ) (deed : Act) (seen version : Stored) → kept_of was before ≡ now → IsSomewhere config (kept_of was before) → seen ≡ was.version
+pub compacts_kept : (config : Configuration) (now : Kept) (was bucket : Bucketed) (before posted : List Act) (floor : ℕ) (ghost_act : Act) (seen version : Stored) → kept_of was before ≡ now → IsSomewhere config (kept_of was before) → seen ≡ was.version
     → version.config ≡ seen.config → ((acts : List Act) → StandsFor acts seen → (is_bad_floor floor acts ≡ false) × StandsFor (acts ++ Compact floor ∷ []) version)
-    → ((state : State) → Represents state was → may_compact floor state ≡ Ok floor) → deed ≡ Compact floor → (posted ≡ before ++ deed ∷ []) × (bucket ≡ record was { version = version })
+    → ((state : State) → Represents state was → may_compact floor state ≡ Ok floor) → ghost_act ≡ Compact floor → (posted ≡ before ++ ghost_act ∷ []) × (bucket ≡ record was { version = version })
     → IsSomewhere config (kept_of bucket posted) × IsKeptStep now (calls.Compact floor) (Compacted floor) (kept_of bucket posted)
-compacts_kept config now was bucket before posted floor deed seen version is some value same_config stands may same kept =
+compacts_kept config now was bucket before posted floor ghost_act seen version is some value same_config stands may same kept =
     let old : Kept = kept_of was before in
     let call : Call = calls.Compact floor in
-    let put : kept_after old (Compact floor) version ≡ kept_of bucket posted = kept_put was bucket before posted (Compact floor) deed version same kept in
+    let put : kept_after old (Compact floor) version ≡ kept_of bucket posted = kept_put was bucket before posted (Compact floor) ghost_act version same kept in
     let own : version.config ≡ was.version.config = same_config ∙ ap (λ (v : Stored). v.config) value in
     let there : (state : State) → IsAt state old → may_compact floor state ≡ Ok floor = λ state at. may state at.represents in
     let on : GoesOn old (Compact floor) version = goes_on_compacted old floor version there own (stands before (subst (StandsFor before) (sym value) (published_stands config old some))).1 in
@@ -217,28 +217,28 @@ accepted_for : (config : Configuration) (request : Asked) (acts : List Act) (w :
 accepted_for config request acts w version revision accepted stands number =
     ap (λ (r : ℕ). Wrote (write_for request r)) (counts_on acts w version revision stands number) ∙ ap Wrote (accepted_is_next config request acts w accepted)
 
-pub wrote_stands : (config : Configuration) (was : Bucketed) (before : List Act) (request : Request) (deed : Act) (revision : ℕ) (seen version : Stored) → IsSomewhere config (kept_of was before) → seen ≡ was.version
+pub wrote_stands : (config : Configuration) (was : Bucketed) (before : List Act) (request : Request) (ghost_act : Act) (revision : ℕ) (seen version : Stored) → IsSomewhere config (kept_of was before) → seen ≡ was.version
     → ((acts : List Act) → StandsFor acts seen → (w : Write) × ((accept seen.config (asked request) acts ≡ Ok w) × StandsFor (acts ++ Wrote w ∷ []) version))
-    → deed ≡ Wrote (write_for (asked request) revision) → revision ≡ version.last → StandsFor (before ++ deed ∷ []) version
-wrote_stands config was before request deed revision seen version some value accepts told number =
+    → ghost_act ≡ Wrote (write_for (asked request) revision) → revision ≡ version.last → StandsFor (before ++ ghost_act ∷ []) version
+wrote_stands config was before request ghost_act revision seen version some value accepts told number =
     let accepted = accepts before (subst (StandsFor before) (sym value) (published_stands config (kept_of was before) some)) in
     let same = told ∙ accepted_for seen.config (asked request) before accepted.0 version revision accepted.1.0 accepted.1.1 number in
     subst (λ (act : Act). StandsFor (before ++ act ∷ []) version) (sym same) accepted.1.1
 
-pub writes_kept : (config : Configuration) (now : Kept) (was bucket : Bucketed) (before posted : List Act) (request : Request) (deed : Act) (revision : ℕ) (seen version : Stored) → kept_of was before ≡ now → IsSomewhere config (kept_of was before)
+pub writes_kept : (config : Configuration) (now : Kept) (was bucket : Bucketed) (before posted : List Act) (request : Request) (ghost_act : Act) (revision : ℕ) (seen version : Stored) → kept_of was before ≡ now → IsSomewhere config (kept_of was before)
     → seen ≡ was.version → version.config ≡ seen.config
     → ((acts : List Act) → StandsFor acts seen → (w : Write) × ((accept seen.config (asked request) acts ≡ Ok w) × StandsFor (acts ++ Wrote w ∷ []) version))
-    → deed ≡ Wrote (write_for (asked request) revision) → revision ≡ version.last → (posted ≡ before ++ deed ∷ []) × (bucket ≡ record was { version = version })
+    → ghost_act ≡ Wrote (write_for (asked request) revision) → revision ≡ version.last → (posted ≡ before ++ ghost_act ∷ []) × (bucket ≡ record was { version = version })
     → IsSomewhere config (kept_of bucket posted) × (IsKeptStep now (calls.Write request) (Revision revision) (kept_of bucket posted) × PublishesWrite config (asked request) revision now.published posted)
-writes_kept config now was bucket before posted request deed revision seen version is some value same_config accepts told number kept =
+writes_kept config now was bucket before posted request ghost_act revision seen version is some value same_config accepts told number kept =
     let old : Kept = kept_of was before in
     let call : Call = calls.Write request in
     let ok : (acts : List Act) → StandsFor acts was.version → (w : Write) × ((accept was.version.config (asked request) acts ≡ Ok w) × StandsFor (acts ++ Wrote w ∷ []) version) =
     subst (λ (v : Stored). (acts : List Act) → StandsFor acts v → (w : Write) × ((accept v.config (asked request) acts ≡ Ok w) × StandsFor (acts ++ Wrote w ∷ []) version)) value accepts in
     let accepted = ok before (published_stands config old some) in
     let act : Act = Wrote accepted.0 in
-    let same : deed ≡ act = told ∙ accepted_for was.version.config (asked request) before accepted.0 version revision accepted.1.0 accepted.1.1 number in
-    let put : kept_after old act version ≡ kept_of bucket posted = kept_put was bucket before posted act deed version same kept in
+    let same : ghost_act ≡ act = told ∙ accepted_for was.version.config (asked request) before accepted.0 version revision accepted.1.0 accepted.1.1 number in
+    let put : kept_after old act version ≡ kept_of bucket posted = kept_put was bucket before posted act ghost_act version same kept in
     let own : version.config ≡ was.version.config = same_config ∙ ap (λ (v : Stored). v.config) value in
     let on : GoesOn old act version = goes_on old act version refl own accepted.1.1 in
     let step : IsKeptStep old call (Revision revision) (kept_after old act version) = λ state at. at_write state old (asked request) accepted.0 version revision at own ok accepted.1.0 accepted.1.1 number in

@@ -110,9 +110,9 @@ ending_none r History = refl
 ending_none r Updates = refl
 ending_none r (From revision) = refl
 
-drop_front : {X : Type 0} (xs ys : List X) → drop (length xs) (xs ++ ys) ≡ ys
-drop_front [] ys = refl
-drop_front (x ∷ xs) ys = drop_front xs ys
+drop_prefix : {X : Type 0} (xs ys : List X) → drop (length xs) (xs ++ ys) ≡ ys
+drop_prefix [] ys = refl
+drop_prefix (x ∷ xs) ys = drop_prefix xs ys
 
 module _ (h : ℕ) (began acts : List Act) (filters : List (List ℕ)) (options : Options) (w : Write) where
   initial_none : CountsFrom 1 (writes_of began) → length (writes_of began) < w.revision → items_of_revision w.revision (all_shown options (matching filters (initial h options.start began))) ≡ []
@@ -125,7 +125,7 @@ module _ (h : ℕ) (began acts : List Act) (filters : List (List ℕ)) (options 
       → items_of_revision w.revision (all_shown options (matching filters (drop (length (writes_of began)) (writes_of acts)))) ≡ AnEntry (entry_of options.headers_only w) ∷ []
   live_once one none p is =
       let parts : writes_of acts ≡ writes_of began ++ writes_of p.0 = ap writes_of (sym p.1) ∙ writes_of-append began p.0 in
-      let behind : drop (length (writes_of began)) (writes_of acts) ≡ writes_of p.0 = ap (drop (length (writes_of began))) parts ∙ drop_front (writes_of began) (writes_of p.0) in
+      let behind : drop (length (writes_of began)) (writes_of acts) ≡ writes_of p.0 = ap (drop (length (writes_of began))) parts ∙ drop_prefix (writes_of began) (writes_of p.0) in
       let both = filter-append (has_revision w.revision) (writes_of began) (writes_of p.0) in
       let more : filter (has_revision w.revision) (writes_of p.0) ≡ w ∷ [] =
       ap (λ (vs : List Write). vs ++ filter (has_revision w.revision) (writes_of p.0)) (sym none) ∙ (sym both ∙ (ap (filter (has_revision w.revision)) (sym parts) ∙ one)) in
@@ -136,11 +136,11 @@ module _ (h : ℕ) (began acts : List Act) (filters : List (List ℕ)) (options 
   given_once : CountsFrom 1 (writes_of acts) → IsPrefix began acts → (told : List Act) → IsPrefix (told ++ Wrote w ∷ []) acts → length (writes_of began) < w.revision → is_shown filters options w ≡ true
       → items_of_revision w.revision (given h began acts filters options) ≡ AnEntry (entry_of options.headers_only w) ∷ []
   given_once counts p told reached live is =
-      let whole : writes_of acts ≡ writes_of told ++ w ∷ writes_of reached.0 =
+      let journal : writes_of acts ≡ writes_of told ++ w ∷ writes_of reached.0 =
       ap writes_of (sym reached.1) ∙ (writes_of-append (told ++ Wrote w ∷ []) reached.0
       ∙ (ap (λ (vs : List Write). vs ++ writes_of reached.0) (writes_of-wrote told w) ∙ append_assoc (writes_of told) (w ∷ []) (writes_of reached.0))) in
       let one : filter (has_revision w.revision) (writes_of acts) ≡ w ∷ [] =
-      ap (filter (has_revision w.revision)) whole ∙ only_one 1 (writes_of told) (writes_of reached.0) w (subst (CountsFrom 1) whole counts) in
+      ap (filter (has_revision w.revision)) journal ∙ only_one 1 (writes_of told) (writes_of reached.0) w (subst (CountsFrom 1) journal counts) in
       let parts : writes_of acts ≡ writes_of began ++ writes_of p.0 = ap writes_of (sym p.1) ∙ writes_of-append began p.0 in
       let first : CountsFrom 1 (writes_of began) = CountsFrom-left 1 (writes_of began) (writes_of p.0) (subst (CountsFrom 1) parts counts) in
       let none : filter (has_revision w.revision) (writes_of began) ≡ [] = none_above w.revision 1 (writes_of began) first (omega arith) in

@@ -6,20 +6,20 @@ use denote.RattleType.{RattleType}
 use denote.Param.Send.{IsSend, IsSync, sendable}
 use Rattle.std.proofs.Crossing.{crosses}
 use Rattle.kv_store.proofs.Sent.{version_send}
-use Rattle.kv_publish.proofs.Sent.{shelf_send, shelf_sync, side_send, side_sync, bell_send, bell_sync, copies_send}
-use Rattle.kv_publish.proofs.whole.Whole.TheSendSync as whole
+use Rattle.kv_publish.proofs.Sent.{publication_send, publication_sync, side_send, side_sync, notifier_send, notifier_sync, buffer_send}
+use Rattle.kv_publish.proofs.journal.Journal.TheSendSync as journal
 use Rattle.kv_bucket.specs.contracts.receipt.Mark as Mark
 use Rattle.kv_watch.proofs.cursor.Cursor.TheSendSync as cursor
-use Rattle.kv_publish.specs.declared.history.LiveName as live_name
+use Rattle.kv_publish.specs.declared.protocol.LiveName as live_name
 use Rattle.kv_bucket.specs.contracts.cached.Cached as Cached
 use Rattle.kv_bucket.specs.contracts.feed.Feed as Feed
 use Rattle.kv_bucket.specs.contracts.feed.Held as Held
-use Rattle.kv_bucket.specs.contracts.knowledge.Knowledge as Knowledge
+use Rattle.kv_bucket.specs.contracts.progress.Progress as Progress
 use Rattle.kv_bucket.specs.contracts.publisher.Publisher as Publisher
 use Rattle.kv_bucket.specs.contracts.reader.Reader as Reader
 use Rattle.kv_bucket.specs.contracts.receipt.Receipt as Receipt
-use Rattle.kv_publish.proofs.front.Front.TheSendSync as front
-use Rattle.left_right.proofs.reader.Reader.TheSendSync as seat
+use Rattle.kv_publish.proofs.prefix.Prefix.TheSendSync as prefix
+use Rattle.left_right.proofs.reader.Reader.TheSendSync as slot
 use Rattle.kv_single.specs.contracts.bucket.Bucket as Bucket
 use Rattle.kv_bucket.specs.contracts.keeper.Keeper as Keeper
 use Rattle.kv_bucket.specs.contracts.live.Live as Live
@@ -28,29 +28,29 @@ bucket_send : IsSend Bucket.the_row
 bucket_send = let v = version_send in let c = cursor.the_send in search (sendable, crosses) depth 20
 
 held_send : IsSend (Held.the_field).row
-held_send = let h = shelf_send in let v = version_send in search (sendable, crosses) depth 20
+held_send = let h = publication_send in let v = version_send in search (sendable, crosses) depth 20
 
 module _ (N : RattleType) (g : live_name.Ghosts N.Denot) (s : IsSend N) (y : IsSync N) where
-  knowledge_send : IsSend (Knowledge.the_row N g)
-  knowledge_send = search (sendable, front.the_send) depth 20
+  progress_send : IsSend (Progress.the_row N g)
+  progress_send = search (sendable, prefix.the_send) depth 20
 
   pub reader_send : IsSend (Reader.the_row N g)
-  reader_send = let h = shelf_send in let i = side_send in let j = side_sync in let b = bell_send N g s y in let k = knowledge_send in search (sendable, crosses, seat.the_send, seat.the_field_send) depth 20
+  reader_send = let h = publication_send in let i = side_send in let j = side_sync in let b = notifier_send N g s y in let k = progress_send in search (sendable, crosses, slot.the_send, slot.the_field_send) depth 20
 
   pub cached_send : IsSend (Cached.the_row N g)
-  cached_send = let h = shelf_send in search (sendable, crosses) depth 20
+  cached_send = let h = publication_send in search (sendable, crosses) depth 20
 
   pub cached_sync : IsSync (Cached.the_row N g)
-  cached_sync = let h = shelf_sync in search (sendable, crosses) depth 20
+  cached_sync = let h = publication_sync in search (sendable, crosses) depth 20
 
   pub feed_send : IsSend (Feed.the_row N g)
   feed_send = let h = held_send in let r = reader_send in let c = cursor.the_send in search sendable depth 20
 
   pub mark_send : IsSend (Mark.the_row N g)
-  mark_send = search (sendable, front.the_send) depth 20
+  mark_send = search (sendable, prefix.the_send) depth 20
 
   pub mark_sync : IsSync (Mark.the_row N g)
-  mark_sync = search (sendable, front.the_sync) depth 20
+  mark_sync = search (sendable, prefix.the_sync) depth 20
 
   pub receipt_send : IsSend (Receipt.the_row N g)
   receipt_send = let m = mark_send in search sendable depth 20
@@ -59,10 +59,10 @@ module _ (N : RattleType) (g : live_name.Ghosts N.Denot) (s : IsSend N) (y : IsS
   receipt_sync = let m = mark_sync in search sendable depth 20
 
   publisher_send : IsSend (Publisher.the_row N g)
-  publisher_send = let h = shelf_send in let c = copies_send N g s y in let b = bell_send N g s y in search (sendable, crosses, whole.the_send) depth 20
+  publisher_send = let h = publication_send in let c = buffer_send N g s y in let b = notifier_send N g s y in search (sendable, crosses, journal.the_send) depth 20
 
   keeper_send : IsSend (Keeper.the_row N g)
   keeper_send = let b = bucket_send in let p = publisher_send in search (sendable, crosses) depth 20
 
   pub live_sync : IsSync (Live.the_row N g)
-  live_sync = let k = keeper_send in let b = bell_sync N g s y in search (sendable, crosses) depth 20
+  live_sync = let k = keeper_send in let b = notifier_sync N g s y in search (sendable, crosses) depth 20

@@ -4,11 +4,11 @@ ghost use Rattle.std.specs.Prelude.{◌≡◌, true, IfErr, IfOk, IfSome, OnErr,
 ghost use Rattle.kv_model.specs.Acts.{IsPrefix};
 ghost use Rattle.kv_store.specs.Standing.{StandsFor};
 ghost use Rattle.kv_bucket.specs.Known.{IsUnread};
-ghost use Rattle.kv_publish.specs.Shelves.{IsOf};
+ghost use Rattle.kv_publish.specs.Publications.{IsOf};
 
-use crate::knowledge::Knowledge;
+use crate::progress::Progress;
 use kv_keys::KvError;
-use kv_publish::{Front, LiveName, Shelf};
+use kv_publish::{LiveName, Prefix, Publication};
 use kv_store::Version;
 use std::marker::{Model, PhantomData};
 use std::mem;
@@ -17,29 +17,29 @@ use std::mem;
 /// acts that the version stands for.
 #[derive(Drop)]
 pub struct Cached<N: LiveName> {
-    shelf: Shelf,
+    publication: Publication,
     of: PhantomData<N>,
 }
 
 impl<N: LiveName> Model for Cached<N> {
     ghost use Rattle.std.specs.Prelude.{List};
     ghost use Rattle.kv_model.specs.Acts.{Act};
-    ghost use Rattle.kv_publish.specs.Shelves.{IsOf};
+    ghost use Rattle.kv_publish.specs.Publications.{IsOf};
 
     ghost Value = { List Act };
 
-    ghost view = { λ c. c.shelf.glimpse.acts };
+    ghost view = { λ c. c.publication.raw_prefix.acts };
 
-    ghost invariant = { λ c. IsOf N.opening c.shelf };
+    ghost invariant = { λ c. IsOf N.opening c.publication };
 }
 
 impl<N: LiveName> Cached<N> {
-    pub(crate) fn new(shelf: Shelf) -> Cached<N>
-        requires { IsOf N.opening shelf }
-        ensures { result ≡ shelf.glimpse.acts }
+    pub(crate) fn new(publication: Publication) -> Cached<N>
+        requires { IsOf N.opening publication }
+        ensures { result ≡ publication.raw_prefix.acts }
     {
         Cached {
-            shelf,
+            publication,
             of: PhantomData,
         }
     }
@@ -49,37 +49,37 @@ impl<N: LiveName> Cached<N> {
         ensures stands { StandsFor self.now result.now }
         ensures config { result.now.config ≡ N.opening.config }
     {
-        self.shelf.version()
+        self.publication.version()
     }
 
-    // Whether it stands for all that the reader of this knowledge has seen, and that for all that the reader was told.
-    pub(crate) fn is_all_of(&self, knowledge: &Knowledge<N>) -> bool
-        ensures { result ≡ true → (self.now ≡ knowledge.now.seen) × IsPrefix knowledge.now.told knowledge.now.seen }
+    // Whether it stands for all that the reader of this progress has seen, and that for all that the reader was told.
+    pub(crate) fn is_all_of(&self, progress: &Progress<N>) -> bool
+        ensures { result ≡ true → (self.now ≡ progress.now.seen) × IsPrefix progress.now.told progress.now.seen }
     {
-        knowledge.has_seen_just(self.shelf.glimpse()) && knowledge.has_seen_all_told()
+        progress.has_seen_just(self.publication.raw_prefix()) && progress.has_seen_all_told()
     }
 
-    // Goes on to what is published, which the reader of this knowledge takes in, and answers what it left. Where it was
+    // Goes on to what is published, which the reader of this progress takes in, and answers what it left. Where it was
     // there already nothing is copied.
     pub(crate) fn go_on(
         &mut self,
-        knowledge: &mut Knowledge<N>,
-        shelf: &Shelf,
-    ) -> Result<Option<Shelf>, KvError>
-        requires { IsOf N.opening shelf.now }
-        ensures later { IsPrefix knowledge.old.seen knowledge.new.seen }
-        ensures told { knowledge.new.told ≡ knowledge.old.told }
-        ensures ok { OnOk result ((self.new ≡ knowledge.new.seen) × IsPrefix knowledge.old.told knowledge.new.seen) }
-        ensures left { IfOk result (λ left. IfSome left (λ shelf. shelf.glimpse.acts ≡ self.old)) }
+        progress: &mut Progress<N>,
+        publication: &Publication,
+    ) -> Result<Option<Publication>, KvError>
+        requires { IsOf N.opening publication.now }
+        ensures later { IsPrefix progress.old.seen progress.new.seen }
+        ensures told { progress.new.told ≡ progress.old.told }
+        ensures ok { OnOk result ((self.new ≡ progress.new.seen) × IsPrefix progress.old.told progress.new.seen) }
+        ensures left { IfOk result (λ left. IfSome left (λ publication. publication.raw_prefix.acts ≡ self.old)) }
         ensures unchanged { OnErr result (self.new ≡ self.old) }
         ensures err { IfErr result IsUnread }
     {
-        knowledge.see(shelf)?;
+        progress.see(publication)?;
         let mut left = None;
-        if !knowledge.has_seen_just(self.shelf.glimpse()) {
-            left = Some(mem::replace(&mut self.shelf, shelf.again()?));
+        if !progress.has_seen_just(self.publication.raw_prefix()) {
+            left = Some(mem::replace(&mut self.publication, publication.try_clone()?));
         }
-        knowledge.rest_on(shelf);
+        progress.rest_on(publication);
         Ok(left)
     }
 }

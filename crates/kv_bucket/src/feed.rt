@@ -16,13 +16,13 @@ ghost use Rattle.kv_bucket.specs.inside.Fed.{acts_on, opened};
 ghost use Rattle.kv_bucket.specs.Feeding.{Feeding, HasSeenMore, HasLearned, IsRefreshed, IsNotRefreshed, IsStopped, lags, WentOn, HandsNext, given_by, next_of, after_item};
 ghost use Rattle.kv_bucket.specs.Known.{IsUnread};
 ghost use Rattle.kv_bucket.specs.Owed.{Owes, HasOnce};
-ghost use Rattle.kv_publish.specs.Shelves.{IsOf};
+ghost use Rattle.kv_publish.specs.Publications.{IsOf};
 
 use crate::reader::Reader;
 use crate::receipt::{Mark, Receipt};
 use kv_keys::{Filters, KvError};
 use kv_model::{Event, Options, Stopped};
-use kv_publish::{LiveName, Shelf, Woken};
+use kv_publish::{LiveName, Publication, Woken};
 use kv_store::Version;
 use kv_watch::{Cursor, Taken};
 use std::alloc::Global;
@@ -54,9 +54,9 @@ impl<N: LiveName> Drop for Feed<N> {
 // What a feed was opened on, as contracts see it and as long as initial entries are owed, and what it went on to: one
 // field, which `take` lends from.
 struct Held {
-    base: Snapshot<Shelf>,
+    base: Snapshot<Publication>,
     kept: Option<Version>,
-    current: Shelf,
+    current: Publication,
 }
 
 impl Drop for Held {
@@ -82,44 +82,44 @@ impl<N: LiveName> Model for Feed<N> {
         × IsOpening f.held.kept f.held.base.value.version f.cursor };
 }
 
-// What a feed needs that begins on a shelf: a cursor before the first item, and a snapshot as long as that needs it.
+// What a feed needs that begins on a publication: a cursor before the first item, and a snapshot as long as that needs it.
 fn beginning(
     alloc: Global,
-    shelf: &Shelf,
+    publication: &Publication,
     filters: &Filters,
     options: Options,
 ) -> Result<(Option<Version>, Cursor), KvError>
-    ensures kept { IfOk result (λ p. IsOpening p.0 shelf.now.version p.1) }
+    ensures kept { IfOk result (λ p. IsOpening p.0 publication.now.version p.1) }
     ensures shows { IfOk result (λ p. (p.1.filters ≡ filters.now) × (p.1.options ≡ options)) }
     ensures place { IfOk result
-        (λ p. InReach (acts_on shelf.now) (acts_on shelf.now) 0 shelf.now.version shelf.now.version p.1) }
+        (λ p. InReach (acts_on publication.now) (acts_on publication.now) 0 publication.now.version publication.now.version p.1) }
     ensures err { IfErr result (λ e. e ≡ OutOfMemory) }
 {
-    let base = shelf.version().snapshot()?;
-    let cursor = Cursor::open(alloc, shelf.version(), filters, options)?;
+    let base = publication.version().snapshot()?;
+    let cursor = Cursor::open(alloc, publication.version(), filters, options)?;
     let kept = cursor.keep(base);
     Ok((kept, cursor))
 }
 
-// A feed that begins on a shelf.
+// A feed that begins on a publication.
 fn begin<N: LiveName>(
     reader: Reader<N>,
-    shelf: Shelf,
+    publication: Publication,
     filters: &Filters,
     options: Options,
 ) -> Result<Feed<N>, (Reader<N>, KvError)>
-    requires of { IsOf N.opening shelf }
-    requires seen { IsPrefix (acts_on shelf) reader.seen }
-    ensures ok { IfOk result (λ feed. feed ≡ opened reader (acts_on shelf) filters.now options) }
+    requires of { IsOf N.opening publication }
+    requires seen { IsPrefix (acts_on publication) reader.seen }
+    ensures ok { IfOk result (λ feed. feed ≡ opened reader (acts_on publication) filters.now options) }
     ensures err { IfErr result (λ e. (e.0 ≡ reader) × (e.1 ≡ OutOfMemory)) }
 {
-    match beginning(reader.alloc(), &shelf, filters, options) {
+    match beginning(reader.alloc(), &publication, filters, options) {
         Ok((kept, cursor)) => Ok(Feed {
             reader,
             held: Held {
-                base: Snapshot::of(&shelf),
+                base: Snapshot::of(&publication),
                 kept,
-                current: shelf,
+                current: publication,
             },
             cursor,
         }),
@@ -136,8 +136,8 @@ impl<N: LiveName> Reader<N> {
         ensures err { IfErr result (λ e. HasSeenMore self e.0 × IsUnread e.1) }
     {
         let mut reader = self;
-        match reader.shelf() {
-            Ok(shelf) => begin(reader, shelf, filters, options),
+        match reader.publication() {
+            Ok(publication) => begin(reader, publication, filters, options),
             Err(refusal) => Err((reader, refusal)),
         }
     }
@@ -152,8 +152,8 @@ impl<N: LiveName> Reader<N> {
         ensures ok { IfOk result (λ feed. feed ≡ opened self [] filters.now options) }
         ensures err { IfErr result (λ e. (e.0 ≡ self) × (e.1 ≡ OutOfMemory)) }
     {
-        match self.empty_shelf() {
-            Ok(shelf) => begin(self, shelf, filters, options),
+        match self.empty_publication() {
+            Ok(publication) => begin(self, publication, filters, options),
             Err(refusal) => Err((self, refusal)),
         }
     }
@@ -186,8 +186,10 @@ impl<N: LiveName> Feed<N> {
         ensures refused { IfErr result
             (λ e. IsStopped N.opening.config.history self.old self.new e × IsNotRefreshed self.old self.new) }
     {
-        let shelf = self.reader.shelf_ahead(&self.held.current, &self.cursor)?;
-        let left = mem::replace(&mut self.held.current, shelf);
+        let publication = self
+            .reader
+            .publication_ahead(&self.held.current, &self.cursor)?;
+        let left = mem::replace(&mut self.held.current, publication);
         Ok(left.into_version())
     }
 
@@ -239,14 +241,14 @@ impl<N: LiveName> Feed<N> {
 
     /// Sleeps until more is published than it went on to, or the bucket is closed, and says which. It takes no lock.
     pub fn wait<R: Wait>(&self, rt: &R) -> Woken {
-        self.reader.bell().wait(rt, self.held.current.acts())
+        self.reader.notifier().wait(rt, self.held.current.acts())
     }
 
     /// The same, for no longer than the limit. It is `None` where the time was over first, or the clock couldn't be
     /// read.
     pub fn wait_timeout<R: Wait + Clock>(&self, rt: &R, limit: Duration) -> Option<Woken> {
         self.reader
-            .bell()
+            .notifier()
             .wait_timeout(rt, self.held.current.acts(), limit)
     }
 

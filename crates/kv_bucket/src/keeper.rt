@@ -25,7 +25,7 @@ use crate::reader::Reader;
 use crate::receipt::{Mark, Receipt};
 use kv_keys::{Filters, KvError};
 use kv_model::{Options, Request, Stopped};
-use kv_publish::{Deed, LiveName};
+use kv_publish::{GhostAct, LiveName};
 use kv_single::Bucket;
 use kv_store::Version;
 use kv_watch::Taken;
@@ -56,18 +56,18 @@ fn keep<N: LiveName, R: Wait>(
     rt: &R,
     bucket: &mut Bucket,
     publisher: &mut Publisher<N>,
-    deed: Deed,
+    ghost_act: GhostAct,
     next: Version,
 ) -> Result<(), KvError>
-    requires stands { StandsFor (publisher.old ++ deed ∷ []) next }
+    requires stands { StandsFor (publisher.old ++ ghost_act ∷ []) next }
     requires config { next.config ≡ N.opening.config }
     requires step { (call : ACall) × ((answer : Answer) × IsStep bucket.old call answer (record bucket.old { version = next })) }
-    ensures ok { OnOk result ((publisher.new ≡ publisher.old ++ deed ∷ [])
+    ensures ok { OnOk result ((publisher.new ≡ publisher.old ++ ghost_act ∷ [])
         × (bucket.new ≡ record bucket.old { version = next })) }
     ensures err { IfErr result (λ e. e ≡ OutOfMemory) }
     ensures unchanged { OnErr result ((publisher.new ≡ publisher.old) × (bucket.new ≡ bucket.old)) }
 {
-    publisher.publish(rt, deed, &next)?;
+    publisher.publish(rt, ghost_act, &next)?;
     bucket.go_on_to(next);
     Ok(())
 }
@@ -107,8 +107,8 @@ impl<N: LiveName> Keeper<N> {
         let Keeper { bucket, publisher } = self;
         let next = bucket.version().apply(bucket.alloc(), request)?;
         let revision = next.revision();
-        let deed = Deed::wrote(request, revision);
-        keep(rt, bucket, publisher, deed, next)?;
+        let ghost_act = GhostAct::wrote(request, revision);
+        keep(rt, bucket, publisher, ghost_act, next)?;
         Ok(revision)
     }
 
@@ -120,7 +120,7 @@ impl<N: LiveName> Keeper<N> {
     {
         let Keeper { bucket, publisher } = self;
         let next = bucket.version().seal(bucket.alloc())?;
-        keep(rt, bucket, publisher, Deed::seal(), next)?;
+        keep(rt, bucket, publisher, GhostAct::seal(), next)?;
         Ok(())
     }
 
@@ -135,7 +135,7 @@ impl<N: LiveName> Keeper<N> {
         let Keeper { bucket, publisher } = self;
         bucket.may_compact(floor)?;
         let next = bucket.version().compact(bucket.alloc(), floor)?;
-        keep(rt, bucket, publisher, Deed::compact(floor), next)?;
+        keep(rt, bucket, publisher, GhostAct::compact(floor), next)?;
         Ok(())
     }
 
@@ -220,7 +220,7 @@ impl<N: LiveName> Keeper<N> {
         ensures yes { result ≡ true → receipt.now ≡ self.old.published }
         ensures no { result ≡ false → length receipt.now < length self.old.published }
     {
-        self.publisher.is_seen(receipt.mark().front())
+        self.publisher.is_seen(receipt.mark().prefix())
     }
 
     /// A mark behind all that is published.
@@ -248,7 +248,7 @@ impl<N: LiveName> Keeper<N> {
         Ok((revision, self.publisher.receipt(revision)))
     }
 
-    /// Seats another reader, which has seen nothing and is told of all that is published. `NoReader` where all places
+    /// Adds a reader, which has seen nothing and is told of all that is published. `NoReader` where all places
     /// of the opening are taken; a reader that is dropped frees its place.
     pub fn reader(&self) -> Result<Reader<N>, KvError>
         ensures ok { IfOk result (λ reader. (reader.seen ≡ []) × (reader.told ≡ self.now.published)) }

@@ -5,9 +5,9 @@
 mod cached;
 mod feed;
 mod keeper;
-mod knowledge;
 pub mod laws;
 mod live;
+mod progress;
 mod publisher;
 mod reader;
 mod receipt;
@@ -17,9 +17,9 @@ pub use feed::Feed;
 pub use keeper::Keeper;
 pub use kv_publish::{LiveName, Woken};
 pub use kv_single::{
-    Bucket, Call, Config, Cursor, Event, Filter, Filters, Kept, Key, KvError, Op, Options, Place,
-    Reply, Request, Rev, Seen, Short, Shown, Start, Status, Stopped, Taken, Trie, Version, Visit,
-    Write, fnv32, given,
+    Bucket, Call, Config, Cursor, Event, Filter, Filters, Key, KeyHistory, KvError, Op, Options,
+    Place, Reply, Request, Rev, Seen, Short, Shown, Start, Status, Stopped, Taken, Trie, Version,
+    Visit, Write, fnv32, given,
 };
 pub use live::{Live, Opened};
 pub use reader::Reader;

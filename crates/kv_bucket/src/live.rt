@@ -17,7 +17,7 @@ use crate::reader::Reader;
 use crate::receipt::Receipt;
 use kv_keys::KvError;
 use kv_model::{Config, Request};
-use kv_publish::{Bell, Blank, LiveName};
+use kv_publish::{FreshJournal, LiveName, Notifier};
 use kv_single::Bucket;
 use std::alloc::Global;
 use std::marker::{Brand, Model};
@@ -31,7 +31,7 @@ const MOST_READERS: usize = 32;
 pub struct Opened {
     alloc: Global,
     bucket: Bucket,
-    blank: Blank,
+    fresh: FreshJournal,
     readers: usize,
 }
 
@@ -40,7 +40,7 @@ impl Drop for Opened {
         let Self {
             alloc: _,
             bucket: _,
-            blank: _,
+            fresh: _,
             readers: _,
         } = self;
     }
@@ -55,7 +55,7 @@ impl Model for Opened {
     ghost Value = { Unnamed };
 
     ghost view = { λ o. record {
-      opening = record { book = o.blank.sight.book; config = o.bucket.version.config };
+      opening = record { book = o.fresh.witness.book; config = o.bucket.version.config };
       readers = o.readers;
     } };
 
@@ -66,7 +66,7 @@ impl Model for Opened {
 pub struct Live<N: LiveName> {
     keeper: Mutex<Keeper<N>>,
     /// It tells the readers that sleep.
-    bell: Bell<N>,
+    notifier: Notifier<N>,
 }
 
 impl Live<Brand> {
@@ -83,29 +83,29 @@ impl Live<Brand> {
             return Err(KvError::NoReader);
         }
         let bucket = Bucket::open(alloc, config)?;
-        let Some(blank) = Blank::new() else {
+        let Some(fresh) = FreshJournal::new() else {
             return Err(KvError::OutOfMemory);
         };
         Ok(Opened {
             alloc,
             bucket,
-            blank,
+            fresh,
             readers,
         })
     }
 }
 
-fn readers_and_bell<N: LiveName>(
+fn readers_and_notifier<N: LiveName>(
     publisher: &Publisher<N>,
     readers: usize,
-) -> Result<(Vec<Reader<N>>, Bell<N>), KvError>
+) -> Result<(Vec<Reader<N>>, Notifier<N>), KvError>
     ensures ok { IfOk result
         (λ r. (length r.0.items ≡ readers)
         × All (λ reader. (reader.seen ≡ []) × (reader.told ≡ publisher.now)) r.0.items) }
     ensures err { IfErr result IsUnread }
 {
     let readers = publisher.readers(readers)?;
-    Ok((readers, publisher.bell()?))
+    Ok((readers, publisher.notifier()?))
 }
 
 // What this lies under the lock of, and its readers. Where they are refused it has ended.
@@ -119,11 +119,11 @@ fn live_of<N: LiveName, R: Wait>(
         × All (λ reader. (reader.seen ≡ []) × (reader.told ≡ keeper.published)) r.1.items) }
     ensures err { IfErr result IsUnread }
 {
-    match readers_and_bell(&keeper.publisher, readers) {
-        Ok((readers, bell)) => {
+    match readers_and_notifier(&keeper.publisher, readers) {
+        Ok((readers, notifier)) => {
             let live = Live {
                 keeper: Mutex::new(keeper),
-                bell,
+                notifier,
             };
             Ok((live, readers))
         }
@@ -146,10 +146,10 @@ impl Opened {
         let Opened {
             alloc,
             bucket,
-            blank,
+            fresh,
             readers,
         } = self;
-        let publisher: Publisher<N> = Publisher::new(rt, alloc, blank, bucket.version(), readers)?;
+        let publisher: Publisher<N> = Publisher::new(rt, alloc, fresh, bucket.version(), readers)?;
         live_of(rt, Keeper { bucket, publisher }, readers)
     }
 }
@@ -258,13 +258,16 @@ impl<N: LiveName> Live<N> {
     /// Tells those who wait, and those who will, that no write comes any more: their waits end once they have seen all
     /// that was published. It takes no lock, and changes nothing else; a write that comes all the same is published.
     pub fn finish(&self) {
-        self.bell.close();
+        self.notifier.close();
     }
 
     /// Ends the bucket's writer. Readers and feeds go on, to the last version that was published. It waits for the
     /// readers that are reading.
     pub fn close<R: Wait>(self, rt: &R) {
-        let Live { keeper, bell: _ } = self;
+        let Live {
+            keeper,
+            notifier: _,
+        } = self;
         keeper.into_inner().close(rt);
     }
 }

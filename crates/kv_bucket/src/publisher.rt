@@ -7,12 +7,15 @@ ghost use Rattle.kv_store.specs.Standing.{StandsFor};
 ghost use Rattle.kv_bucket.specs.Known.{IsUnread};
 ghost use Rattle.kv_bucket.specs.Histories.{IsPublishedHistory};
 ghost use Rattle.kv_bucket.specs.Receipts.{EndsAt};
-ghost use Rattle.kv_publish.specs.Shelves.{IsOf};
+ghost use Rattle.kv_publish.specs.Publications.{IsOf};
 
 use crate::reader::Reader;
 use crate::receipt::{Mark, Receipt};
 use kv_keys::KvError;
-use kv_publish::{Bell, Blank, Copies, Deed, Front, Last, LiveName, Right, Shelf, Whole};
+use kv_publish::{
+    DoubleBuffer, FreshJournal, GhostAct, Journal, LastPublished, LiveName, Notifier, Prefix,
+    Publication, Right,
+};
 use kv_store::Version;
 use std::alloc::Global;
 use std::marker::Model;
@@ -24,11 +27,11 @@ const MOST_ACTS: u64 = 1 << 61;
 
 // Waits for room for one act more. There always is; where there were none, this would wait for ever, as a call that waits
 // may: no refusal stands for it.
-fn await_room<N: LiveName, R: Wait>(rt: &R, whole: &Whole<N>)
-    ensures { length whole.now < 2 ^ 61 }
+fn await_room<N: LiveName, R: Wait>(rt: &R, journal: &Journal<N>)
+    ensures { length journal.now < 2 ^ 61 }
 {
     for _ in rt.forever() {
-        if whole.len() < MOST_ACTS {
+        if journal.len() < MOST_ACTS {
             return;
         }
     }
@@ -40,127 +43,136 @@ fn await_room<N: LiveName, R: Wait>(rt: &R, whole: &Whole<N>)
 pub struct Publisher<N: LiveName> {
     alloc: Global,
     /// It tells the readers.
-    bell: Bell<N>,
+    notifier: Notifier<N>,
     /// What a reader begins on that has not entered.
-    empty: Shelf,
+    empty: Publication,
     /// The history of what is published, whole.
-    whole: Whole<N>,
+    journal: Journal<N>,
     /// It is `None` within a publish alone.
-    copies: Option<Copies<N>>,
+    buffer: Option<DoubleBuffer<N>>,
 }
 
 impl<N: LiveName> Model for Publisher<N> {
     ghost use Rattle.std.specs.Prelude.{◌≡◌, [], List, IfSome, IsSome};
     ghost use Rattle.kv_model.specs.Acts.{Act};
-    ghost use Rattle.kv_publish.specs.Shelves.{IsOf};
+    ghost use Rattle.kv_publish.specs.Publications.{IsOf};
     ghost use Rattle.kv_bucket.specs.Histories.{IsPublishedHistory};
 
     ghost Value = { List Act };
 
-    ghost view = { λ p. p.whole };
+    ghost view = { λ p. p.journal };
 
-    ghost invariant = { λ p. IsSome p.copies × IfSome p.copies (λ c. c ≡ p.whole) × IsOf N.opening p.empty ×
-        (p.empty.glimpse.acts ≡ []) × IsPublishedHistory N.opening.config p.whole };
+    ghost invariant = { λ p. IsSome p.buffer × IfSome p.buffer (λ c. c ≡ p.journal) × IsOf N.opening p.empty ×
+        (p.empty.raw_prefix.acts ≡ []) × IsPublishedHistory N.opening.config p.journal };
 }
 
-// What a publisher begins with besides its copies: its bell, the empty shelf, its history, of which nothing is
+// What a publisher begins with besides its copies: its notifier, the empty publication, its history, of which nothing is
 // published, and the rights of the copies.
 fn beginning<N: LiveName>(
     alloc: Global,
-    blank: Blank,
+    fresh: FreshJournal,
     version: &Version,
-) -> Result<(Bell<N>, Shelf, Whole<N>, Right<N>, Right<N>), KvError>
-    requires book { blank.sight.book ≡ N.opening.book }
+) -> Result<(Notifier<N>, Publication, Journal<N>, Right<N>, Right<N>), KvError>
+    requires book { fresh.witness.book ≡ N.opening.book }
     requires config { version.now.config ≡ N.opening.config }
     requires stands { StandsFor [] version.now }
-    ensures { MatchResult result (λ r. IsOf N.opening r.1 × (r.1.glimpse.acts ≡ []) × (r.2 ≡ []))
+    ensures { MatchResult result (λ r. IsOf N.opening r.1 × (r.1.raw_prefix.acts ≡ []) × (r.2 ≡ []))
         (λ e. e ≡ OutOfMemory) }
 {
-    let bell = Bell::new(alloc)?;
+    let notifier = Notifier::new(alloc)?;
     let version = version.snapshot()?;
-    let (whole, first, second) = blank.named::<N>();
-    let empty = Shelf::new(version, whole.glimpse());
-    Ok((bell, empty, whole, first, second))
+    let (journal, first, second) = fresh.named::<N>();
+    let empty = Publication::new(version, journal.raw_prefix());
+    Ok((notifier, empty, journal, first, second))
 }
 
 // Adds an act to the history, and publishes the version after it.
 fn show<N: LiveName, R: Wait>(
     rt: &R,
-    whole: &mut Whole<N>,
-    copies: Copies<N>,
-    deed: Deed,
+    journal: &mut Journal<N>,
+    buffer: DoubleBuffer<N>,
+    ghost_act: GhostAct,
     version: Version,
-) -> Copies<N>
-    requires room { length whole.old < 2 ^ 62 }
-    requires stands { StandsFor (whole.old ++ deed ∷ []) version }
+) -> DoubleBuffer<N>
+    requires room { length journal.old < 2 ^ 62 }
+    requires stands { StandsFor (journal.old ++ ghost_act ∷ []) version }
     requires config { version.config ≡ N.opening.config }
-    ensures added { whole.new ≡ whole.old ++ deed ∷ [] }
-    ensures shown { result ≡ whole.new }
+    ensures added { journal.new ≡ journal.old ++ ghost_act ∷ [] }
+    ensures shown { result ≡ journal.new }
 {
-    whole.add(deed);
-    let shelf = Shelf::new(version, whole.glimpse());
-    copies.publish(rt, shelf)
+    journal.add(ghost_act);
+    let publication = Publication::new(version, journal.raw_prefix());
+    buffer.publish(rt, publication)
 }
 
 // Puts the copies in their place, which is empty. What stands there would end.
-fn put<N: LiveName, R: Wait>(rt: &R, place: &mut Option<Copies<N>>, copies: Option<Copies<N>>)
-    ensures { place.new ≡ copies }
+fn put<N: LiveName, R: Wait>(
+    rt: &R,
+    place: &mut Option<DoubleBuffer<N>>,
+    buffer: Option<DoubleBuffer<N>>,
+)
+    ensures { place.new ≡ buffer }
 {
-    end(rt, mem::replace(place, copies));
+    end(rt, mem::replace(place, buffer));
 }
 
 // Ends the copies, if there are any.
-fn end<N: LiveName, R: Wait>(rt: &R, copies: Option<Copies<N>>) {
-    if let Some(copies) = copies {
-        copies.close(rt);
+fn end<N: LiveName, R: Wait>(rt: &R, buffer: Option<DoubleBuffer<N>>) {
+    if let Some(buffer) = buffer {
+        buffer.close(rt);
     }
 }
 
 impl<N: LiveName> Publisher<N> {
-    /// The publisher of an opening of which nothing is published, with room for so many readers. The bell's word has
+    /// The publisher of an opening of which nothing is published, with room for so many readers. The notifier's word has
     /// room to count that many of them asleep.
     pub fn new<R: Wait>(
         rt: &R,
         alloc: Global,
-        blank: Blank,
+        fresh: FreshJournal,
         version: &Version,
         readers: usize,
     ) -> Result<Publisher<N>, KvError>
-        requires book { blank.sight.book ≡ N.opening.book }
+        requires book { fresh.witness.book ≡ N.opening.book }
         requires config { version.now.config ≡ N.opening.config }
         requires stands { StandsFor [] version.now }
         requires readers { (0 < readers) × (readers < 2 ^ 16) }
         ensures { MatchResult result (λ p. p ≡ []) (λ e. e ≡ OutOfMemory) }
     {
-        let (bell, empty, whole, first, second) = beginning(alloc, blank, version)?;
-        let copies = Copies::new(rt, alloc, first, second, &empty, readers)?;
+        let (notifier, empty, journal, first, second) = beginning(alloc, fresh, version)?;
+        let buffer = DoubleBuffer::new(rt, alloc, first, second, &empty, readers)?;
         Ok(Publisher {
             alloc,
-            bell,
+            notifier,
             empty,
-            whole,
-            copies: Some(copies),
+            journal,
+            buffer: Some(buffer),
         })
     }
 
     /// Publishes an act, with the version after it, and wakes those who sleep until then. It waits for readers that are
     /// inside the copy that is to change. All that can be refused is asked for before the history has the act; where it
     /// is refused nothing has changed.
-    pub fn publish<R: Wait>(&mut self, rt: &R, deed: Deed, next: &Version) -> Result<(), KvError>
-        requires stands { StandsFor (self.old ++ deed ∷ []) next.now }
+    pub fn publish<R: Wait>(
+        &mut self,
+        rt: &R,
+        ghost_act: GhostAct,
+        next: &Version,
+    ) -> Result<(), KvError>
+        requires stands { StandsFor (self.old ++ ghost_act ∷ []) next.now }
         requires config { next.now.config ≡ N.opening.config }
-        ensures ok { OnOk result (self.new ≡ self.old ++ deed ∷ []) }
+        ensures ok { OnOk result (self.new ≡ self.old ++ ghost_act ∷ []) }
         ensures err { IfErr result (λ e. e ≡ OutOfMemory) }
         ensures unchanged { OnErr result (self.new ≡ self.old) }
     {
         let version = next.snapshot()?;
-        await_room(rt, &self.whole);
-        let Some(copies) = self.copies.take() else {
+        await_room(rt, &self.journal);
+        let Some(buffer) = self.buffer.take() else {
             unreachable!()
         };
-        let copies = show(rt, &mut self.whole, copies, deed, version);
-        put(rt, &mut self.copies, Some(copies));
-        self.bell.ring();
+        let buffer = show(rt, &mut self.journal, buffer, ghost_act, version);
+        put(rt, &mut self.buffer, Some(buffer));
+        self.notifier.notify();
         Ok(())
     }
 
@@ -168,30 +180,30 @@ impl<N: LiveName> Publisher<N> {
     pub fn history(&self)
         ensures { IsPublishedHistory N.opening.config self.now }
     {
-        self.whole.len();
+        self.journal.len();
     }
 
     /// Whether all that is published was seen. What was seen is always a beginning of that.
-    pub fn is_seen(&mut self, front: &Front<N>) -> bool
+    pub fn is_seen(&mut self, prefix: &Prefix<N>) -> bool
         ensures same { self.new ≡ self.old }
-        ensures within { IsPrefix front.now self.old }
-        ensures yes { result ≡ true → front.now ≡ self.old }
-        ensures no { result ≡ false → length front.now < length self.old }
+        ensures within { IsPrefix prefix.now self.old }
+        ensures yes { result ≡ true → prefix.now ≡ self.old }
+        ensures no { result ≡ false → length prefix.now < length self.old }
     {
-        self.whole.is_seen(front)
+        self.journal.is_seen(prefix)
     }
 
     /// A new reader, which is told of all that is published.
     pub fn reader(&self) -> Result<Reader<N>, KvError>
         ensures { MatchResult result (λ r. (r.seen ≡ []) × (r.told ≡ self.now)) IsUnread }
     {
-        let Some(copies) = &self.copies else {
+        let Some(buffer) = &self.buffer else {
             unreachable!()
         };
-        let empty = self.empty.again()?;
-        let bell = self.bell.again()?;
-        let seat = copies.seat()?;
-        Ok(Reader::new(self.alloc, bell, seat, self.whole.front(), empty))
+        let empty = self.empty.try_clone()?;
+        let notifier = self.notifier.try_clone()?;
+        let slot = buffer.slot()?;
+        Ok(Reader::new(self.alloc, notifier, slot, self.journal.prefix(), empty))
     }
 
     /// As many readers.
@@ -223,18 +235,18 @@ impl<N: LiveName> Publisher<N> {
         Ok(())
     }
 
-    /// The bell that it rings.
-    pub fn bell(&self) -> Result<Bell<N>, KvError>
+    /// The notifier that it calls.
+    pub fn notifier(&self) -> Result<Notifier<N>, KvError>
         ensures { IfErr result (λ e. e ≡ OutOfMemory) }
     {
-        self.bell.again()
+        self.notifier.try_clone()
     }
 
     /// A mark behind all that is published.
     pub fn mark(&self) -> Mark<N>
         ensures { result ≡ self.now }
     {
-        Mark::new(self.whole.front())
+        Mark::new(self.journal.prefix())
     }
 
     /// A receipt for all that is published, of which the write with this revision is the last.
@@ -252,21 +264,21 @@ impl<N: LiveName> Publisher<N> {
         requires config { version.now.config ≡ N.opening.config }
     {
         self.leave(version);
-        let (bell, copies) = self.into_bell_and_copies();
-        end(rt, copies);
-        bell.close();
+        let (notifier, buffer) = self.into_notifier_and_buffer();
+        end(rt, buffer);
+        notifier.close();
     }
 
     // What an end still needs of it.
-    fn into_bell_and_copies(self) -> (Bell<N>, Option<Copies<N>>) {
+    fn into_notifier_and_buffer(self) -> (Notifier<N>, Option<DoubleBuffer<N>>) {
         let Publisher {
             alloc: _,
-            bell,
+            notifier,
             empty: _,
-            whole: _,
-            copies,
+            journal: _,
+            buffer,
         } = self;
-        (bell, copies)
+        (notifier, buffer)
     }
 
     // Leaves the version of what is published for readers that come later.
@@ -275,8 +287,10 @@ impl<N: LiveName> Publisher<N> {
         requires config { version.now.config ≡ N.opening.config }
     {
         if let Ok(version) = version.snapshot() {
-            self.bell
-                .leave(Last::new(Shelf::new(version, self.whole.glimpse())));
+            self.notifier.leave(LastPublished::new(Publication::new(
+                version,
+                self.journal.raw_prefix(),
+            )));
         }
     }
 }

@@ -7,16 +7,16 @@ ghost use Rattle.kv_model.specs.Acts.{IsPrefix, floor_of};
 ghost use Rattle.kv_store.specs.Standing.{StandsFor};
 ghost use Rattle.kv_bucket.specs.Known.{IsUnread};
 ghost use Rattle.kv_bucket.specs.inside.Fed.{TellsLag, TellsLagOf, IsNotShown};
-ghost use Rattle.kv_publish.specs.Shelves.{IsOf};
+ghost use Rattle.kv_publish.specs.Publications.{IsOf};
 
 use crate::cached::Cached;
-use crate::knowledge::Knowledge;
+use crate::progress::Progress;
 use crate::receipt::{Mark, Receipt};
 use kv_keys::KvError;
-use kv_publish::{Bell, Front, Gets, LiveName, Published, Shelf, Side, Woken};
+use kv_publish::{Gets, LiveName, Notifier, Prefix, Publication, PublishRule, Side, Woken};
 use kv_store::Version;
 use kv_watch::Cursor;
-use left_right::reader::Reader as Seat;
+use left_right::reader::Reader as Slot;
 use std::alloc::Global;
 use std::marker::Model;
 use std::rt::Clock;
@@ -27,19 +27,19 @@ use std::time::Duration;
 /// told of.
 pub struct Reader<N: LiveName> {
     alloc: Global,
-    bell: Bell<N>,
-    seat: Option<Seat<Side, (), Published<N>>>,
-    knowledge: Knowledge<N>,
-    empty: Shelf,
+    notifier: Notifier<N>,
+    slot: Option<Slot<Side, (), PublishRule<N>>>,
+    progress: Progress<N>,
+    empty: Publication,
 }
 
 impl<N: LiveName> Drop for Reader<N> {
     fn drop(self) {
         let Self {
             alloc: _,
-            bell: _,
-            seat: _,
-            knowledge: _,
+            notifier: _,
+            slot: _,
+            progress: _,
             empty: _,
         } = self;
     }
@@ -48,31 +48,31 @@ impl<N: LiveName> Drop for Reader<N> {
 impl<N: LiveName> Model for Reader<N> {
     ghost use Rattle.std.specs.Prelude.{◌≡◌, [], IsSome};
     ghost use Rattle.kv_bucket.specs.Known.{Known};
-    ghost use Rattle.kv_publish.specs.Shelves.{IsOf};
+    ghost use Rattle.kv_publish.specs.Publications.{IsOf};
 
     ghost Value = { Known };
 
-    ghost view = { λ r. r.knowledge };
+    ghost view = { λ r. r.progress };
 
-    ghost invariant = { λ r. IsSome r.seat × IsOf N.opening r.empty × (r.empty.glimpse.acts ≡ []) };
+    ghost invariant = { λ r. IsSome r.slot × IsOf N.opening r.empty × (r.empty.raw_prefix.acts ≡ []) };
 }
 
 impl<N: LiveName> Reader<N> {
     pub(crate) fn new(
         alloc: Global,
-        bell: Bell<N>,
-        seat: Seat<Side, (), Published<N>>,
-        told: Front<N>,
-        empty: Shelf,
+        notifier: Notifier<N>,
+        slot: Slot<Side, (), PublishRule<N>>,
+        told: Prefix<N>,
+        empty: Publication,
     ) -> Reader<N>
-        requires { IsOf N.opening empty × (empty.glimpse.acts ≡ []) }
+        requires { IsOf N.opening empty × (empty.raw_prefix.acts ≡ []) }
         ensures { (result.seen ≡ []) × (result.told ≡ told) }
     {
         Reader {
             alloc,
-            bell,
-            seat: Some(seat),
-            knowledge: Knowledge::new(&empty, told),
+            notifier,
+            slot: Some(slot),
+            progress: Progress::new(&empty, told),
             empty,
         }
     }
@@ -87,8 +87,8 @@ impl<N: LiveName> Reader<N> {
             (λ v. StandsFor self.new.seen v × (v.config ≡ N.opening.config) × IsPrefix self.old.told self.new.seen) }
         ensures err { IfErr result IsUnread }
     {
-        let shelf = self.shelf()?;
-        Ok(shelf.into_version())
+        let publication = self.publication()?;
+        Ok(publication.into_version())
     }
 
     /// The version that is published, to be kept for many reads and refreshed between them. It costs what `version`
@@ -99,8 +99,8 @@ impl<N: LiveName> Reader<N> {
         ensures ok { IfOk result (λ c. (c ≡ self.new.seen) × IsPrefix self.old.told self.new.seen) }
         ensures err { IfErr result IsUnread }
     {
-        let shelf = self.shelf()?;
-        Ok(Cached::new(shelf))
+        let publication = self.publication()?;
+        Ok(Cached::new(publication))
     }
 
     /// Has what was cached go on to the version that is published; once the bucket was closed, to the last one. Where
@@ -113,7 +113,7 @@ impl<N: LiveName> Reader<N> {
         ensures unchanged { OnErr result (cached.new ≡ cached.old) }
         ensures err { IfErr result IsUnread }
     {
-        if cached.is_all_of(&self.knowledge) && !self.bell.has_more(self.knowledge.taken_in()) {
+        if cached.is_all_of(&self.progress) && !self.notifier.has_more(self.progress.taken_in()) {
             return Ok(());
         }
         self.go_on(cached)?;
@@ -122,27 +122,27 @@ impl<N: LiveName> Reader<N> {
 
     // Enters, has what was cached go on to what is there, and answers what that left: who lets it go does so outside,
     // where no publish waits for it.
-    fn go_on(&mut self, cached: &mut Cached<N>) -> Result<Option<Shelf>, KvError>
+    fn go_on(&mut self, cached: &mut Cached<N>) -> Result<Option<Publication>, KvError>
         ensures later { IsPrefix self.old.seen self.new.seen }
         ensures told { self.new.told ≡ self.old.told }
         ensures ok { OnOk result ((cached.new ≡ self.new.seen) × IsPrefix self.old.told self.new.seen) }
-        ensures left { IfOk result (λ left. IfSome left (λ shelf. shelf.glimpse.acts ≡ cached.old)) }
+        ensures left { IfOk result (λ left. IfSome left (λ publication. publication.raw_prefix.acts ≡ cached.old)) }
         ensures unchanged { OnErr result (cached.new ≡ cached.old) }
         ensures err { IfErr result IsUnread }
     {
-        let Some(seat) = self.seat.take() else {
+        let Some(slot) = self.slot.take() else {
             unreachable!()
         };
-        match seat.enter_as::<Gets<N>>() {
+        match slot.enter_as::<Gets<N>>() {
             Ok(reading) => {
-                let done = cached.go_on(&mut self.knowledge, reading.get().shelf());
-                self.seat = Some(reading.leave());
+                let done = cached.go_on(&mut self.progress, reading.get().publication());
+                self.slot = Some(reading.leave());
                 done
             }
-            Err(seat) => {
-                self.seat = Some(seat);
-                match self.bell.last() {
-                    Some(last) => cached.go_on(&mut self.knowledge, last.shelf()),
+            Err(slot) => {
+                self.slot = Some(slot);
+                match self.notifier.last() {
+                    Some(last) => cached.go_on(&mut self.progress, last.publication()),
                     None => Err(KvError::NoReader),
                 }
             }
@@ -151,13 +151,14 @@ impl<N: LiveName> Reader<N> {
 
     /// Sleeps until something is published that it has not taken in, or the bucket is closed. It takes no lock.
     pub fn wait<R: Wait>(&self, rt: &R) -> Woken {
-        self.bell.wait(rt, self.knowledge.taken_in())
+        self.notifier.wait(rt, self.progress.taken_in())
     }
 
     /// The same, for no longer than the limit. It is `None` where the time was over first, or the clock couldn't be
     /// read.
     pub fn wait_timeout<R: Wait + Clock>(&self, rt: &R, limit: Duration) -> Option<Woken> {
-        self.bell.wait_timeout(rt, self.knowledge.taken_in(), limit)
+        self.notifier
+            .wait_timeout(rt, self.progress.taken_in(), limit)
     }
 
     /// A published version with at least this revision. Where there is none yet it waits; it is `None` where the bucket
@@ -201,23 +202,27 @@ impl<N: LiveName> Reader<N> {
     }
 
     /// What is published.
-    pub(crate) fn shelf(&mut self) -> Result<Shelf, KvError>
+    pub(crate) fn publication(&mut self) -> Result<Publication, KvError>
         ensures later { IsPrefix self.old.seen self.new.seen }
         ensures told { self.new.told ≡ self.old.told }
         ensures ok { IfOk result
-            (λ s. (s.glimpse.acts ≡ self.new.seen) × IsOf N.opening s × IsPrefix self.old.told self.new.seen) }
+            (λ s. (s.raw_prefix.acts ≡ self.new.seen) × IsOf N.opening s × IsPrefix self.old.told self.new.seen) }
         ensures stands { IfOk result (λ s. StandsFor self.new.seen s.version) }
         ensures err { IfErr result IsUnread }
     {
         self.look(None)
     }
 
-    /// What is published, for a feed that is on this shelf with this cursor, unless it lags behind that.
-    pub(crate) fn shelf_ahead(&mut self, current: &Shelf, cursor: &Cursor) -> Result<Shelf, KvError>
+    /// What is published, for a feed that is on this publication with this cursor, unless it lags behind that.
+    pub(crate) fn publication_ahead(
+        &mut self,
+        current: &Publication,
+        cursor: &Cursor,
+    ) -> Result<Publication, KvError>
         ensures later { IsPrefix self.old.seen self.new.seen }
         ensures told { self.new.told ≡ self.old.told }
         ensures ok { IfOk result
-            (λ s. (s.glimpse.acts ≡ self.new.seen) × IsOf N.opening s × IsPrefix self.old.told self.new.seen) }
+            (λ s. (s.raw_prefix.acts ≡ self.new.seen) × IsOf N.opening s × IsPrefix self.old.told self.new.seen) }
         ensures stands { IfOk result (λ s. StandsFor self.new.seen s.version) }
         ensures ahead { IfOk result (λ _. TellsLag current.now cursor.now (floor_of self.new.seen) false) }
         ensures err { IfErr result (IsNotShown (Some (current.now, cursor.now)) self.new.seen) }
@@ -227,61 +232,61 @@ impl<N: LiveName> Reader<N> {
 
     // What is published, or what was published last where the store lets nobody enter any more, unless this follower
     // lags behind it.
-    fn look(&mut self, follower: Option<(&Shelf, &Cursor)>) -> Result<Shelf, KvError>
+    fn look(&mut self, follower: Option<(&Publication, &Cursor)>) -> Result<Publication, KvError>
         ensures later { IsPrefix self.old.seen self.new.seen }
         ensures told { self.new.told ≡ self.old.told }
         ensures ok { IfOk result
-            (λ s. (s.glimpse.acts ≡ self.new.seen) × IsOf N.opening s × IsPrefix self.old.told self.new.seen) }
+            (λ s. (s.raw_prefix.acts ≡ self.new.seen) × IsOf N.opening s × IsPrefix self.old.told self.new.seen) }
         ensures stands { IfOk result (λ s. StandsFor self.new.seen s.version) }
         ensures ahead { IfOk result
             (λ _. TellsLagOf (option_map (λ f. (f.0.now, f.1.now)) follower.entry) (floor_of self.new.seen) false) }
         ensures err { IfErr result
             (IsNotShown (option_map (λ f. (f.0.now, f.1.now)) follower.entry) self.new.seen) }
     {
-        let Some(seat) = self.seat.take() else {
+        let Some(slot) = self.slot.take() else {
             unreachable!()
         };
-        match seat.enter_as::<Gets<N>>() {
+        match slot.enter_as::<Gets<N>>() {
             Ok(reading) => {
-                let shelf = self.knowledge.take_in(follower, reading.get().shelf());
-                self.seat = Some(reading.leave());
-                shelf
+                let publication = self.progress.take_in(follower, reading.get().publication());
+                self.slot = Some(reading.leave());
+                publication
             }
-            Err(seat) => {
-                self.seat = Some(seat);
-                match self.bell.last() {
-                    Some(last) => self.knowledge.take_in(follower, last.shelf()),
+            Err(slot) => {
+                self.slot = Some(slot);
+                match self.notifier.last() {
+                    Some(last) => self.progress.take_in(follower, last.publication()),
                     None => Err(KvError::NoReader),
                 }
             }
         }
     }
 
-    pub(crate) fn seen(&self) -> &Front<N>
+    pub(crate) fn seen(&self) -> &Prefix<N>
         ensures { result.now ≡ self.now.seen }
     {
-        self.knowledge.seen()
+        self.progress.seen()
     }
 
-    pub(crate) fn told(&self) -> &Front<N>
+    pub(crate) fn told(&self) -> &Prefix<N>
         ensures { result.now ≡ self.now.told }
     {
-        self.knowledge.told()
+        self.progress.told()
     }
 
-    pub(crate) fn bell(&self) -> &Bell<N> {
-        &self.bell
+    pub(crate) fn notifier(&self) -> &Notifier<N> {
+        &self.notifier
     }
 
     pub(crate) fn alloc(&self) -> Global {
         self.alloc
     }
 
-    /// The empty version, as a shelf.
-    pub(crate) fn empty_shelf(&self) -> Result<Shelf, KvError>
-        ensures { MatchResult result (λ s. IsOf N.opening s × (s.glimpse.acts ≡ [])) (λ e. e ≡ OutOfMemory) }
+    /// The empty version, as a publication.
+    pub(crate) fn empty_publication(&self) -> Result<Publication, KvError>
+        ensures { MatchResult result (λ s. IsOf N.opening s × (s.raw_prefix.acts ≡ [])) (λ e. e ≡ OutOfMemory) }
     {
-        self.empty.again()
+        self.empty.try_clone()
     }
 
     /// Takes in a receipt. Each version from now on stands for acts that begin with those that the receipt tells.
@@ -291,7 +296,7 @@ impl<N: LiveName> Reader<N> {
         ensures learned { IsPrefix receipt.now self.new.told }
         ensures one_list { (self.new.told ≡ self.old.told) ⊎ (self.new.told ≡ receipt.now) }
     {
-        self.knowledge.learn(receipt.mark());
+        self.progress.learn(receipt.mark());
     }
 
     /// Takes in a mark, as a receipt.
@@ -301,7 +306,7 @@ impl<N: LiveName> Reader<N> {
         ensures learned { IsPrefix mark.now self.new.told }
         ensures one_list { (self.new.told ≡ self.old.told) ⊎ (self.new.told ≡ mark.now) }
     {
-        self.knowledge.learn(mark);
+        self.progress.learn(mark);
     }
 
     /// Whether it has seen all that the other reader has. What the readers of one opening have seen are beginnings of
@@ -310,7 +315,7 @@ impl<N: LiveName> Reader<N> {
         ensures yes { result ≡ true → IsPrefix other.now.seen self.now.seen }
         ensures no { result ≡ false → IsPrefix self.now.seen other.now.seen }
     {
-        self.knowledge.has_seen_all_of(&other.knowledge)
+        self.progress.has_seen_all_of(&other.progress)
     }
 
     /// Whether it has seen what the receipt tells. Where it has not, what it has seen is a beginning of that.
@@ -318,6 +323,6 @@ impl<N: LiveName> Reader<N> {
         ensures yes { result ≡ true → IsPrefix receipt.now self.now.seen }
         ensures no { result ≡ false → IsPrefix self.now.seen receipt.now }
     {
-        self.knowledge.has_seen(receipt.mark())
+        self.progress.has_seen(receipt.mark())
     }
 }

@@ -3,14 +3,14 @@
 ghost use Rattle.std.specs.Prelude.{◌≡◌};
 ghost use Rattle.kv_bucket.specs.Receipts.{EndsAt};
 
-use kv_publish::{Front, LiveName};
+use kv_publish::{LiveName, Prefix};
 use std::marker::Model;
 
 /// Tells how far what is published goes, to any number of readers of the same opening. Contracts see it as the acts that
 /// it tells.
 #[derive(Drop)]
 pub struct Mark<N: LiveName> {
-    front: Front<N>,
+    prefix: Prefix<N>,
 }
 
 impl<N: LiveName> Model for Mark<N> {
@@ -19,20 +19,20 @@ impl<N: LiveName> Model for Mark<N> {
 
     ghost Value = { List Act };
 
-    ghost view = { λ m. m.front };
+    ghost view = { λ m. m.prefix };
 }
 
 impl<N: LiveName> Mark<N> {
-    pub(crate) fn new(front: Front<N>) -> Mark<N>
-        ensures { result ≡ front }
+    pub(crate) fn new(prefix: Prefix<N>) -> Mark<N>
+        ensures { result ≡ prefix }
     {
-        Mark { front }
+        Mark { prefix }
     }
 
-    pub(crate) fn front(&self) -> &Front<N>
+    pub(crate) fn prefix(&self) -> &Prefix<N>
         ensures { result.now ≡ self.now }
     {
-        &self.front
+        &self.prefix
     }
 }
 

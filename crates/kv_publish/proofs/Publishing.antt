@@ -3,12 +3,12 @@ use Rattle.std.proofs.Common.{◌≡◌, true, false, List, [], ◌∷◌, ◌++
 use Rattle.std.specs.Prelude.{MatchResult}
 use Rattle.logbook.specs.Pages.{Named}
 use Rattle.kv_model.specs.Configuration.{Configuration}
-use Rattle.kv_publish.specs.Glimpses.{Glimpsed}
-use Rattle.kv_publish.specs.Shelves.{Shelved, common_after}
+use Rattle.kv_publish.specs.Prefixes.{JournalPrefix}
+use Rattle.kv_publish.specs.Publications.{Published, common_after}
 use Rattle.kv_publish.specs.inside.Waiting.{waiting}
 
 -- what is absorbed last stands alone
-pub common_last : (s : Glimpsed × Configuration × Named) (ops : List Shelved) (op : Shelved) → fold common_after s (ops ++ op ∷ []) ≡ common_after s op
+pub common_last : (s : JournalPrefix × Configuration × Named) (ops : List Published) (op : Published) → fold common_after s (ops ++ op ∷ []) ≡ common_after s op
 common_last s [] op = refl
 common_last s (x ∷ ops) op = common_last (common_after s x) ops op
 

@@ -4,30 +4,30 @@ use Rattle.std.proofs.lemmas.Bool.Decides.{nat_tests}
 use Rattle.kv_model.specs.Acts.{Act, IsPrefix}
 use Rattle.kv_publish.specs.declared.entry.Entry.{Entry}
 use Rattle.kv_publish.specs.Rules.{acts_in}
-use Rattle.kv_publish.proofs.Prefixes.{prefix_trans, prefix_whole}
+use Rattle.kv_publish.proofs.Prefixes.{prefix_trans, prefix_journal}
 
 pub acts_prefix : (xs ys : List Entry) → IsPrefix xs ys → IsPrefix (acts_in xs) (acts_in ys)
 acts_prefix [] ys p = (acts_in ys, refl)
 acts_prefix (x ∷ xs) [] p = absurd (cc (p.1))
 acts_prefix (x ∷ xs) (y ∷ ys) p =
     let heads : x ≡ y = cc (p.1) in
-    let rest = acts_prefix xs ys (p.0, cc (p.1)) in (rest.0, cc (ap (λ (e : Entry). e.deed) heads, rest.1))
+    let rest = acts_prefix xs ys (p.0, cc (p.1)) in (rest.0, cc (ap (λ (e : Entry). e.ghost_act) heads, rest.1))
 
 pub acts_length : (log : List Entry) → length (acts_in log) ≡ length log
 acts_length [] = refl
 acts_length (e ∷ log) = ap suc (acts_length log)
 
-pub acts_more : (log : List Entry) (e : Entry) → acts_in (log ++ e ∷ []) ≡ acts_in log ++ e.deed ∷ []
+pub acts_more : (log : List Entry) (e : Entry) → acts_in (log ++ e ∷ []) ≡ acts_in log ++ e.ghost_act ∷ []
 acts_more [] e = refl
-acts_more (x ∷ log) e = ap (λ (acts : List Act). x.deed ∷ acts) (acts_more log e)
+acts_more (x ∷ log) e = ap (λ (acts : List Act). x.ghost_act ∷ acts) (acts_more log e)
 
 -- what was seen together with the whole is a beginning of the whole
-pub seen_within : (front acts : List Act) (whole both now : List Entry) → acts_in whole ≡ acts → IsPrefix front (acts_in both) → IsPrefix both now → now ≡ whole → IsPrefix front acts
-seen_within front acts whole both now view seen more same =
-    subst (IsPrefix front) (ap acts_in same ∙ view) (prefix_trans front (acts_in both) (acts_in now) seen (acts_prefix both now more))
+pub seen_within : (prefix acts : List Act) (journal both now : List Entry) → acts_in journal ≡ acts → IsPrefix prefix (acts_in both) → IsPrefix both now → now ≡ journal → IsPrefix prefix acts
+seen_within prefix acts journal both now view seen more same =
+    subst (IsPrefix prefix) (ap acts_in same ∙ view) (prefix_trans prefix (acts_in both) (acts_in now) seen (acts_prefix both now more))
 
 -- and all of it where it is as long
-pub seen_whole : (front acts : List Act) (whole : List Entry) (n m : ℕ) → acts_in whole ≡ acts → IsPrefix front acts → n ≡ length front → m ≡ length whole → nat_eq n m ≡ true → front ≡ acts
-seen_whole front acts whole n m view within long all is =
+pub seen_journal : (prefix acts : List Act) (journal : List Entry) (n m : ℕ) → acts_in journal ≡ acts → IsPrefix prefix acts → n ≡ length prefix → m ≡ length journal → nat_eq n m ≡ true → prefix ≡ acts
+seen_journal prefix acts journal n m view within long all is =
     let same : n ≡ m = grind (arith, nat_tests) in
-    prefix_whole front acts within (omega (arith, same, long, all, acts_length whole, ap length view))
+    prefix_journal prefix acts within (omega (arith, same, long, all, acts_length journal, ap length view))

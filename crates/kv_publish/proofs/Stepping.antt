@@ -152,7 +152,7 @@ looks_goes c cells log v ask p kept pre away =
       inl (refl, refl),
       (
         refl,
-        λ all front is. none ∙ all_seen (c ∷ cells) 3 all log (prefix_trans all v log front pre) kept.came
+        λ all prefix is. none ∙ all_seen (c ∷ cells) 3 all log (prefix_trans all v log prefix pre) kept.came
             (subst (λ (k : ℕ). (cell (c ∷ cells) k).1 ≡ false) (ap (λ (q : Nib). q.key) is) (away (ap (λ (q : Nib). q.right) is)).1),
       ),
     )

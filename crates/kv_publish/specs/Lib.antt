@@ -1,5 +1,5 @@
-pub mod Glimpses
+pub mod Prefixes
 pub mod Openings
 pub mod Rules
-pub mod Shelves
+pub mod Publications
 pub mod inside

@@ -5,7 +5,7 @@ use Rattle.kv_model.specs.Acts.{Act, Seal, IsPrefix}
 use Rattle.kv_publish.specs.declared.entry.Entry.{Entry}
 
 abbrev pub entry : Act → ℕ → Entry
-entry act next = record { deed = act; next = next }
+entry act next = record { ghost_act = act; next = next }
 
 -- stands where a step asks for nothing
 abbrev pub no_entry : Entry
@@ -13,7 +13,7 @@ no_entry = entry Seal 0
 
 -- the acts of a history
 abbrev pub acts_in : List Entry → List Act
-acts_in log = map (λ e. e.deed) log
+acts_in log = map (λ e. e.ghost_act) log
 
 -- the cell whose pen is the right to add an entry behind these, where the one behind nothing is `first`
 abbrev pub right_behind : ℕ → List Entry → ℕ

@@ -1,10 +1,10 @@
 //! What the history has.
 
-use crate::deed::Deed;
+use crate::ghost_act::GhostAct;
 
 /// An entry of the history: an act, and which right is the one to add the next entry. No value of it is made.
 #[derive(Drop)]
 pub struct Entry {
-    pub deed: Deed,
+    pub ghost_act: GhostAct,
     pub next: u64,
 }

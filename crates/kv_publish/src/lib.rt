@@ -1,27 +1,27 @@
 //! The log of what a bucket of threads publishes: the history of its acts, which exists in proofs alone, the two copies of
-//! the last version, in which readers enter without a lock, and the bell on which they sleep. It knows versions, and no
+//! the last version, in which readers enter without a lock, and the notifier on which they sleep. It knows versions, and no
 //! bucket and no reader: those stand above it, in `kv_bucket`.
 #![tactic(auto)]
 
-mod bell;
-mod copies;
-mod deed;
+mod double_buffer;
 mod entry;
-mod front;
-mod history;
-mod last;
+mod ghost_act;
+mod journal;
+mod last_published;
+mod notifier;
+mod prefix;
+mod protocol;
+mod publication;
 mod rule;
-mod shelf;
 mod side;
-mod whole;
 
-pub use bell::{Bell, Woken};
-pub use copies::Copies;
-pub use deed::Deed;
-pub use front::{Front, Glimpse};
-pub use history::{LiveName, Sight};
-pub use last::Last;
-pub use rule::{Gets, Published};
-pub use shelf::Shelf;
+pub use double_buffer::DoubleBuffer;
+pub use ghost_act::GhostAct;
+pub use journal::{FreshJournal, Journal};
+pub use last_published::LastPublished;
+pub use notifier::{Notifier, Woken};
+pub use prefix::{Prefix, RawPrefix};
+pub use protocol::{LiveName, Witness};
+pub use publication::Publication;
+pub use rule::{Gets, PublishRule};
 pub use side::{Right, Side};
-pub use whole::{Blank, Whole};

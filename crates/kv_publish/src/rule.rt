@@ -1,21 +1,21 @@
 //! The rule of what is published: it is of one opening, and has one of its two rights.
 
-use crate::history::LiveName;
+use crate::protocol::LiveName;
 use crate::side::Side;
 use crossbeam_utils::rule::{Outcome, Protocol};
 use std::marker::PhantomData;
 
 /// What is published is of the history of N, under the configuration of N. Threads know nothing of it but what they
 /// keep themselves.
-pub struct Published<N: LiveName> {
+pub struct PublishRule<N: LiveName> {
     of: PhantomData<N>,
 }
 
-impl<N: LiveName> Protocol<Side, ()> for Published<N> {
+impl<N: LiveName> Protocol<Side, ()> for PublishRule<N> {
     ghost use Rattle.std.specs.Prelude.{◌≡◌};
-    ghost use Rattle.kv_publish.specs.Shelves.{IsOf};
+    ghost use Rattle.kv_publish.specs.Publications.{IsOf};
 
-    ghost holds = { λ side views. IsOf N.opening side.shelf × (side.right.book ≡ N.opening.book) };
+    ghost holds = { λ side views. IsOf N.opening side.publication × (side.right.book ≡ N.opening.book) };
 
     ghost first = { tt };
 }
@@ -26,9 +26,9 @@ pub struct Gets<N: LiveName> {
 }
 
 impl<N: LiveName> Outcome<Side, ()> for Gets<N> {
-    ghost use Rattle.kv_publish.specs.Shelves.{IsOf};
+    ghost use Rattle.kv_publish.specs.Publications.{IsOf};
 
-    ghost then = { λ v x y w. IsOf N.opening y.shelf };
+    ghost then = { λ v x y w. IsOf N.opening y.publication };
 }
 
 /// A step of the writer, which tells it nothing.

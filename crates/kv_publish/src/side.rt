@@ -3,9 +3,9 @@
 ghost use Rattle.std.specs.Prelude.{◌≡◌};
 ghost use Rattle.kv_publish.specs.Rules.{IsSide};
 
-use crate::front::Glimpse;
-use crate::history::{Anchor, LiveName};
-use crate::shelf::Shelf;
+use crate::prefix::RawPrefix;
+use crate::protocol::{Anchor, LiveName};
+use crate::publication::Publication;
 use kv_model::Config;
 use left_right::Absorb;
 use std::alloc::AllocError;
@@ -32,60 +32,66 @@ impl<N: LiveName> Right<N> {
     }
 }
 
-/// One of the two copies: a shelf, and the right to be a copy.
+/// One of the two copies: a publication, and the right to be a copy.
 pub struct Side {
-    shelf: Shelf,
+    publication: Publication,
     right: Anchor,
     ghost is_side: { IsSide right.book right },
 }
 
 impl Drop for Side {
     fn drop(self) {
-        let Self { shelf: _, right: _ } = self;
+        let Self {
+            publication: _,
+            right: _,
+        } = self;
     }
 }
 
 impl Side {
-    /// The copy with this shelf.
-    pub(crate) fn new<N: LiveName>(shelf: Shelf, right: Right<N>) -> Side
-        ensures shelf { result.shelf ≡ shelf }
+    /// The copy with this publication.
+    pub(crate) fn new<N: LiveName>(publication: Publication, right: Right<N>) -> Side
+        ensures publication { result.publication ≡ publication }
         ensures right { result.right.book ≡ N.opening.book }
     {
         let Right { word, of: _ } = right;
-        Side { shelf, right: word }
+        Side {
+            publication,
+            right: word,
+        }
     }
 
-    /// The shelf.
-    pub fn shelf(&self) -> &Shelf
-        ensures { result.now ≡ self.now.shelf }
+    /// The publication.
+    pub fn publication(&self) -> &Publication
+        ensures { result.now ≡ self.now.publication }
     {
-        &self.shelf
+        &self.publication
     }
 }
 
-/// An operation is the whole next shelf. The two copies have in common what was glimpsed, and so what they stand for, the
+/// An operation is the whole next publication. The two copies have in common what was seen, and so what they stand for, the
 /// configuration, and whose rights they have.
-impl Absorb<Shelf> for Side {
-    type State = (Glimpse, Config, Anchor);
+impl Absorb<Publication> for Side {
+    type State = (RawPrefix, Config, Anchor);
 
-    ghost use Rattle.kv_publish.specs.Shelves.{common_of, common_after};
+    ghost use Rattle.kv_publish.specs.Publications.{common_of, common_after};
 
-    ghost state = { λ s. common_of s.right s.shelf };
+    ghost state = { λ s. common_of s.right s.publication };
 
     ghost applied = { λ before next. common_after before next };
 
-    fn absorb_first(&mut self, next: &Shelf, _other: &Side) -> Result<(), AllocError> {
-        match next.again() {
+    fn absorb_first(&mut self, next: &Publication, _other: &Side) -> Result<(), AllocError> {
+        match next.try_clone() {
             Ok(next) => {
-                self.shelf = next;
+                self.publication = next;
                 Ok(())
             }
             Err(_) => Err(AllocError),
         }
     }
 
-    fn absorb_second(&mut self, next: Shelf, _other: &Side) -> Result<(), Shelf> {
-        self.shelf = next;
+    fn absorb_second(&mut self, next: Publication, _other: &Side) -> Result<(), Publication> {
+        self.publication = next;
         Ok(())
     }
 }

@@ -14,7 +14,7 @@ mod writing;
 pub use bucket::Bucket;
 pub use kv_keys::{Filter, Filters, Key, KvError, Place, Short, fnv32};
 pub use kv_model::{Call, Config, Event, Op, Options, Request, Start, Status, Stopped, Write};
-pub use kv_store::{Kept, Rev, Version};
+pub use kv_store::{KeyHistory, Rev, Version};
 pub use kv_trie::{Trie, Visit};
 pub use kv_watch::{Cursor, Shown, Taken, given};
 pub use reply::Reply;

@@ -5,8 +5,8 @@ ghost use Rattle.std.specs.Prelude.{◌≡◌};
 
 use crate::equal::equal;
 use kv_single::{
-    Bucket, Cursor, Event, Filter, Filters, Kept, Key, KvError, Place, Rev, Seen, Short, Shown,
-    Stopped, Taken, Trie, Version, Visit, Write, fnv32, given,
+    Bucket, Cursor, Event, Filter, Filters, Key, KeyHistory, KvError, Place, Rev, Seen, Short,
+    Shown, Stopped, Taken, Trie, Version, Visit, Write, fnv32, given,
 };
 use kv_store::{Config, Op, Request, Status};
 use kv_watch::laws::{given_goes_on, one_kept_is_latest, revisions_rise};
@@ -89,16 +89,16 @@ struct Sum {
     revisions: u64,
 }
 
-impl Visit<Key, Kept> for Sum {
+impl Visit<Key, KeyHistory> for Sum {
     ghost shows = { λ old key value result new. new ≡ new };
 
-    fn pair(&mut self, _key: &Key, kept: &Kept) -> Result<(), KvError> {
+    fn pair(&mut self, _key: &Key, kept: &KeyHistory) -> Result<(), KvError> {
         self.revisions = self.revisions.saturating_add(kept.last().revision());
         Ok(())
     }
 }
 
-fn sum_of_last(by_key: &Trie<Key, Kept>) -> u64 {
+fn sum_of_last(by_key: &Trie<Key, KeyHistory>) -> u64 {
     let mut sum = Sum { revisions: 0 };
     let _ = by_key.each(&mut sum);
     sum.revisions

@@ -28,8 +28,8 @@ distinct_and_one : (ks : List (List ℕ)) (k : List ℕ) → IsDistinct bytes_eq
 unfolding IsDistinct
 distinct_and_one [] k d none = (tt, tt)
 distinct_and_one (x ∷ xs) k d none =
-    let parts = either (bytes_eq x k) (list_any (λ y. bytes_eq y k) xs) none in
-    (all_and_one (λ y. bytes_eq x y ≡ false) xs k d.0 parts.0, distinct_and_one xs k d.1 parts.1)
+    let inner = either (bytes_eq x k) (list_any (λ y. bytes_eq y k) xs) none in
+    (all_and_one (λ y. bytes_eq x y ≡ false) xs k d.0 inner.0, distinct_and_one xs k d.1 inner.1)
 
 -- ---- one more filter
 

@@ -10,7 +10,7 @@ use Rattle.std.specs.Str.{bytes_eq}
 use Rattle.std.proofs.lemmas.Bool.{eqb-true}
 use Rattle.kv_model.specs.Acts.{Write}
 use Rattle.kv_trie.specs.Retain.{wanted_value}
-use Rattle.kv_store.specs.Stored.{Kept}
+use Rattle.kv_store.specs.Stored.{KeyHistory}
 use Rattle.kv_store.specs.inside.Compacted.{clears, is_left, left_of, spared}
 use Rattle.kv_store.specs.inside.Fields.{last_entries}
 use Rattle.kv_store.proofs.Lookups.{by_bytes, is_eq-nat_cmp, write_by_number}
@@ -32,7 +32,7 @@ found_passes {X} p (y ∷ ys) x h = by_test (λ k. found_passes p ys x k) (p y) 
     by_test rest false e k = rest k
 
 -- of a key that stays the same
-pub spared_lookup : {X : Type 0} (part : Kept → X) (floor : ℕ) (q : List ℕ) (old new : List (List ℕ × Kept)) → lookup (is_at (slice_cmp nat_cmp q)) new ≡ wanted_value (λ key kept. not (clears floor (Some kept.last))) (find (λ p. is_at (slice_cmp nat_cmp q) p.0) old) → lookup (λ k. bytes_eq q k) (map (λ e. (e.0, part e.1)) new) ≡ spared floor (lookup (λ k. bytes_eq q k) (last_entries old)) (lookup (λ k. bytes_eq q k) (map (λ e. (e.0, part e.1)) old))
+pub spared_lookup : {X : Type 0} (part : KeyHistory → X) (floor : ℕ) (q : List ℕ) (old new : List (List ℕ × KeyHistory)) → lookup (is_at (slice_cmp nat_cmp q)) new ≡ wanted_value (λ key kept. not (clears floor (Some kept.last))) (find (λ p. is_at (slice_cmp nat_cmp q) p.0) old) → lookup (λ k. bytes_eq q k) (map (λ e. (e.0, part e.1)) new) ≡ spared floor (lookup (λ k. bytes_eq q k) (last_entries old)) (lookup (λ k. bytes_eq q k) (map (λ e. (e.0, part e.1)) old))
 spared_lookup {X} part floor q old new h =
     by_bytes part q new
     ∙ ap (option_map part) h
@@ -41,11 +41,11 @@ spared_lookup {X} part floor q old new h =
     ∙ ap (λ o. spared floor o (option_map part (lookup (is_at (slice_cmp nat_cmp q)) old))) (sym (by_bytes (λ v. v.last) q old))
     ∙ ap (spared floor (lookup (λ k. bytes_eq q k) (last_entries old))) (sym (by_bytes part q old))
   where
-    by_test : (b : Bool) (p : List ℕ × Kept) → option_map part (cond (not b) (Some p.1) None) ≡ cond b None (Some (part p.1))
+    by_test : (b : Bool) (p : List ℕ × KeyHistory) → option_map part (cond (not b) (Some p.1) None) ≡ cond b None (Some (part p.1))
     by_test true p = refl
     by_test false p = refl
 
-    by_found : (o : Option (List ℕ × Kept)) → option_map part (wanted_value (λ key kept. not (clears floor (Some kept.last))) o) ≡ spared floor (option_map (λ v. v.last) (option_map (λ (e : List ℕ × Kept). e.1) o)) (option_map part (option_map (λ (e : List ℕ × Kept). e.1) o))
+    by_found : (o : Option (List ℕ × KeyHistory)) → option_map part (wanted_value (λ key kept. not (clears floor (Some kept.last))) o) ≡ spared floor (option_map (λ v. v.last) (option_map (λ (e : List ℕ × KeyHistory). e.1) o)) (option_map part (option_map (λ (e : List ℕ × KeyHistory). e.1) o))
     by_found None = refl
     by_found (Some p) = by_test (clears floor (Some p.1.last)) p
 

@@ -13,7 +13,7 @@ use Rattle.kv_model.specs.declared.options.Start.{Start}
 use Rattle.kv_model.specs.declared.options.Start.TheVariants.{Latest, History, Updates, From}
 use Rattle.kv_store.specs.Asked.{AreAsked}
 use Rattle.kv_store.specs.inside.Compacted.{kept_in}
-use Rattle.kv_store.specs.Stored.{Kept}
+use Rattle.kv_store.specs.Stored.{KeyHistory}
 use Rattle.kv_store.specs.inside.Fields.{kept_entries}
 use Rattle.kv_store.specs.inside.Selected.{initial_revisions, initial_at, initial_of}
 use Rattle.kv_store.proofs.Naming.{distinct_kept}
@@ -77,12 +77,12 @@ initial_none History = refl
 initial_none Updates = refl
 initial_none (From first) = refl
 
-of_entries : (wants : List ℕ → Bool) (start : Start) (ks : List (List ℕ)) → ((key : List ℕ) → wants key ≡ has ks key) → (es : List (List ℕ × Kept)) → flat_map (initial_of wants start) es ≡ flat_map (of (initial_revisions start) (initial_none start) ks) (kept_entries es)
+of_entries : (wants : List ℕ → Bool) (start : Start) (ks : List (List ℕ)) → ((key : List ℕ) → wants key ≡ has ks key) → (es : List (List ℕ × KeyHistory)) → flat_map (initial_of wants start) es ≡ flat_map (of (initial_revisions start) (initial_none start) ks) (kept_entries es)
 of_entries wants start ks asked [] = refl
 of_entries wants start ks asked (e ∷ es) = rw (asked e.0, of_entries wants start ks asked es) refl
 
 -- the entries of the key trie have what is looked up of the keys that are asked for
-pub looked_up_all : (wants : List ℕ → Bool) (start : Start) (ks : List (List ℕ)) (place : List ℕ → ℕ) (es : List (List ℕ × Kept)) → AreAsked wants ks → Ascends (order (slice_cmp nat_cmp) place 7) es → IsPermutation (flat_map (initial_of wants start) es) (flat_map (initial_at start es) ks)
+pub looked_up_all : (wants : List ℕ → Bool) (start : Start) (ks : List (List ℕ)) (place : List ℕ → ℕ) (es : List (List ℕ × KeyHistory)) → AreAsked wants ks → Ascends (order (slice_cmp nat_cmp) place 7) es → IsPermutation (flat_map (initial_of wants start) es) (flat_map (initial_at start es) ks)
 looked_up_all wants start ks place es asked ascends =
     subst (λ l. IsPermutation l (flat_map (initial_at start es) ks)) (sym (of_entries wants start ks asked.each es))
     (by_keys (initial_revisions start) (initial_none start) ks (kept_entries es) asked.once (distinct_kept place es ascends))

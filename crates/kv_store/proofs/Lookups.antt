@@ -13,7 +13,7 @@ use Rattle.std.proofs.lemmas.List.Elements.{All-cons, All-head, All-tail}
 use Rattle.std.proofs.lemmas.Map.Made.{lookup-map_values}
 use Rattle.std.proofs.lemmas.Map.Text.{is_eq-slice_cmp}
 use Rattle.kv_trie.specs.Form.{put_pair}
-use Rattle.kv_store.specs.Stored.{Kept}
+use Rattle.kv_store.specs.Stored.{KeyHistory}
 use Rattle.kv_store.specs.inside.Fields.{kept_entries}
 
 -- two tests that say the same find the same
@@ -22,7 +22,7 @@ lookup-agree p q h [] = refl
 lookup-agree p q h (e ∷ es) = rw (h e.0, lookup-agree p q h es) refl
 
 -- something of the entries of the key trie is found by the bytes of the key
-pub by_bytes : {X : Type 0} (part : Kept → X) (key : List ℕ) (es : List (List ℕ × Kept)) → lookup (λ k. bytes_eq key k) (map (λ e. (e.0, part e.1)) es) ≡ option_map part (lookup (is_at (slice_cmp nat_cmp key)) es)
+pub by_bytes : {X : Type 0} (part : KeyHistory → X) (key : List ℕ) (es : List (List ℕ × KeyHistory)) → lookup (λ k. bytes_eq key k) (map (λ e. (e.0, part e.1)) es) ≡ option_map part (lookup (is_at (slice_cmp nat_cmp key)) es)
 by_bytes part key es =
     lookup-map_values part (λ k. bytes_eq key k) es
     ∙ ap (option_map part) (lookup-agree (λ k. bytes_eq key k) (is_at (slice_cmp nat_cmp key)) (λ k. sym (is_eq-slice_cmp key k)) es)
@@ -41,13 +41,13 @@ none_above {X} revision last (e ∷ es) h l =
     let small : e.0 ≤ last = All-head (λ (e : ℕ × X). e.0 ≤ last) e es h in
     rw (ne_eqb revision e.0 (λ same. omega (arith, same, small)), none_above revision last es (All-tail (λ (e : ℕ × X). e.0 ≤ last) e es h) l) refl
 
-pub length-kept_entries : (es : List (List ℕ × Kept)) → length (kept_entries es) ≡ length es
+pub length-kept_entries : (es : List (List ℕ × KeyHistory)) → length (kept_entries es) ≡ length es
 length-kept_entries [] = refl
 length-kept_entries (e ∷ es) = ap suc (length-kept_entries es)
 
 -- ---- after a pair is put
 
-pub more_by_bytes : {X : Type 0} (part : Kept → X) (key q : List ℕ) (kept : Kept) (old new : List (List ℕ × Kept)) → lookup (is_at (slice_cmp nat_cmp q)) new ≡ cond (is_at (slice_cmp nat_cmp key) q) (Some kept) (lookup (is_at (slice_cmp nat_cmp q)) old) → lookup (λ k. bytes_eq q k) (map (λ e. (e.0, part e.1)) new) ≡ cond (bytes_eq key q) (Some (part kept)) (lookup (λ k. bytes_eq q k) (map (λ e. (e.0, part e.1)) old))
+pub more_by_bytes : {X : Type 0} (part : KeyHistory → X) (key q : List ℕ) (kept : KeyHistory) (old new : List (List ℕ × KeyHistory)) → lookup (is_at (slice_cmp nat_cmp q)) new ≡ cond (is_at (slice_cmp nat_cmp key) q) (Some kept) (lookup (is_at (slice_cmp nat_cmp q)) old) → lookup (λ k. bytes_eq q k) (map (λ e. (e.0, part e.1)) new) ≡ cond (bytes_eq key q) (Some (part kept)) (lookup (λ k. bytes_eq q k) (map (λ e. (e.0, part e.1)) old))
 more_by_bytes part key q kept old new h =
     by_bytes part q new
     ∙ ap (option_map part) h

@@ -20,7 +20,7 @@ use Rattle.kv_model.specs.declared.options.Start.{Start}
 use Rattle.kv_model.specs.declared.options.Start.TheVariants.{Latest, History, Updates, From}
 use Rattle.kv_model.specs.Acts.{Act, Write, writes_of}
 use Rattle.kv_model.specs.Given.{initial}
-use Rattle.kv_store.specs.Stored.{Kept}
+use Rattle.kv_store.specs.Stored.{KeyHistory}
 use Rattle.kv_store.specs.inside.Fields.{kept_entries}
 use Rattle.kv_model.specs.Reads.{unless_empty}
 use Rattle.kv_model.specs.Retained.{kept, retained, revisions}
@@ -64,7 +64,7 @@ keys_apart (e ∷ es) d = (all_keys (λ k. bytes_eq e.0 k ≡ false) es d.0, key
 
 -- ---- what is read of the key trie
 
-kept_keys : (es : List (List ℕ × Kept)) → keys_of (kept_entries es) ≡ keys_of es
+kept_keys : (es : List (List ℕ × KeyHistory)) → keys_of (kept_entries es) ≡ keys_of es
 kept_keys [] = refl
 kept_keys (e ∷ es) = ap (λ ks. e.0 ∷ ks) (kept_keys es)
 
@@ -72,10 +72,10 @@ named : (List ℕ → Bool) → Start → List ℕ × List ℕ → List ℕ
 named wants start e = cond (wants e.0) (initial_revisions start e.1) []
 
 -- the entries of the key trie have each key once
-pub distinct_kept : (place : List ℕ → ℕ) (es : List (List ℕ × Kept)) → Ascends (order (slice_cmp nat_cmp) place 7) es → IsDistinct bytes_eq (keys_of (kept_entries es))
+pub distinct_kept : (place : List ℕ → ℕ) (es : List (List ℕ × KeyHistory)) → Ascends (order (slice_cmp nat_cmp) place 7) es → IsDistinct bytes_eq (keys_of (kept_entries es))
 distinct_kept place es ascends = subst (IsDistinct bytes_eq) (sym (kept_keys es)) (distinct_keys place 7 es ascends)
 
-named_kept : (wants : List ℕ → Bool) (start : Start) (es : List (List ℕ × Kept)) → flat_map (initial_of wants start) es ≡ flat_map (named wants start) (kept_entries es)
+named_kept : (wants : List ℕ → Bool) (start : Start) (es : List (List ℕ × KeyHistory)) → flat_map (initial_of wants start) es ≡ flat_map (named wants start) (kept_entries es)
 unfolding named
 named_kept wants start [] = refl
 named_kept wants start (e ∷ es) = ap (λ rs. initial_of wants start e ++ rs) (named_kept wants start es)
@@ -182,7 +182,7 @@ kept_counted h acts some counts entries keeps apart =
     ∙ ap length (filter_all (λ w. true) (retained h acts) (λ w m. refl))
 
 -- the same of the key trie
-pub gathered_are_initial : (h : ℕ) (acts : List Act) → 0 < h → CountsFrom 1 (writes_of acts) → (wants : List ℕ → Bool) (start : Start) (place : List ℕ → ℕ) (es : List (List ℕ × Kept)) → ((key : List ℕ) → lookup (λ k. bytes_eq key k) (kept_entries es) ≡ unless_empty (revisions (kept h key acts))) → Ascends (order (slice_cmp nat_cmp) place 7) es → (xs : List ℕ) → IsPermutation (flat_map (initial_of wants start) es) xs → IsSorted nat_cmp xs → xs ≡ revisions (filter (λ w. wants w.key) (initial h start acts))
+pub gathered_are_initial : (h : ℕ) (acts : List Act) → 0 < h → CountsFrom 1 (writes_of acts) → (wants : List ℕ → Bool) (start : Start) (place : List ℕ → ℕ) (es : List (List ℕ × KeyHistory)) → ((key : List ℕ) → lookup (λ k. bytes_eq key k) (kept_entries es) ≡ unless_empty (revisions (kept h key acts))) → Ascends (order (slice_cmp nat_cmp) place 7) es → (xs : List ℕ) → IsPermutation (flat_map (initial_of wants start) es) xs → IsSorted nat_cmp xs → xs ≡ revisions (filter (λ w. wants w.key) (initial h start acts))
 gathered_are_initial h acts some counts wants start place es keeps ascends xs p s =
     sorted_named h acts some counts wants start (kept_entries es) keeps
     (distinct_kept place es ascends)

@@ -64,9 +64,9 @@ token_by_token (t ∷ ts) (w ∷ ws) h =
 
         there : tokens_match (t ∷ ts) (w ∷ ws) ≡ true → t ∷ ts ≡ w ∷ ws
         there m =
-            let parts = and_parts (bytes_eq t w) (tokens_match ts ws) (sym alike ∙ m) in
-            let one : t ≡ w = (bytes_eq-Decides t w).0 parts.0 in
-            let rest : ts ≡ ws = others.0 parts.1 in
+            let inner = and_parts (bytes_eq t w) (tokens_match ts ws) (sym alike ∙ m) in
+            let one : t ≡ w = (bytes_eq-Decides t w).0 inner.0 in
+            let rest : ts ≡ ws = others.0 inner.1 in
             cc
 
         back : t ∷ ts ≡ w ∷ ws → tokens_match (t ∷ ts) (w ∷ ws) ≡ true

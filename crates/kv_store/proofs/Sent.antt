@@ -13,9 +13,9 @@ use Rattle.kv_model.proofs.write.Write.TheSendSync as write
 use Rattle.kv_trie.specs.contracts.node.Node as Node
 use Rattle.kv_trie.specs.contracts.trie.Trie as Trie
 use Rattle.kv_trie.proofs.node.Node.TheLaws.TheKnot as knot
-use Rattle.kv_store.specs.contracts.parts.Parts as Parts
+use Rattle.kv_store.specs.contracts.inner.Inner as Inner
 use Rattle.kv_store.specs.contracts.version.Version as Version
-use Rattle.kv_store.proofs.kept.Kept.TheSendSync as kept
+use Rattle.kv_store.proofs.key_history.KeyHistory.TheSendSync as kept
 use Rattle.kv_store.proofs.rev.Rev.TheSendSync as rev
 
 module _ (K V : RattleType) (s : IsSend K) (t : IsSend V) (y : IsSync K) (z : IsSync V) where
@@ -32,14 +32,14 @@ module _ (K V : RattleType) (s : IsSend K) (t : IsSend V) (y : IsSync K) (z : Is
     trie_sync : IsSync (Trie.the_row K V a b c d)
     trie_sync = search (sendable, crosses, knot.crosses_both) depth 20
 
-parts_send : IsSend Parts.the_row
-parts_send = search (sendable, crosses, trie_send, key.the_send, key.the_sync, kept.the_send, kept.the_sync, rev.the_send, rev.the_sync, write.the_send, write.the_sync) depth 20
+inner_send : IsSend Inner.the_row
+inner_send = search (sendable, crosses, trie_send, key.the_send, key.the_sync, kept.the_send, kept.the_sync, rev.the_send, rev.the_sync, write.the_send, write.the_sync) depth 20
 
-parts_sync : IsSync Parts.the_row
-parts_sync = search (sendable, crosses, trie_sync, key.the_send, key.the_sync, kept.the_send, kept.the_sync, rev.the_send, rev.the_sync, write.the_send, write.the_sync) depth 20
+inner_sync : IsSync Inner.the_row
+inner_sync = search (sendable, crosses, trie_sync, key.the_send, key.the_sync, kept.the_send, kept.the_sync, rev.the_send, rev.the_sync, write.the_send, write.the_sync) depth 20
 
 pub version_send : IsSend Version.the_row
-version_send = search (sendable, crosses, parts_send, parts_sync) depth 20
+version_send = search (sendable, crosses, inner_send, inner_sync) depth 20
 
 pub version_sync : IsSync Version.the_row
-version_sync = search (sendable, crosses, parts_send, parts_sync) depth 20
+version_sync = search (sendable, crosses, inner_send, inner_sync) depth 20

@@ -6,7 +6,7 @@ use Rattle.kv_model.specs.Acts.{Write}
 use Rattle.kv_model.specs.Configuration.{Configuration}
 
 -- what is stored of a key: the revisions that are kept of it, and its last write
-pub record Kept : Type 0 where
+pub record KeyHistory : Type 0 where
   pub revisions : List ℕ
   pub last : Write
 

@@ -92,7 +92,7 @@ impl Version {
         ensures full { (acts : List Act) → StandsFor acts self.now → result ≡ is_full self.now.config acts }
         ensures room { result ≡ false → self.now.last < self.now.config.revision_limit }
     {
-        self.stored() >= self.parts.write_limit || self.parts.last >= self.parts.revision_limit
+        self.stored() >= self.inner.write_limit || self.inner.last >= self.inner.revision_limit
     }
 
     // Whether the request is accepted, or the first reason that it isn't: the size of the value, the seal, the
@@ -106,10 +106,10 @@ impl Version {
             option_copied last.entry ≡ last_write (key_of (asked request.now)) acts →
             Refuses e (accept self.now.config (asked request.now) acts)) }
     {
-        if request.value().len() as u64 > self.parts.value_limit {
+        if request.value().len() as u64 > self.inner.value_limit {
             return Err(KvError::ValueTooLarge);
         }
-        if self.parts.sealed {
+        if self.inner.sealed {
             return Err(KvError::Sealed);
         }
         if self.is_full() {

@@ -10,7 +10,7 @@ ghost use Rattle.kv_model.specs.Requests.{asked, write_for};
 ghost use Rattle.kv_store.specs.Standing.{StandsFor};
 ghost use Rattle.kv_store.specs.inside.Next.{HasOneMore, kept_after, values_after};
 
-use crate::kept::{Revisions, last_of, revisions_of};
+use crate::key_history::{Revisions, last_of, revisions_of};
 use crate::next::next_kept;
 use crate::put::put_write;
 use crate::version::Version;
@@ -44,10 +44,10 @@ impl Version {
     {
         let found = self.of_key(request.key());
         self.accept(request, last_of(found))?;
-        let revision = self.parts.last + 1;
+        let revision = self.inner.last + 1;
         let before = revisions_of(found);
-        let kept = next_kept(alloc, self.parts.history, request.op(), revision, before)?;
-        let values = (self.parts.values + kept.len() as u64).saturating_sub(before.len() as u64);
+        let kept = next_kept(alloc, self.inner.history, request.op(), revision, before)?;
+        let values = (self.inner.values + kept.len() as u64).saturating_sub(before.len() as u64);
         let write = request.write(alloc, revision)?;
         Ok(Accepted {
             write,
@@ -67,10 +67,10 @@ impl Version {
         ensures err { IfErr result (λ e. e ≡ OutOfMemory) }
     {
         let key = accepted.write.key().copy(alloc)?;
-        let parts = Arc::make_mut(&mut self.parts)?;
+        let inner = Arc::make_mut(&mut self.inner)?;
         put_write(
             alloc,
-            parts,
+            inner,
             key,
             accepted.kept,
             accepted.write,

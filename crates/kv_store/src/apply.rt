@@ -16,12 +16,12 @@ use std::alloc::Global;
 impl Version {
     // An equal version, whose parts nobody else has: they are changed where they lie. A snapshot would add an owner to
     // parts that all readers count on, and take it off again as soon as its own are copied.
-    fn with_own_parts(&self, alloc: Global) -> Result<Version, KvError>
+    fn with_own_inner(&self, alloc: Global) -> Result<Version, KvError>
         ensures ok { IfOk result (λ version. version ≡ self.now) }
         ensures err { IfErr result (λ e. e ≡ OutOfMemory) }
     {
-        let parts = self.parts.again()?;
-        Version::of(alloc, parts)
+        let inner = self.inner.copy()?;
+        Version::of(alloc, inner)
     }
 
     /// The next version, with the write that is asked for, or why it is refused, the first reason that fits: its value
@@ -39,7 +39,7 @@ impl Version {
             Refuses e (accept self.now.config (asked request.now) acts)) }
     {
         let accepted = self.accepted(alloc, request)?;
-        let mut next = self.with_own_parts(alloc)?;
+        let mut next = self.with_own_inner(alloc)?;
         next.add(alloc, accepted)?;
         Ok(next)
     }

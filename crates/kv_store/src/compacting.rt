@@ -8,8 +8,8 @@ ghost use Rattle.kv_model.specs.Compaction.{is_bad_floor};
 ghost use Rattle.kv_store.specs.inside.Compacted.{IsCompacted};
 ghost use Rattle.kv_store.specs.Standing.{StandsFor};
 
+use crate::inner::Inner;
 use crate::left::{kept_count, left_writes, uncleared_keys};
-use crate::parts::Parts;
 use crate::version::Version;
 use kv_keys::KvError;
 use std::alloc::Global;
@@ -20,7 +20,7 @@ impl Version {
     pub fn is_bad_floor(&self, floor: u64) -> bool
         ensures { (acts : List Act) → StandsFor acts self.now → result ≡ is_bad_floor floor acts }
     {
-        floor == 0 || self.parts.last < floor || floor < self.parts.floor
+        floor == 0 || self.inner.last < floor || floor < self.inner.floor
     }
 
     // The version with what a compaction to the floor leaves.
@@ -28,11 +28,11 @@ impl Version {
         ensures ok { IfOk result (IsCompacted floor self.now) }
         ensures err { IfErr result (λ e. e ≡ OutOfMemory) }
     {
-        let parts: &Parts = &self.parts;
-        let by_key = uncleared_keys(alloc, &parts.by_key, floor)?;
-        let by_revision = left_writes(alloc, &parts.by_revision, &by_key, floor)?;
-        let values = kept_count(&by_key)?.min(parts.values);
-        Version::of(alloc, parts.with(by_key, by_revision, values, floor))
+        let inner: &Inner = &self.inner;
+        let by_key = uncleared_keys(alloc, &inner.by_key, floor)?;
+        let by_revision = left_writes(alloc, &inner.by_revision, &by_key, floor)?;
+        let values = kept_count(&by_key)?.min(inner.values);
+        Version::of(alloc, inner.with(by_key, by_revision, values, floor))
     }
 
     /// The version with this floor. A key whose latest entry is a marker at or below the floor is cleared, as if it had

@@ -14,7 +14,7 @@ ghost use Rattle.kv_model.specs.Given.{initial};
 ghost use Rattle.kv_store.specs.inside.Selected.{initial_revisions, initial_at, initial_of};
 ghost use Rattle.kv_store.specs.Standing.{StandsFor};
 
-use crate::kept::Kept;
+use crate::key_history::KeyHistory;
 use crate::left::kept_of;
 use crate::version::Version;
 use crate::wanted::Wanted;
@@ -62,14 +62,14 @@ fn add_selected(found: &mut Vec<u64>, start: Start, revisions: &[u64]) -> Result
     Ok(())
 }
 
-impl<'w, W: Wanted> Visit<Key, Kept> for Gather<'w, W> {
+impl<'w, W: Wanted> Visit<Key, KeyHistory> for Gather<'w, W> {
     ghost shows = { λ old key kept result new.
         (new.wanted ≡ old.wanted) × (new.start ≡ old.start)
         × IfOk result
         (λ _. new.found.items ≡ old.found.items ++ initial_of (W.wants_key old.wanted.now) old.start (key, kept))
         × IfErr result (λ error. error ≡ OutOfMemory) };
 
-    fn pair(&mut self, key: &Key, kept: &Kept) -> Result<(), KvError> {
+    fn pair(&mut self, key: &Key, kept: &KeyHistory) -> Result<(), KvError> {
         if self.wanted.wants(key) {
             add_selected(&mut self.found, self.start, kept.revisions())?;
         }
@@ -80,7 +80,7 @@ impl<'w, W: Wanted> Visit<Key, Kept> for Gather<'w, W> {
 // The revisions of wanted keys that a watch begins with, by a look at each key.
 fn walked<W: Wanted>(
     alloc: Global,
-    by_key: &Trie<Key, Kept>,
+    by_key: &Trie<Key, KeyHistory>,
     wanted: &W,
     start: Start,
 ) -> Result<Vec<u64>, KvError>
@@ -100,7 +100,7 @@ fn walked<W: Wanted>(
 // The revisions of these keys that a watch begins with, by one look-up for each key.
 fn looked_up(
     alloc: Global,
-    by_key: &Trie<Key, Kept>,
+    by_key: &Trie<Key, KeyHistory>,
     keys: &[Key],
     start: Start,
 ) -> Result<Vec<u64>, KvError>
@@ -117,7 +117,7 @@ fn looked_up(
 // The revisions of wanted keys that a watch begins with, in any order.
 fn found_of<W: Wanted>(
     alloc: Global,
-    by_key: &Trie<Key, Kept>,
+    by_key: &Trie<Key, KeyHistory>,
     wanted: &W,
     start: Start,
 ) -> Result<Vec<u64>, KvError>
@@ -135,7 +135,7 @@ fn found_of<W: Wanted>(
 // The revisions of wanted keys that a watch begins with, in order. Where there is no key, none is made.
 fn selected_revisions_of<W: Wanted>(
     alloc: Global,
-    by_key: &Trie<Key, Kept>,
+    by_key: &Trie<Key, KeyHistory>,
     wanted: &W,
     start: Start,
 ) -> Result<Vec<u64>, KvError>

@@ -9,7 +9,7 @@ ghost use Rattle.kv_model.specs.Acts.{Write as AWrite};
 ghost use Rattle.kv_store.specs.inside.Compacted.{all_kept, kept_in, left_of, spared};
 ghost use Rattle.kv_store.specs.inside.Fields.{kept_entries, last_entries};
 
-use crate::kept::{Kept, revisions_of};
+use crate::key_history::{KeyHistory, revisions_of};
 use crate::rev::Rev;
 use kv_keys::{Key, KvError};
 use kv_model::Write;
@@ -22,13 +22,13 @@ struct Uncleared {
     floor: u64,
 }
 
-impl Wants<Key, Kept> for Uncleared {
+impl Wants<Key, KeyHistory> for Uncleared {
     ghost use Rattle.std.specs.Prelude.{Some, not};
     ghost use Rattle.kv_store.specs.inside.Compacted.{clears};
 
     ghost wanted = { λ asker key kept. not (clears asker.floor (Some kept.last)) };
 
-    fn wants(&self, _key: &Key, kept: &Kept) -> bool {
+    fn wants(&self, _key: &Key, kept: &KeyHistory) -> bool {
         let last = kept.last();
         last.op().is_put() || last.revision() > self.floor
     }
@@ -37,9 +37,9 @@ impl Wants<Key, Kept> for Uncleared {
 /// The keys that a compaction to the floor doesn't clear, each with what is stored of it.
 pub fn uncleared_keys(
     alloc: Global,
-    by_key: &Trie<Key, Kept>,
+    by_key: &Trie<Key, KeyHistory>,
     floor: u64,
-) -> Result<Trie<Key, Kept>, KvError>
+) -> Result<Trie<Key, KeyHistory>, KvError>
     ensures kept { IfOk result (λ left. (key : List ℕ) →
         lookup (λ k. bytes_eq key k) (kept_entries left)
         ≡ spared floor (lookup (λ k. bytes_eq key k) (last_entries by_key.now))
@@ -56,14 +56,14 @@ pub fn uncleared_keys(
 }
 
 /// The revisions that are kept of the key, none where it has no entry.
-pub fn kept_of<'t>(by_key: &'t Trie<Key, Kept>, key: &Key) -> &'t [u64]
+pub fn kept_of<'t>(by_key: &'t Trie<Key, KeyHistory>, key: &Key) -> &'t [u64]
     ensures { result.now ≡ kept_in key.now (kept_entries by_key.now) }
 {
     revisions_of(by_key.get(key))
 }
 
 /// Whether the revision is among those that are kept of the key.
-pub fn is_kept_of(by_key: &Trie<Key, Kept>, key: &Key, revision: u64) -> bool
+pub fn is_kept_of(by_key: &Trie<Key, KeyHistory>, key: &Key, revision: u64) -> bool
     ensures { result ≡ list_any (λ r. r == revision) (kept_in key.now (kept_entries by_key.now)) }
 {
     kept_of(by_key, key).iter().any(|kept| *kept == revision)
@@ -72,7 +72,7 @@ pub fn is_kept_of(by_key: &Trie<Key, Kept>, key: &Key, revision: u64) -> bool
 // Asks of a write whether it stays where a version is compacted to the floor, and these keys are not cleared.
 #[derive(Drop)]
 struct Left<'t> {
-    by_key: &'t Trie<Key, Kept>,
+    by_key: &'t Trie<Key, KeyHistory>,
     floor: u64,
 }
 
@@ -92,7 +92,7 @@ impl<'t> Wants<Rev, Write> for Left<'t> {
 pub fn left_writes(
     alloc: Global,
     by_revision: &Trie<Rev, Write>,
-    by_key: &Trie<Key, Kept>,
+    by_key: &Trie<Key, KeyHistory>,
     floor: u64,
 ) -> Result<Trie<Rev, Write>, KvError>
     ensures written { IfOk result (λ left. (revision : ℕ) → lookup (λ r. revision == r) left ≡
@@ -112,7 +112,7 @@ struct Count {
     revisions: u64,
 }
 
-impl Visit<Key, Kept> for Count {
+impl Visit<Key, KeyHistory> for Count {
     ghost use Rattle.std.specs.Prelude.{◌≡◌, ◌+◌, ◌<◌, ◌^◌, length, IfErr};
     ghost use Rattle.kv_keys.specs.declared.error.KvError.TheVariants.{OutOfMemory};
 
@@ -120,14 +120,14 @@ impl Visit<Key, Kept> for Count {
         (old.revisions + length kept.revisions < 2 ^ 64 → new.revisions ≡ old.revisions + length kept.revisions)
         × IfErr result (λ error. error ≡ OutOfMemory) };
 
-    fn pair(&mut self, _key: &Key, kept: &Kept) -> Result<(), KvError> {
+    fn pair(&mut self, _key: &Key, kept: &KeyHistory) -> Result<(), KvError> {
         self.revisions = self.revisions.saturating_add(kept.revisions().len() as u64);
         Ok(())
     }
 }
 
 /// How many revisions are kept of all keys.
-pub fn kept_count(by_key: &Trie<Key, Kept>) -> Result<u64, KvError>
+pub fn kept_count(by_key: &Trie<Key, KeyHistory>) -> Result<u64, KvError>
     ensures count { IfOk result (λ count.
         length (all_kept (kept_entries by_key.now)) < 2 ^ 64 → count ≡ length (all_kept (kept_entries by_key.now))) }
     ensures apart { IsDistinct bytes_eq (keys_of (kept_entries by_key.now)) }

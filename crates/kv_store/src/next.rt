@@ -4,7 +4,7 @@ ghost use Rattle.std.specs.Prelude.{◌≡◌, ◌<◌, ◌∷◌, [], ◌++◌,
 ghost use Rattle.kv_store.specs.inside.Next.{next_kept};
 ghost use Rattle.kv_model.specs.Retained.{last_n};
 
-use crate::kept::Revisions;
+use crate::key_history::Revisions;
 use kv_model::Op;
 use std::alloc::{AllocError, Global};
 

@@ -7,8 +7,8 @@ ghost use Rattle.kv_keys.specs.declared.error.KvError.TheVariants.{OutOfMemory};
 ghost use Rattle.kv_store.specs.inside.Fields.{kept_entries, last_entries};
 ghost use Rattle.kv_store.specs.inside.Putting.{HasPut};
 
-use crate::kept::{Kept, Revisions};
-use crate::parts::Parts;
+use crate::inner::Inner;
+use crate::key_history::{KeyHistory, Revisions};
 use crate::rev::Rev;
 use kv_keys::{Key, KvError};
 use kv_model::Write;
@@ -21,44 +21,44 @@ use std::sync::Arc;
 /// share the write.
 pub fn put_write(
     alloc: Global,
-    parts: &mut Parts,
+    inner: &mut Inner,
     key: Key,
     revisions: Revisions,
     write: Write,
     values: u64,
 ) -> Result<(), KvError>
-    requires keys { length parts.old.by_key < 2 ^ 32 - 1 }
-    requires writes { length parts.old.by_revision < 2 ^ 32 - 1 }
+    requires keys { length inner.old.by_key < 2 ^ 32 - 1 }
+    requires writes { length inner.old.by_revision < 2 ^ 32 - 1 }
     requires small { write.revision < 2 ^ 32 }
-    ensures found { OnOk result ((q : List ℕ) → lookup (λ k. bytes_eq q k) (kept_entries parts.new.by_key) ≡
+    ensures found { OnOk result ((q : List ℕ) → lookup (λ k. bytes_eq q k) (kept_entries inner.new.by_key) ≡
         (if bytes_eq key q then Some revisions.items else
-        lookup (λ k. bytes_eq q k) (kept_entries parts.old.by_key))) }
-    ensures last { OnOk result ((q : List ℕ) → lookup (λ k. bytes_eq q k) (last_entries parts.new.by_key) ≡
-        (if bytes_eq key q then Some write else lookup (λ k. bytes_eq q k) (last_entries parts.old.by_key))) }
-    ensures len { OnOk result (length (kept_entries parts.new.by_key) ≤ length (kept_entries parts.old.by_key) + 1) }
-    ensures put { OnOk result (HasPut write parts.old.by_revision parts.new.by_revision) }
-    ensures same { OnOk result (parts.new ≡ record parts.old {
-      by_key = parts.new.by_key;
-      by_revision = parts.new.by_revision;
+        lookup (λ k. bytes_eq q k) (kept_entries inner.old.by_key))) }
+    ensures last { OnOk result ((q : List ℕ) → lookup (λ k. bytes_eq q k) (last_entries inner.new.by_key) ≡
+        (if bytes_eq key q then Some write else lookup (λ k. bytes_eq q k) (last_entries inner.old.by_key))) }
+    ensures len { OnOk result (length (kept_entries inner.new.by_key) ≤ length (kept_entries inner.old.by_key) + 1) }
+    ensures put { OnOk result (HasPut write inner.old.by_revision inner.new.by_revision) }
+    ensures same { OnOk result (inner.new ≡ record inner.old {
+      by_key = inner.new.by_key;
+      by_revision = inner.new.by_revision;
       last = write.revision;
       values = values;
     }) }
-    ensures unchanged { OnErr result (parts.new ≡ parts.old) }
+    ensures unchanged { OnErr result (inner.new ≡ inner.old) }
     ensures err { IfErr result (λ e. e ≡ OutOfMemory) }
 {
     let revision = write.revision();
     let number = Rev::new(revision as u32);
     let written = Arc::new(alloc, (number, write))?;
     let last = Arc::try_clone(&written)?;
-    let kept = Kept::new(revisions, last);
+    let kept = KeyHistory::new(revisions, last);
     put_both(
         alloc,
-        &mut parts.by_key,
+        &mut inner.by_key,
         NewPair::Owned((key, kept)),
-        &mut parts.by_revision,
+        &mut inner.by_revision,
         NewPair::Shared(written),
     )?;
-    parts.last = revision;
-    parts.values = values;
+    inner.last = revision;
+    inner.values = values;
     Ok(())
 }

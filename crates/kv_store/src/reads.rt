@@ -40,7 +40,7 @@ impl Version {
         ensures acts { (acts : List Act) → StandsFor acts self.now →
             result ≡ length (stored_writes self.now.config.history acts) }
     {
-        self.parts.by_revision.len()
+        self.inner.by_revision.len()
     }
 
     /// The history bound, the last revision, whether writes have ended, and how many writes are stored and how many
@@ -56,11 +56,11 @@ impl Version {
         ensures acts { (acts : List Act) → StandsFor acts self.now → result ≡ status_of self.now.config.history acts }
     {
         Status {
-            history: self.parts.history,
-            last: self.parts.last,
-            sealed: self.parts.sealed,
+            history: self.inner.history,
+            last: self.inner.last,
+            sealed: self.inner.sealed,
             stored: self.stored(),
-            values: self.parts.values,
+            values: self.inner.values,
         }
     }
 
@@ -77,7 +77,7 @@ impl Version {
     fn is_kept(&self, key: &Key, revision: u64) -> bool
         ensures { result ≡ list_any (λ r. r == revision) (kept_before key.now self.now) }
     {
-        is_kept_of(&self.parts.by_key, key, revision)
+        is_kept_of(&self.inner.by_key, key, revision)
     }
 
     // The write of the key with the revision, where it is kept.

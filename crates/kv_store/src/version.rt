@@ -13,8 +13,8 @@ ghost use Rattle.kv_model.specs.Retained.{kept, last_write, revisions};
 ghost use Rattle.kv_store.specs.Standing.{StandsFor};
 ghost use Rattle.kv_store.specs.Stored.{kept_at, last_at, write_at};
 
-use crate::kept::{Kept, last_of};
-use crate::parts::Parts;
+use crate::inner::Inner;
+use crate::key_history::{KeyHistory, last_of};
 use crate::rev::Rev;
 use arrayvec::ArrayString;
 use kv_keys::{Key, KvError};
@@ -29,12 +29,12 @@ use std::sync::Arc;
 ///
 /// Contracts see what it stores, and say which lists of accepted acts that stands for.
 pub struct Version {
-    pub(crate) parts: Arc<Parts>,
+    pub(crate) inner: Arc<Inner>,
 }
 
 impl Drop for Version {
     fn drop(self) {
-        let Self { parts: _ } = self;
+        let Self { inner: _ } = self;
     }
 }
 
@@ -47,9 +47,9 @@ impl Model for Version {
     ghost use Rattle.kv_store.specs.inside.Bounds.{IsBounded};
     ghost use Rattle.kv_store.specs.inside.Fields.{stored_of};
 
-    ghost view = { λ v. stored_of (arc_value v.parts) };
+    ghost view = { λ v. stored_of (arc_value v.inner) };
 
-    ghost invariant = { λ v. IsBounded (stored_of (arc_value v.parts)) };
+    ghost invariant = { λ v. IsBounded (stored_of (arc_value v.inner)) };
 }
 
 impl Version {
@@ -66,7 +66,7 @@ impl Version {
         let Ok(name) = ArrayString::from(config.bucket.as_str()) else {
             unreachable!()
         };
-        let parts = Parts {
+        let inner = Inner {
             name,
             history: config.history,
             value_limit: config.value_limit,
@@ -79,17 +79,17 @@ impl Version {
             floor: 0,
             sealed: false,
         };
-        Version::of(alloc, parts)
+        Version::of(alloc, inner)
     }
 
     // The version that has these parts.
-    pub(crate) fn of(alloc: Global, parts: Parts) -> Result<Version, KvError>
-        requires { IsBounded (stored_of parts) }
-        ensures ok { IfOk result (λ version. version ≡ stored_of parts) }
+    pub(crate) fn of(alloc: Global, inner: Inner) -> Result<Version, KvError>
+        requires { IsBounded (stored_of inner) }
+        ensures ok { IfOk result (λ version. version ≡ stored_of inner) }
         ensures err { IfErr result (λ e. e ≡ OutOfMemory) }
     {
         Ok(Version {
-            parts: Arc::new(alloc, parts)?,
+            inner: Arc::new(alloc, inner)?,
         })
     }
 
@@ -101,7 +101,7 @@ impl Version {
         ensures err { IfErr result (λ e. e ≡ OutOfMemory) }
     {
         Ok(Version {
-            parts: Arc::try_clone(&self.parts)?,
+            inner: Arc::try_clone(&self.inner)?,
         })
     }
 
@@ -112,16 +112,16 @@ impl Version {
             (λ version. (acts : List Act) → StandsFor acts self.now → StandsFor (acts ++ Seal ∷ []) version) }
         ensures err { IfErr result (λ e. e ≡ OutOfMemory) }
     {
-        let mut parts = self.parts.again()?;
-        parts.sealed = true;
-        Version::of(alloc, parts)
+        let mut inner = self.inner.copy()?;
+        inner.sealed = true;
+        Version::of(alloc, inner)
     }
 
     /// The bucket's name.
     pub fn bucket(&self) -> &str
         ensures { result.now ≡ self.now.config.bucket }
     {
-        self.parts.name.as_str()
+        self.inner.name.as_str()
     }
 
     /// The last revision, 0 where nothing was written.
@@ -129,7 +129,7 @@ impl Version {
         ensures value { result ≡ self.now.last }
         ensures acts { (acts : List Act) → StandsFor acts self.now → result ≡ length (writes_of acts) }
     {
-        self.parts.last
+        self.inner.last
     }
 
     /// The floor of the last compaction, 0 where there was none.
@@ -137,7 +137,7 @@ impl Version {
         ensures value { result ≡ self.now.floor }
         ensures acts { (acts : List Act) → StandsFor acts self.now → result ≡ floor_of acts }
     {
-        self.parts.floor
+        self.inner.floor
     }
 
     /// Whether writes have ended.
@@ -145,11 +145,11 @@ impl Version {
         ensures value { result ≡ self.now.sealed }
         ensures acts { (acts : List Act) → StandsFor acts self.now → result ≡ is_sealed acts }
     {
-        self.parts.sealed
+        self.inner.sealed
     }
 
     /// Of each key what is stored of it: the revisions that are kept of it, in order, and its last write.
-    pub fn by_key(&self) -> &Trie<Key, Kept>
+    pub fn by_key(&self) -> &Trie<Key, KeyHistory>
         ensures value { kept_entries result.now ≡ self.now.by_key }
         ensures last_value { last_entries result.now ≡ self.now.last_by_key }
         ensures acts { (acts : List Act) → StandsFor acts self.now → (key : List ℕ) →
@@ -158,7 +158,7 @@ impl Version {
         ensures last { (acts : List Act) → StandsFor acts self.now → (key : List ℕ) →
             lookup (λ k. bytes_eq key k) (last_entries result.now) ≡ last_write key acts }
     {
-        &self.parts.by_key
+        &self.inner.by_key
     }
 
     /// Of each revision the write that is stored of it.
@@ -167,15 +167,15 @@ impl Version {
         ensures acts { (acts : List Act) → StandsFor acts self.now → (revision : ℕ) →
             lookup (λ r. revision == r) result.now ≡ write_at_of self.now.config.history revision acts }
     {
-        &self.parts.by_revision
+        &self.inner.by_revision
     }
 
     // What is stored of the key.
-    pub(crate) fn of_key(&self, key: &Key) -> Option<&Kept>
+    pub(crate) fn of_key(&self, key: &Key) -> Option<&KeyHistory>
         ensures kept { option_map (λ k. k.revisions) (option_copied result) ≡ kept_at key.now self.now }
         ensures last { option_map (λ k. k.last) (option_copied result) ≡ last_at key.now self.now }
     {
-        self.parts.by_key.get(key)
+        self.inner.by_key.get(key)
     }
 
     /// The revisions that are kept of the key, in order. It takes no memory.
@@ -203,9 +203,9 @@ impl Version {
         ensures acts { (acts : List Act) → StandsFor acts self.now →
             option_copied result ≡ write_at_of self.now.config.history revision acts }
     {
-        if revision > self.parts.last {
+        if revision > self.inner.last {
             return None;
         }
-        self.parts.by_revision.get(&Rev::new(revision as u32))
+        self.inner.by_revision.get(&Rev::new(revision as u32))
     }
 }

@@ -2,16 +2,16 @@
 
 use super::*;
 
-fn seat_once<N: LiveName, R: Wait>(rt: &R, live: &Live<N>) -> Result<Reader<N>, KvError> {
+fn slot_once<N: LiveName, R: Wait>(rt: &R, live: &Live<N>) -> Result<Reader<N>, KvError> {
     live.lock(rt).reader()
 }
 
-fn seat<N: LiveName, R: Wait>(rt: &R, live: &Live<N>) -> Result<Reader<N>, KvError> {
-    again(|| seat_once(rt, live))
+fn slot<N: LiveName, R: Wait>(rt: &R, live: &Live<N>) -> Result<Reader<N>, KvError> {
+    again(|| slot_once(rt, live))
 }
 
 fn finds_no_place<N: LiveName, R: Wait + Abort>(rt: &R, live: &Live<N>) {
-    equal(rt, seat(rt, live).err(), Some(KvError::NoReader));
+    equal(rt, slot(rt, live).err(), Some(KvError::NoReader));
 }
 
 // Takes the one place that is free. The reader there sees all that is published.
@@ -19,7 +19,7 @@ fn takes_the_place<N: LiveName, R: Wait + Abort>(
     rt: &R,
     live: &Live<N>,
 ) -> Result<Reader<N>, KvError> {
-    let mut reader = seat(rt, live)?;
+    let mut reader = slot(rt, live)?;
     reads(rt, &mut reader, Answer::On(1, 0));
     finds_no_place(rt, live);
     Ok(reader)

@@ -20,7 +20,7 @@ pub fn put<N: LiveName, R: Wait>(rt: &R, alloc: Global, live: &Live<N>) -> Resul
 }
 
 // A reader at a place that is free.
-pub fn seat<N: LiveName, R: Wait>(rt: &R, live: &Live<N>) -> Result<Reader<N>, KvError> {
+pub fn slot<N: LiveName, R: Wait>(rt: &R, live: &Live<N>) -> Result<Reader<N>, KvError> {
     live.lock(rt).reader()
 }
 
@@ -53,7 +53,7 @@ pub fn watch_all<N: LiveName, R: Wait>(
     live: &Live<N>,
 ) -> Result<Feed<N>, KvError> {
     let filters = Filters::parse(alloc, "app.>")?;
-    watch(seat(rt, live)?, &filters, From::EmptyBucket)
+    watch(slot(rt, live)?, &filters, From::EmptyBucket)
 }
 
 // Whether an item comes after all that came before it. The revisions of entries rise one by one.

@@ -4,7 +4,7 @@
 ghost use Rattle.std.specs.Prelude.{◌≡◌};
 
 use crate::equal::equal;
-use crate::waiting::following::seat;
+use crate::waiting::following::slot;
 use crate::waiting::opening::{Row, run};
 use crate::waiting::waits::{Act, Step, make, steps_of, take_step};
 use kv_bucket::{Config, KvError, Live, LiveName, Opened, Reader, Woken};
@@ -33,7 +33,7 @@ pub fn woken_by<N: LiveName + Send + Sync, R: Threads + Wait + Clock + Abort + S
     acts: (Act, u64),
     sleep: Step,
 ) -> Result<(), KvError> {
-    let mut reader = seat(rt, live)?;
+    let mut reader = slot(rt, live)?;
     steps_of(rt, alloc, live, &mut reader, SEEN)?;
     sleep_beside(rt, alloc, live, &mut reader, acts, sleep)
 }

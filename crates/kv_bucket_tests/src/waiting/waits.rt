@@ -1,7 +1,7 @@
 //! Tests of waits: what ends them, and what they answer.
 
 use crate::equal::equal;
-use crate::waiting::following::{From, put, seat, watch};
+use crate::waiting::following::{From, put, slot, watch};
 use crate::waiting::opening::{Row, run};
 use kv_bucket::{Feed, Filters, KvError, Live, LiveName, Reader, Version, Woken};
 use std::alloc::Global;
@@ -109,7 +109,7 @@ pub fn steps<N: LiveName, R: Wait + Clock + Abort>(
     live: &Live<N>,
     all: &[Step],
 ) -> Result<(), KvError> {
-    let mut reader = seat(rt, live)?;
+    let mut reader = slot(rt, live)?;
     steps_of(rt, alloc, live, &mut reader, all)
 }
 
@@ -235,7 +235,7 @@ fn see<N: LiveName, R: Wait + Clock + Abort>(
     alloc: Global,
     live: &Live<N>,
 ) -> Result<Reader<N>, KvError> {
-    let mut reader = seat(rt, live)?;
+    let mut reader = slot(rt, live)?;
     steps_of(rt, alloc, live, &mut reader, SEEN)?;
     Ok(reader)
 }

@@ -1,18 +1,18 @@
 -- What a version's parts store.
 use Rattle.std.specs.Prelude.{ℕ, List, map}
 use Rattle.kv_model.specs.Acts.{Write}
-use Rattle.kv_store.specs.Stored.{Kept, Stored}
-use Rattle.kv_store.specs.declared.parts.Parts.{Parts}
+use Rattle.kv_store.specs.Stored.{KeyHistory, Stored}
+use Rattle.kv_store.specs.declared.inner.Inner.{Inner}
 
 -- the revisions in the entries of the key trie
-abbrev pub kept_entries : List (List ℕ × Kept) → List (List ℕ × List ℕ)
+abbrev pub kept_entries : List (List ℕ × KeyHistory) → List (List ℕ × List ℕ)
 kept_entries entries = map (λ e. (e.0, e.1.revisions)) entries
 
 -- the last writes in the entries of the key trie
-abbrev pub last_entries : List (List ℕ × Kept) → List (List ℕ × Write)
+abbrev pub last_entries : List (List ℕ × KeyHistory) → List (List ℕ × Write)
 last_entries entries = map (λ e. (e.0, e.1.last)) entries
 
-abbrev pub stored_of : Parts → Stored
+abbrev pub stored_of : Inner → Stored
 stored_of v = record {
   config = record {
     bucket = v.name.bytes;

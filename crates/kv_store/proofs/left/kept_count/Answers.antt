@@ -5,17 +5,17 @@ use Rattle.kv_keys.specs.declared.error.KvError.{KvError}
 use Rattle.kv_keys.specs.declared.error.KvError.TheVariants.{OutOfMemory}
 use Rattle.kv_trie.specs.Shown.{Shown}
 use Rattle.kv_store.specs.declared.left.Count.{Count}
-use Rattle.kv_store.specs.Stored.{Kept}
+use Rattle.kv_store.specs.Stored.{KeyHistory}
 use Rattle.kv_store.specs.inside.Compacted.{all_kept}
 use Rattle.kv_store.specs.inside.Fields.{kept_entries}
 use Rattle.kv_store.proofs.Naming.{distinct_kept}
 use Rattle.kv_store.proofs.left.kept_count.Goals as goal
 
-shows : Count → List ℕ → Kept → Result (Unit {0}) KvError → Count → Type 0
+shows : Count → List ℕ → KeyHistory → Result (Unit {0}) KvError → Count → Type 0
 shows old key kept result new =
     (old.revisions + length kept.revisions < 2 ^ 64 → new.revisions ≡ old.revisions + length kept.revisions) × IfErr result (λ error. error ≡ OutOfMemory)
 
-counted : (es : List (List ℕ × Kept)) (a b : Count) → Shown shows es a b → a.revisions + length (all_kept (kept_entries es)) < 2 ^ 64 → b.revisions ≡ a.revisions + length (all_kept (kept_entries es))
+counted : (es : List (List ℕ × KeyHistory)) (a b : Count) → Shown shows es a b → a.revisions + length (all_kept (kept_entries es)) < 2 ^ 64 → b.revisions ≡ a.revisions + length (all_kept (kept_entries es))
 unfolding shows
 counted [] a b h l = let same : b.revisions ≡ a.revisions = ap (λ (v : Count). v.revisions) h in omega (arith, same)
 counted (e ∷ es) a b h l =

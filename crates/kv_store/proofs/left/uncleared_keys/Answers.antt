@@ -1,7 +1,7 @@
 use Rattle.std.proofs.Common.{ℕ, Bool, Some, not, List, ap, length, arith}
 use Rattle.kv_trie.specs.Retain.{is_wanted}
 use Rattle.kv_trie.proofs.Retaining.{filter_le}
-use Rattle.kv_store.specs.Stored.{Kept}
+use Rattle.kv_store.specs.Stored.{KeyHistory}
 use Rattle.kv_store.specs.inside.Compacted.{clears}
 use Rattle.kv_store.proofs.Leaving.{spared_lookup}
 use Rattle.kv_store.proofs.Lookups.{length-kept_entries}
@@ -19,6 +19,6 @@ returns-clause-last c =
 pub returns-clause-len : goal.returns-clause-len
 returns-clause-len c =
     let old = c.args.by_key.now in
-    let wanted : List ℕ → Kept → Bool = λ key kept. not (clears c.args.floor (Some kept.last)) in
+    let wanted : List ℕ → KeyHistory → Bool = λ key kept. not (clears c.args.floor (Some kept.last)) in
     then_ok c.retain.result _ _ c.retain.ensures.pairs (λ left same.
     omega (arith, ap length same, filter_le (is_wanted wanted) old, length-kept_entries left, length-kept_entries old))

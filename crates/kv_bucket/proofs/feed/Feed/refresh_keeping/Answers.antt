@@ -2,7 +2,7 @@ use Rattle.std.proofs.Common.{◌≡◌, ◌∙◌, false, List, refl, sym, ap, 
 use Rattle.kv_model.specs.Acts.{Act, floor_of}
 use Rattle.kv_model.specs.Configuration.{Configuration}
 use Rattle.kv_bucket.specs.inside.Fed.{IsFed, acts_on, feeding_of}
-use Rattle.kv_publish.specs.Shelves.{Shelved}
+use Rattle.kv_publish.specs.Publications.{Published}
 use Rattle.kv_bucket.specs.Feeding.{Feeding, IsRefreshed, lags}
 use Rattle.kv_bucket.proofs.Feeds.{fed_later, fed_seen, refreshed}
 use Rattle.kv_bucket.proofs.feed.Feed.refresh_keeping.Goals as goal
@@ -12,42 +12,42 @@ invariant_of-self-2 g c =
     let was = c.self.inside in
     let fed = c.self.invariant.0 in
     let config = g.N.LiveName.opening.config in
-    let next = c.in_ok-shelf.shelf in
-    let ok = c.in_ok-shelf.ensures.ok in
+    let next = c.in_ok-publication.publication in
+    let ok = c.in_ok-publication.ensures.ok in
     let feed = feeding_of was.reader was.held.base.value was.held.current was.cursor in
     let ahead : lags config.history next.version.floor feed ≡ false =
-    ap (λ f. lags config.history f feed) c.in_ok-shelf.ensures.stands.floor
-    ∙ ap (λ (k : Configuration). lags k.history (floor_of c.shelf_ahead.new.self.seen) feed) (sym fed.same_config)
-    ∙ sym (c.in_ok-shelf.ensures.ahead feed was.held.base.value.version refl refl refl fed.reach) in (
-      subst (λ (shelf : Shelved). IsFed config c.shelf_ahead.new.self was.held.base.value shelf was.cursor) (sym c.replace-left.ensures.after)
-          (fed_later config was.reader c.shelf_ahead.new.self was.held.base.value was.held.current next was.cursor fed c.shelf_ahead.ensures.later ok.0 ok.1.1 c.in_ok-shelf.ensures.stands ahead),
+    ap (λ f. lags config.history f feed) c.in_ok-publication.ensures.stands.floor
+    ∙ ap (λ (k : Configuration). lags k.history (floor_of c.publication_ahead.new.self.seen) feed) (sym fed.same_config)
+    ∙ sym (c.in_ok-publication.ensures.ahead feed was.held.base.value.version refl refl refl fed.reach) in (
+      subst (λ (publication : Published). IsFed config c.publication_ahead.new.self was.held.base.value publication was.cursor) (sym c.replace-left.ensures.after)
+          (fed_later config was.reader c.publication_ahead.new.self was.held.base.value was.held.current next was.cursor fed c.publication_ahead.ensures.later ok.0 ok.1.1 c.in_ok-publication.ensures.stands ahead),
       c.self.invariant.1,
     )
 
 pub returns-clause-ok : goal.returns-clause-ok
 returns-clause-ok g c =
     let was = c.self.inside in
-    let next = c.in_ok-shelf.shelf in
-    let ok = c.in_ok-shelf.ensures.ok in
-    let step = refreshed was.reader c.shelf_ahead.new.self was.held.base.value was.held.current next was.cursor (c.shelf_ahead.ensures.later, c.shelf_ahead.ensures.told) c.self.invariant.0.seen ok.0 ok.2 in
-    subst (λ (shelf : Shelved). IsRefreshed c.args.self.now (feeding_of c.shelf_ahead.new.self was.held.base.value shelf was.cursor)) (sym c.replace-left.ensures.after)
-    (subst (λ (f : Feeding). IsRefreshed f (feeding_of c.shelf_ahead.new.self was.held.base.value next was.cursor)) c.self.view_is step)
+    let next = c.in_ok-publication.publication in
+    let ok = c.in_ok-publication.ensures.ok in
+    let step = refreshed was.reader c.publication_ahead.new.self was.held.base.value was.held.current next was.cursor (c.publication_ahead.ensures.later, c.publication_ahead.ensures.told) c.self.invariant.0.seen ok.0 ok.2 in
+    subst (λ (publication : Published). IsRefreshed c.args.self.now (feeding_of c.publication_ahead.new.self was.held.base.value publication was.cursor)) (sym c.replace-left.ensures.after)
+    (subst (λ (f : Feeding). IsRefreshed f (feeding_of c.publication_ahead.new.self was.held.base.value next was.cursor)) c.self.view_is step)
 
 pub returns-clause-ahead : goal.returns-clause-ahead
 returns-clause-ahead g c =
     let was = c.self.inside in
     let fed = c.self.invariant.0 in
     let config = g.N.LiveName.opening.config in
-    let next = c.in_ok-shelf.shelf in
-    let ok = c.in_ok-shelf.ensures.ok in
+    let next = c.in_ok-publication.publication in
+    let ok = c.in_ok-publication.ensures.ok in
     let feed = feeding_of was.reader was.held.base.value was.held.current was.cursor in
-    let ahead : lags config.history (floor_of c.shelf_ahead.new.self.seen) feed ≡ false =
-    ap (λ (k : Configuration). lags k.history (floor_of c.shelf_ahead.new.self.seen) feed) (sym fed.same_config)
-    ∙ sym (c.in_ok-shelf.ensures.ahead feed was.held.base.value.version refl refl refl fed.reach) in
-    subst (λ (shelf : Shelved). lags config.history (floor_of (acts_on shelf)) c.args.self.now ≡ false) (sym c.replace-left.ensures.after)
+    let ahead : lags config.history (floor_of c.publication_ahead.new.self.seen) feed ≡ false =
+    ap (λ (k : Configuration). lags k.history (floor_of c.publication_ahead.new.self.seen) feed) (sym fed.same_config)
+    ∙ sym (c.in_ok-publication.ensures.ahead feed was.held.base.value.version refl refl refl fed.reach) in
+    subst (λ (publication : Published). lags config.history (floor_of (acts_on publication)) c.args.self.now ≡ false) (sym c.replace-left.ensures.after)
     (subst (λ (f : Feeding). lags config.history (floor_of (acts_on next)) f ≡ false) c.self.view_is
     (ap (λ (acts : List Act). lags config.history (floor_of acts) feed) ok.0 ∙ ahead))
 
 pub invariant_of-self : goal.invariant_of-self
 invariant_of-self g c =
-    (fed_seen g.N.LiveName.opening.config c.self.inside.reader c.shelf_ahead.new.self c.self.inside.held.base.value c.self.inside.held.current c.self.inside.cursor c.self.invariant.0 c.shelf_ahead.ensures.later, c.self.invariant.1)
+    (fed_seen g.N.LiveName.opening.config c.self.inside.reader c.publication_ahead.new.self c.self.inside.held.base.value c.self.inside.held.current c.self.inside.cursor c.self.invariant.0 c.publication_ahead.ensures.later, c.self.invariant.1)

@@ -28,8 +28,8 @@ returns g c =
     let counts : new.handed ≡ old.handed + option_len item = place.handed in
     let next : item ≡ slice_get (given_to was.held.base.value.version.config.history began acts old) old.handed = c.take_settled.ensures.next old.handed began acts base opening at in
     let all = took config was.reader was.held.base.value was.held.current old new item fed c.take_settled.ensures.filters c.take_settled.ensures.options next counts in
-    let whole = feeding_of was.reader was.held.base.value was.held.current new in (
-      (refl, λ _. tt, subst (λ (f : Feeding). whole ≡ after_item f item) c.self.view_is all.2),
+    let journal = feeding_of was.reader was.held.base.value was.held.current new in (
+      (refl, λ _. tt, subst (λ (f : Feeding). journal ≡ after_item f item) c.self.view_is all.2),
       record {
         after = tt;
         once = subst (λ (f : Feeding). item ≡ None → (told : List Act) → (w : Write) → Owes f told w → HasOnce f w (take f.handed (given_by config.history f))) c.self.view_is

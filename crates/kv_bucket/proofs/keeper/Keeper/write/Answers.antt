@@ -17,7 +17,7 @@ pub returns-in_err-keep-clause-unchanged : goal.returns-in_err-keep-clause-uncha
 returns-in_err-keep-clause-unchanged g c = search rules
 
 pub keep-requires-clause-stands : goal.keep-requires-clause-stands
-keep-requires-clause-stands g c = wrote_stands g.N.LiveName.opening.config c.self.inside.bucket c.self.inside.publisher c.args.request.now c.wrote-deed.result c.revision-revision.result c.version.result.now c.in_ok-next.next c.self.invariant c.version.ensures.value c.in_ok-next.ensures.ok c.wrote-deed.ensures c.revision-revision.ensures.value
+keep-requires-clause-stands g c = wrote_stands g.N.LiveName.opening.config c.self.inside.bucket c.self.inside.publisher c.args.request.now c.wrote-ghost_act.result c.revision-revision.result c.version.result.now c.in_ok-next.next c.self.invariant c.version.ensures.value c.in_ok-next.ensures.ok c.wrote-ghost_act.ensures c.revision-revision.ensures.value
 
 pub keep-requires-clause-config : goal.keep-requires-clause-config
 keep-requires-clause-config g c = search rules
@@ -29,13 +29,13 @@ pub returns-clause-unchanged : goal.returns-clause-unchanged
 returns-clause-unchanged g c = search
 
 pub invariant_of-self-2 : goal.invariant_of-self-2
-invariant_of-self-2 g c = (writes_kept g.N.LiveName.opening.config c.args.self.now c.self.inside.bucket c.keep.new.bucket c.self.inside.publisher c.keep.new.publisher c.args.request.now c.wrote-deed.result c.revision-revision.result c.version.result.now c.in_ok-next.next c.self.view_is c.self.invariant c.version.ensures.value c.in_ok-next.ensures.config c.in_ok-next.ensures.ok c.wrote-deed.ensures c.revision-revision.ensures.value c.in_ok-keep.ensures.ok).0
+invariant_of-self-2 g c = (writes_kept g.N.LiveName.opening.config c.args.self.now c.self.inside.bucket c.keep.new.bucket c.self.inside.publisher c.keep.new.publisher c.args.request.now c.wrote-ghost_act.result c.revision-revision.result c.version.result.now c.in_ok-next.next c.self.view_is c.self.invariant c.version.ensures.value c.in_ok-next.ensures.config c.in_ok-next.ensures.ok c.wrote-ghost_act.ensures c.revision-revision.ensures.value c.in_ok-keep.ensures.ok).0
 
 pub returns-clause-ok : goal.returns-clause-ok
-returns-clause-ok g c = (writes_kept g.N.LiveName.opening.config c.args.self.now c.self.inside.bucket c.keep.new.bucket c.self.inside.publisher c.keep.new.publisher c.args.request.now c.wrote-deed.result c.revision-revision.result c.version.result.now c.in_ok-next.next c.self.view_is c.self.invariant c.version.ensures.value c.in_ok-next.ensures.config c.in_ok-next.ensures.ok c.wrote-deed.ensures c.revision-revision.ensures.value c.in_ok-keep.ensures.ok).1.0
+returns-clause-ok g c = (writes_kept g.N.LiveName.opening.config c.args.self.now c.self.inside.bucket c.keep.new.bucket c.self.inside.publisher c.keep.new.publisher c.args.request.now c.wrote-ghost_act.result c.revision-revision.result c.version.result.now c.in_ok-next.next c.self.view_is c.self.invariant c.version.ensures.value c.in_ok-next.ensures.config c.in_ok-next.ensures.ok c.wrote-ghost_act.ensures c.revision-revision.ensures.value c.in_ok-keep.ensures.ok).1.0
 
 pub returns-clause-published : goal.returns-clause-published
-returns-clause-published g c = (writes_kept g.N.LiveName.opening.config c.args.self.now c.self.inside.bucket c.keep.new.bucket c.self.inside.publisher c.keep.new.publisher c.args.request.now c.wrote-deed.result c.revision-revision.result c.version.result.now c.in_ok-next.next c.self.view_is c.self.invariant c.version.ensures.value c.in_ok-next.ensures.config c.in_ok-next.ensures.ok c.wrote-deed.ensures c.revision-revision.ensures.value c.in_ok-keep.ensures.ok).1.1
+returns-clause-published g c = (writes_kept g.N.LiveName.opening.config c.args.self.now c.self.inside.bucket c.keep.new.bucket c.self.inside.publisher c.keep.new.publisher c.args.request.now c.wrote-ghost_act.result c.revision-revision.result c.version.result.now c.in_ok-next.next c.self.view_is c.self.invariant c.version.ensures.value c.in_ok-next.ensures.config c.in_ok-next.ensures.ok c.wrote-ghost_act.ensures c.revision-revision.ensures.value c.in_ok-keep.ensures.ok).1.1
 
 pub invariant_of-self-in_err-keep : goal.invariant_of-self-in_err-keep
 invariant_of-self-in_err-keep g c = somewhere_left g.N.LiveName.opening.config c.self.inside.bucket c.keep.new.bucket c.self.inside.publisher c.keep.new.publisher c.self.invariant c.in_err-keep.ensures.unchanged.0 c.in_err-keep.ensures.unchanged.1

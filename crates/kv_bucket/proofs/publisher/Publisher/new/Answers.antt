@@ -9,6 +9,6 @@ beginning-requires-clause-book g c = c.requires.book
 pub invariant_of-result : goal.invariant_of-result
 invariant_of-result g c =
     let config = g.N.LiveName.opening.config in
-    let made = c.in_ok-bell.ensures in
-    let acts : c.in_ok-bell.whole ≡ [] = made.2 in
-    (refl, c.in_ok-copies.ensures ∙ (made.1 ∙ sym acts), made.0, made.1, subst (IsPublishedHistory config) (sym acts) (begins config c.args.version.now c.requires.config c.requires.stands))
+    let made = c.in_ok-notifier.ensures in
+    let acts : c.in_ok-notifier.journal ≡ [] = made.2 in
+    (refl, c.in_ok-buffer.ensures ∙ (made.1 ∙ sym acts), made.0, made.1, subst (IsPublishedHistory config) (sym acts) (begins config c.args.version.now c.requires.config c.requires.stands))

@@ -8,14 +8,14 @@ use Rattle.kv_store.proofs.version.Version.compacted.Goals as goal
 pub returns-clause-ok : goal.returns-clause-ok
 returns-clause-ok c =
     let left : IsCompacted c.args.floor c.args.self.now (stored_of c.with.result) =
-    rw (c.with.ensures, c.deref-parts.ensures, ← c.self.view_is) (record {
+    rw (c.with.ensures, c.deref-inner.ensures, ← c.self.view_is) (record {
       config = refl;
       last = refl;
-      kept = rw c.deref-parts.ensures at c.in_ok-by_key.ensures.kept;
-      last_of = rw c.deref-parts.ensures at c.in_ok-by_key.ensures.last;
-      written = rw c.deref-parts.ensures at c.in_ok-by_revision.ensures.written;
+      kept = rw c.deref-inner.ensures at c.in_ok-by_key.ensures.kept;
+      last_of = rw c.deref-inner.ensures at c.in_ok-by_key.ensures.last;
+      written = rw c.deref-inner.ensures at c.in_ok-by_revision.ensures.written;
       apart = c.in_ok-kept_count.ensures.apart;
-      values = λ small. omega (arith, small, c.in_ok-kept_count.ensures.count, rw c.deref-parts.ensures at c.min-values.ensures);
+      values = λ small. omega (arith, small, c.in_ok-kept_count.ensures.count, rw c.deref-inner.ensures at c.min-values.ensures);
       floor = refl;
       sealed = refl;
     }) in

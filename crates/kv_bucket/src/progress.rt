@@ -1,0 +1,197 @@
+//! What a reader has seen, and what it was told.
+
+ghost use Rattle.std.specs.Prelude.{◌≡◌, ◌⊎◌, [], true, false, IfOk, IfErr, OnOk};
+ghost use Rattle.std.specs.Option.{option_map};
+ghost use Rattle.kv_keys.specs.declared.error.KvError.TheVariants.{NoReader};
+ghost use Rattle.kv_model.specs.Acts.{IsPrefix, floor_of};
+ghost use Rattle.kv_store.specs.Standing.{StandsFor};
+ghost use Rattle.kv_bucket.specs.inside.Fed.{TellsLag, TellsLagOf, IsNotShown};
+ghost use Rattle.kv_publish.specs.Publications.{IsOf};
+
+use crate::receipt::Mark;
+use kv_keys::KvError;
+use kv_publish::{LiveName, Prefix, Publication, RawPrefix};
+use kv_watch::Cursor;
+use std::marker::Model;
+
+/// What a reader of the opening N has seen, what it was told, and how many acts the version stands for that it took in
+/// last. Contracts see the acts of the first two.
+pub struct Progress<N: LiveName> {
+    seen: Prefix<N>,
+    told: Prefix<N>,
+    taken_in: u64,
+}
+
+impl<N: LiveName> Drop for Progress<N> {
+    fn drop(self) {
+        let Self {
+            seen: _,
+            told: _,
+            taken_in: _,
+        } = self;
+    }
+}
+
+impl<N: LiveName> Model for Progress<N> {
+    ghost use Rattle.kv_bucket.specs.Known.{Known};
+
+    ghost Value = { Known };
+
+    ghost view = { λ k. record { seen = k.seen; told = k.told } };
+}
+
+impl<N: LiveName> Progress<N> {
+    /// Of who has seen nothing and was told this. The empty publication shows which history it is of.
+    pub fn new(empty: &Publication, told: Prefix<N>) -> Progress<N>
+        requires { IsOf N.opening empty.now × (empty.now.raw_prefix.acts ≡ []) }
+        ensures { (result.seen ≡ []) × (result.told ≡ told) }
+    {
+        Progress {
+            seen: Prefix::of(empty.raw_prefix()),
+            told,
+            taken_in: 0,
+        }
+    }
+
+    /// How many acts the version stands for that it took in last.
+    pub fn taken_in(&self) -> u64 {
+        self.taken_in
+    }
+
+    /// Takes in what is published: a copy, unless the follower, if any, lags behind it.
+    pub fn take_in(
+        &mut self,
+        follower: Option<(&Publication, &Cursor)>,
+        publication: &Publication,
+    ) -> Result<Publication, KvError>
+        requires { IsOf N.opening publication.now }
+        ensures later { IsPrefix self.old.seen self.new.seen }
+        ensures told { self.new.told ≡ self.old.told }
+        ensures ok { IfOk result
+            (λ s. (s.raw_prefix.acts ≡ self.new.seen) × IsOf N.opening s × IsPrefix self.old.told self.new.seen) }
+        ensures stands { IfOk result (λ s. StandsFor self.new.seen s.version) }
+        ensures ahead { IfOk result
+            (λ _. TellsLagOf (option_map (λ f. (f.0.now, f.1.now)) follower.entry) (floor_of self.new.seen) false) }
+        ensures err { IfErr result
+            (IsNotShown (option_map (λ f. (f.0.now, f.1.now)) follower.entry) self.new.seen) }
+    {
+        self.see(publication)?;
+        let copy = copy_for(follower, publication)?;
+        self.rest_on(&copy);
+        Ok(copy)
+    }
+
+    /// Sees what is published. Where it is older than what was seen or told it is `NoReader`. It never is: that was
+    /// published before.
+    pub fn see(&mut self, publication: &Publication) -> Result<(), KvError>
+        requires { IsOf N.opening publication.now }
+        ensures later { IsPrefix self.old.seen self.new.seen }
+        ensures told { self.new.told ≡ self.old.told }
+        ensures ok { OnOk result ((self.new.seen ≡ publication.now.raw_prefix.acts)
+            × IsPrefix self.old.told self.new.seen) }
+        ensures err { IfErr result (λ e. e ≡ NoReader) }
+    {
+        let prefix: Prefix<N> = Prefix::of(publication.raw_prefix());
+        if !prefix.covers(&self.seen) || !prefix.covers(&self.told) {
+            return Err(KvError::NoReader);
+        }
+        self.seen = prefix;
+        Ok(())
+    }
+
+    /// Whether it has seen all of this prefix, and no more.
+    pub fn has_seen_just(&self, raw_prefix: &RawPrefix) -> bool
+        requires { raw_prefix.now.book ≡ N.opening.book }
+        ensures { result ≡ true → raw_prefix.now.acts ≡ self.now.seen }
+    {
+        let prefix: Prefix<N> = Prefix::of(raw_prefix);
+        prefix.covers(&self.seen) && self.seen.covers(&prefix)
+    }
+
+    /// Whether what it has seen begins with all that it was told.
+    pub fn has_seen_all_told(&self) -> bool
+        ensures { result ≡ true → IsPrefix self.now.told self.now.seen }
+    {
+        self.seen.covers(&self.told)
+    }
+
+    /// The version of this publication is the one that it took in last.
+    pub fn rest_on(&mut self, publication: &Publication)
+        ensures { self.new ≡ self.old }
+    {
+        self.taken_in = publication.acts();
+    }
+
+    /// Takes in a mark.
+    pub fn learn(&mut self, mark: &Mark<N>)
+        ensures seen { self.new.seen ≡ self.old.seen }
+        ensures told { IsPrefix self.old.told self.new.told }
+        ensures learned { IsPrefix mark.now self.new.told }
+        ensures one_list { (self.new.told ≡ self.old.told) ⊎ (self.new.told ≡ mark.now) }
+    {
+        self.told = self.told.longer(mark.prefix());
+    }
+
+    /// Whether it has seen all that the other one has. Of the two lists the shorter begins the longer.
+    pub fn has_seen_all_of(&self, other: &Progress<N>) -> bool
+        ensures yes { result ≡ true → IsPrefix other.now.seen self.now.seen }
+        ensures no { result ≡ false → IsPrefix self.now.seen other.now.seen }
+    {
+        self.seen.covers(&other.seen)
+    }
+
+    /// Whether it has seen what the mark tells.
+    pub fn has_seen(&self, mark: &Mark<N>) -> bool
+        ensures yes { result ≡ true → IsPrefix mark.now self.now.seen }
+        ensures no { result ≡ false → IsPrefix self.now.seen mark.now }
+    {
+        self.seen.covers(mark.prefix())
+    }
+
+    /// What it has seen.
+    pub fn seen(&self) -> &Prefix<N>
+        ensures { result.now ≡ self.now.seen }
+    {
+        &self.seen
+    }
+
+    /// What it was told.
+    pub fn told(&self) -> &Prefix<N>
+        ensures { result.now ≡ self.now.told }
+    {
+        &self.told
+    }
+}
+
+// A copy of the publication, unless this follower, if any, lags behind it.
+fn copy_for(
+    follower: Option<(&Publication, &Cursor)>,
+    publication: &Publication,
+) -> Result<Publication, KvError>
+    ensures ok { IfOk result (λ s. (s.raw_prefix ≡ publication.now.raw_prefix)
+        × (s.version.config ≡ publication.now.version.config)) }
+    ensures stands { IfOk result (λ s. StandsFor publication.now.raw_prefix.acts s.version) }
+    ensures ahead { IfOk result (λ _. TellsLagOf (option_map (λ f. (f.0.now, f.1.now)) follower.entry)
+        (floor_of publication.now.raw_prefix.acts) false) }
+    ensures err { IfErr result
+        (IsNotShown (option_map (λ f. (f.0.now, f.1.now)) follower.entry) publication.now.raw_prefix.acts) }
+{
+    if let Some((current, cursor)) = follower {
+        let floor = publication.version().floor();
+        if lags_behind(current, cursor, floor) {
+            return Err(KvError::Lagged { floor });
+        }
+    }
+    publication.try_clone()
+}
+
+// Whether a feed with this cursor that is on this publication lags behind a version with the floor.
+fn lags_behind(current: &Publication, cursor: &Cursor, floor: u64) -> bool
+    ensures { TellsLag current.now cursor.now floor result }
+{
+    let version = current.version();
+    if version.revision() < floor {
+        return true;
+    }
+    cursor.behind(version, floor)
+}

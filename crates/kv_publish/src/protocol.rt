@@ -1,0 +1,136 @@
+//! The history of an opening: the acts that are published, in order. It exists in proofs alone, beside a word on which its
+//! steps are made.
+
+use crate::entry::Entry;
+use crate::ghost_act::GhostAct;
+use logbook::{Gain, Opening, Pen, Plain, Play, Rule, Seen, Word};
+use std::marker::Brand;
+
+/// The rule of the history.
+pub struct Noted;
+
+impl Rule<Entry, u64> for Noted {
+    ghost use Rattle.std.specs.Prelude.{[]};
+    ghost use base.Fml.{ftrue};
+    ghost use Rattle.kv_publish.specs.Rules.{IsKept};
+
+    ghost holds = { λ cells log. IsKept cells log };
+
+    ghost first = { [] };
+
+    ghost hinted = { λ n log. Unit {0} };
+
+    ghost shows = { λ log. [] };
+
+    ghost keeps = { λ names log. ftrue };
+
+    ghost moves = { λ ask before after answer. Unit {0} };
+}
+
+/// A history begins with nothing.
+pub struct Empty;
+
+impl Opening<(), Entry> for Empty {
+    ghost use Rattle.std.specs.Prelude.{[]};
+
+    ghost log = { λ count about. [] };
+}
+
+/// Callers trade nothing.
+pub struct Nothing;
+
+impl Gain<Entry, u64> for Nothing {
+    ghost use base.Fml.{ftrue};
+
+    ghost after = { λ names about answer. ftrue };
+}
+
+/// A step that makes a right to add an entry later, and adds nothing.
+pub struct Makes;
+
+impl Play<Entry, u64> for Makes {
+    ghost use Rattle.kv_publish.specs.Rules.{Making};
+
+    ghost then = { Making };
+}
+
+/// It asks for nothing.
+impl Plain<(), Entry, u64> for Makes {
+    ghost use Rattle.std.specs.Prelude.{None};
+    ghost use Rattle.kv_publish.specs.Rules.{no_entry};
+
+    ghost ask = { λ about. no_entry };
+
+    ghost state = { λ about. None };
+}
+
+/// An act, and the right to add the next one.
+#[derive(Drop)]
+pub struct Claim {
+    pub ghost_act: GhostAct,
+    pub pen: Pen,
+}
+
+/// A step that adds an act, by the right to add the next one.
+pub struct Adds;
+
+impl Play<Entry, u64> for Adds {
+    ghost use Rattle.kv_publish.specs.Rules.{Adding};
+
+    ghost then = { Adding };
+}
+
+/// What it asks for: the act, and which right is the next one.
+impl Plain<Claim, Entry, u64> for Adds {
+    ghost use Rattle.std.specs.Prelude.{None};
+    ghost use Rattle.kv_publish.specs.Rules.{entry};
+
+    ghost ask = { λ claim. entry claim.ghost_act claim.pen.nib.key };
+
+    ghost state = { λ claim. None };
+}
+
+/// A step of who has the right to add the next entry, who learns that there is none yet.
+pub struct Looks;
+
+impl Play<Entry, u64> for Looks {
+    ghost use Rattle.kv_publish.specs.Rules.{Looking};
+
+    ghost then = { Looking };
+}
+
+/// It asks for nothing.
+impl Plain<(), Entry, u64> for Looks {
+    ghost use Rattle.std.specs.Prelude.{None};
+    ghost use Rattle.kv_publish.specs.Rules.{no_entry};
+
+    ghost ask = { λ about. no_entry };
+
+    ghost state = { λ about. None };
+}
+
+/// Stands for one opening of a bucket, which is its history and its configuration. What has one name has one published
+/// list.
+///
+/// A function generic over it is called with std's `Brand`.
+pub trait LiveName {
+    ghost use Rattle.kv_publish.specs.Openings.{Opening};
+
+    ghost opening: { Opening };
+}
+
+impl LiveName for Brand {
+    ghost use Rattle.std.specs.Prelude.{[]};
+
+    ghost opening = { record {
+      book = record { number = 0; log_name = 0; cells_name = 0 };
+      config = record { bucket = []; history = 1; value_limit = 0; write_limit = 1; revision_limit = 1 };
+    } };
+}
+
+/// What was seen of a history that has no name yet. It has no bytes.
+pub type Witness = Seen<Entry, u64, Noted>;
+
+/// A word of the history. What it holds says nothing when the program runs. The first is there for steps to be made on,
+/// and each of the two others is the right to be one of the two copies of what is published.
+pub type Anchor = Word<Entry, u64, Noted>;
