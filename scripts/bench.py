@@ -1,16 +1,15 @@
 #!/usr/bin/env python3
-"""bench.py [--short] BENCH KVBUCKET [FOLDER]: measures the bucket and what a user would take in its place, by the programs
+"""bench.py BENCH KVBUCKET [FOLDER]: measures the bucket and what a user would take in its place, by the programs
 kv_bench and kvbucket, within five minutes, and writes into the folder (docs/bench where none is given) the figures as
 figures.tsv, a page of tables as README.md, and charts where matplotlib is there (scripts/charts.py). It tells on standard
-error what it is doing.
+error what it is doing. tests/test_bench.py looks at whether that works."""
+import collections, datetime, os, platform, random, subprocess, sys, time
 
-With --short it looks at whether that works: each group at its smallest size, into a folder that is thrown away. Its last
-line is 'N passed, M failed'."""
-import collections, datetime, os, platform, random, subprocess, sys, tempfile, time
-
-sys.dont_write_bytecode = True
-top = os.path.realpath(os.path.join(os.path.dirname(__file__), ".."))
-sys.path.insert(0, top)
+if __name__ == "__main__":
+    sys.dont_write_bytecode = True
+    sys.path.insert(0, os.path.dirname(os.path.dirname(os.path.realpath(__file__))))
+from scripts import kit, top
+from scripts.figures import NAME, Figure, grouped, in_digits, lines_of, parsed
 from scripts.lines import VALUE, Program
 
 started = time.monotonic()
@@ -59,8 +58,6 @@ GETS = 20_000
 PUTS = 2_000
 MOST_WRITTEN = 990_000
 
-Figure = collections.namedtuple("Figure", "group what of others keys median least most unit")
-
 
 def say(text):
     print("bench: " + text, file=sys.stderr, flush=True)
@@ -73,18 +70,12 @@ def elapsed():
 # The figures.
 
 
-def figure_of(line):
-    """The figure of a line of kv_bench, which counts in tenths of the unit."""
-    group, what, of, others, keys, median, least, most, unit = line.split("\t")
-    return Figure(group, what, of, int(others), int(keys), int(median) / 10, int(least) / 10, int(most) / 10, unit)
-
-
 def run(bench, group, keys, rounds):
     done = subprocess.run([bench, group, str(keys), str(rounds)], stdin=subprocess.DEVNULL, capture_output=True, text=True)
     if done.returncode != 0:
         say("%s %d %d ended with status %d: %s" % (group, keys, rounds, done.returncode, done.stderr.strip()))
         sys.exit(1)
-    return [figure_of(line) for line in done.stdout.splitlines()]
+    return [parsed(line, tenths=True) for line in done.stdout.splitlines()]
 
 
 def merged(figures):
@@ -229,10 +220,6 @@ def in_words(value, unit):
     return ("%.*f %s" % (digits, scaled, name)).strip()
 
 
-def in_digits(keys):
-    return "{:,}".format(keys)
-
-
 def column_of(keys):
     """The size in whose column a figure stands: what is written to has fewer keys than a bucket stores at most."""
     return min((size for size in (*SIZES, *WRITTEN_TWICE) if size >= keys), default=keys)
@@ -305,13 +292,6 @@ def of_file(path, key):
         return next((line.split(":", 1)[1].strip() for line in told if line.startswith(key)), "unknown")
 
 
-def of_command(*command):
-    try:
-        return subprocess.run(command, capture_output=True, text=True, cwd=top).stdout.strip() or "unknown"
-    except OSError:
-        return "unknown"
-
-
 def machine_of(load):
     gigabytes = int(of_file("/proc/meminfo", "MemTotal").split()[0]) / 1e6
     return ("%s, %d processors for the bench, %.0f GB; Linux %s; the load when it began was %.1f" % (
@@ -327,7 +307,7 @@ def page(figures, load, machine, left_out, charts):
     yield "- The machine: %s." % machine_of(load)
     yield "- %s" % machine.told()
     yield ("- The programs: `kv_bench` and `kvbucket`, proved and built by LLVM with %s. Times are of the system's monotonic "
-           "clock, unless they are called processor time." % of_command("rt", "version"))
+           "clock, unless they are called processor time." % (kit.version() or "an unknown kit"))
     yield ("- Values of 16 bytes; keys of 3 to 8, and five entries of a key kept, but of lines keys of 14 to 19, and one entry. A pass "
            "has three rounds, one of followers and where memory is weighed; more than 100,000 keys, and the delays, have all their "
            "rounds in the first pass. What is read back is checked: a wrong answer ends the bench.")
@@ -382,15 +362,15 @@ def drawn(folder):
 
 
 def tell(figures, folder, load, machine, left_out):
-    tabbed = lambda it: "\t".join(str(part) for part in it)
-    write(folder, "figures.tsv", (tabbed(it) for it in (Figure._fields, *figures)))
+    write(folder, NAME, lines_of(figures))
     charts = drawn(folder)
     write(folder, "README.md", page(figures, load, machine, left_out, charts))
     return charts
 
 
 def whole(bench, kvbucket, folder):
-    load, figures, left_out = os.getloadavg()[0], [], []
+    load = os.getloadavg()[0]
+    left_out: list[str] = []
     machine, lines = Machine(lambda: map_get(bench)), None
     if os.access(kvbucket, os.X_OK):
         say("lines, after %d s" % elapsed())
@@ -398,7 +378,7 @@ def whole(bench, kvbucket, folder):
     else:
         left_out.append("lines, as kvbucket was not built")
     runs = [it for number in range(PASSES) for it in runs_of(number)]
-    found = collections.defaultdict(list)
+    found = []
     for place, (group, keys, rounds) in enumerate(runs):
         # So many of the runs as there are rounds of lines begin with one.
         if lines and place * LINE_ROUNDS // len(runs) != (place - 1) * LINE_ROUNDS // len(runs):
@@ -410,92 +390,16 @@ def whole(bench, kvbucket, folder):
             left_out.append("%s at %s, once, as the five minutes were over" % (group, in_digits(keys)))
         else:
             machine.wait()
-            for figure in measured(bench, group, keys, rounds):
-                found[figure.group, figure.what, figure.of, figure.others, figure.keys].append(figure)
-    figures += map(merged, found.values())
-    if lines:
-        figures += lines.figures()
+            found += measured(bench, group, keys, rounds)
+    of_passes = grouped(found, lambda it: (it.group, it.what, it.of, it.others, it.keys)).values()
+    figures = [*map(merged, of_passes), *(lines.figures() if lines else ())]
     os.makedirs(folder, exist_ok=True)
     tell(figures, folder, load, machine, left_out)
     say("%d figures, %d s" % (len(figures), elapsed()))
 
 
-class Checks:
-    def __init__(self):
-        self.passed = self.failed = 0
-
-    def check(self, what, holds):
-        if holds:
-            self.passed += 1
-        else:
-            self.failed += 1
-            print("wrong: " + what)
-
-
-def check_words(checks):
-    checks.check("a line is a figure", figure_of("feeds\titems\tone\t8\t10\t15\t10\t20\ta second")
-                 == Figure("feeds", "items", "one", 8, 10, 1.5, 1.0, 2.0, "a second"))
-    for value, unit, wanted in ((0.5, "ns", "0.50 ns"), (15, "ns", "15.0 ns"), (1500, "ns", "1.50 µs"), (2.5e8, "ns", "250 ms"),
-                                (1.2e6, "a second", "1.20 M"), (7, "a second", "7.00"), (414.2, "bytes", "414 B")):
-        checks.check("%r in words is %r" % (value, in_words(value, unit)), in_words(value, unit) == wanted)
-    one = Figure("memory", "a key", "", 0, 10, 3.0, 3.0, 3.0, "bytes")
-    checks.check("fewer keys are told", cell(one._replace(keys=950_000)).endswith(", of 950,000 keys"))
-    checks.check("as many keys are not told", cell(one._replace(keys=1_000)).endswith(")"))
-    checks.check("three are one", merged([one, one._replace(median=5.0, most=7.0), one._replace(median=4.0, least=2.0)])[5:8] == (4.0, 2.0, 7.0))
-
-
-def check_waits(checks):
-    took = iter([50.0] * PROBES + [90.0, 62.0, 40.0, 51.0, 50.0])
-    machine = Machine(lambda: next(took))
-    machine.wait()
-    checks.check("a wait ends at a calm moment", next(took) == 40.0 and (machine.begun, machine.disturbed) == (1, 0))
-    machine.least = 40.0
-    machine.wait()
-    checks.check("a lower least is a stricter one", not list(took) and machine.disturbed == 0)
-    machine.probe, machine.waited = lambda: 90.0, WAITING
-    machine.wait()
-    checks.check("a wait ends when the time for all is over", machine.disturbed == 1)
-
-
-def short(bench, kvbucket):
-    checks = Checks()
-    check_words(checks)
-    check_waits(checks)
-    machine = Machine(lambda: map_get(bench))
-    lines = Lines(kvbucket, (1_000,), 100, 100)
-    for _ in range(3):
-        lines.round(machine)
-    figures = list(lines.figures())
-    checks.check("lines give figures", [it.what for it in figures] == ["get", "put, key that is there", "put, new key"])
-    checks.check("lines are in order", all(it.least <= it.median <= it.most for it in figures))
-    checks.check("each group is measured at each size", sorted(it[:2] for it in runs_of(0)) == sorted((group, keys) for group, sizes in RUNS for keys in sizes))
-    checks.check("what is measured once is not measured again",
-                 not any(group == "delay" or keys > MOST_KEYS for group, keys, _ in runs_of(1)))
-    for group, _ in RUNS:
-        found = measured(bench, group, 1_000, 1)
-        checks.check(group + " gives figures", bool(found))
-        checks.check(group + " gives its own", all(it.keys == 1_000 and it.group == group.split("-")[0] for it in found))
-        checks.check(group + " is in order", all(it.least <= it.median <= it.most for it in found))
-        figures += found
-    wrong = subprocess.run([bench, "nothing", "1000", "1"], stdin=subprocess.DEVNULL, capture_output=True)
-    checks.check("another group is refused", wrong.returncode == 2 and not wrong.stdout and wrong.stderr)
-    with tempfile.TemporaryDirectory() as folder:
-        charts = tell(figures, folder, os.getloadavg()[0], machine, [])
-        checks.check("charts are drawn where matplotlib is there", not has_matplotlib() or set(charts) == {it.group for it in figures})
-        with open(os.path.join(folder, "README.md"), encoding="utf-8") as told:
-            text = told.read()
-        checks.check("each group has its table", all("## " + title in text for _, title, _, _ in GROUPS))
-        checks.check("each figure has its row", all("| %s |" % row_of(it) in text for it in figures))
-    print("%d passed, %d failed" % (checks.passed, checks.failed))
-    sys.exit(checks.failed > 0)
-
-
 def main():
-    words = sys.argv[1:]
-    is_short = words[:1] == ["--short"]
-    bench, kvbucket, *folder = words[1:] if is_short else words
-    if is_short:
-        short(bench, kvbucket)
+    bench, kvbucket, *folder = sys.argv[1:]
     whole(bench, kvbucket, *(folder or [os.path.join(top, "docs", "bench")]))
 
 

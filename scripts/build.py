@@ -6,29 +6,20 @@ A crate begins when those that it stands on are done, and gets its share of the 
 another, one has them all."""
 import concurrent.futures, os, re, signal, subprocess, sys, time
 
-sys.dont_write_bytecode = True
-top = os.path.realpath(os.path.join(os.path.dirname(__file__), ".."))
-sys.path.insert(0, top)
-from scripts import current, kit
-
-name = sys.argv[1] if len(sys.argv) > 1 else "kvbucket"
-program = current.path_of(name)
-started = time.monotonic()
-processors = len(os.sched_getaffinity(0))
+if __name__ == "__main__":
+    sys.dont_write_bytecode = True
+    sys.path.insert(0, os.path.dirname(os.path.dirname(os.path.realpath(__file__))))
+from scripts import current, kit, top
 
 
-def say(text):
-    print(name + ": " + text, file=sys.stderr, flush=True)
-
-
-def elapsed():
-    seconds = int(time.monotonic() - started)
-    return "%d min %02d s" % divmod(seconds, 60) if seconds >= 60 else "%d s" % seconds
+def processors():
+    return len(os.sched_getaffinity(0))
 
 
 def memory():
+    """The bytes that programs can get."""
     with open("/proc/meminfo", encoding="ascii") as told:
-        return 1024 * int(re.search(r"MemAvailable:\s+(\d+)", told.read())[1])
+        return next(1024 * int(line.split()[1]) for line in told if line.startswith("MemAvailable:"))
 
 
 def log_of(crate):
@@ -45,11 +36,30 @@ def so_far(crate):
     return " (%s of %s functions)" % told[-1] if told else ""
 
 
-class Build:
-    """What is proved, what is being proved, and what waits for either."""
+def show(path):
+    with open(path, encoding="utf-8", errors="replace") as log:
+        sys.stderr.write("".join(log.readlines()[-20:]))
 
-    def __init__(self, crates):
-        self.crates, self.done, self.running, self.failed = crates, [], {}, []
+
+class Build:
+    """The build of a program: which of the crates that it stands on are proved, which are being proved, and which failed."""
+
+    def __init__(self, name, crates):
+        self.name, self.crates = name, crates
+        self.done, self.running, self.failed = [it for it in crates if it.is_built()], {}, []
+        self.started = time.monotonic()
+
+    def say(self, text):
+        print("%s: %s" % (self.name, text), file=sys.stderr, flush=True)
+
+    def elapsed(self):
+        seconds = int(time.monotonic() - self.started)
+        return "%d min %02d s" % divmod(seconds, 60) if seconds >= 60 else "%d s" % seconds
+
+    def blame(self, log, why):
+        """Shows the last lines of a log."""
+        show(log)
+        self.say("%s; all that was said of it is in %s" % (why, os.path.relpath(log, top)))
 
     def ready(self):
         waiting = [it for it in self.crates if it not in self.done and it not in self.running and it not in self.failed]
@@ -57,42 +67,44 @@ class Build:
 
     def jobs(self, beside):
         """The processors for a crate that is begun with so many others, where there are 3 GB for each."""
-        free = processors - sum(self.running.values())
+        free = processors() - sum(self.running.values())
         return max(1, min(free // beside, memory() // 3_000_000_000, 8))
 
-    def tell(self):
-        proving = ", ".join(it.name + so_far(it) for it in self.running) or "nothing more"
-        say("proving %s; %d of %d crates done; %s" % (proving, len(self.done), len(self.crates) + 1, elapsed()))
+    def tell(self, proving):
+        self.say("proving %s; %d of %d crates done; %s" % (proving, len(self.done), len(self.crates) + 1, self.elapsed()))
+
+    def prove_all(self):
+        """Proves each crate below the program, and tells whether all are proved."""
+        with concurrent.futures.ThreadPoolExecutor(processors()) as pool:
+            runs, told = {}, 0.0
+            while len(self.done) < len(self.crates):
+                ready = self.ready() if not self.failed else []
+                for at, crate in enumerate(ready):
+                    if len(self.running) < processors():
+                        self.running[crate] = self.jobs(len(ready) - at)
+                        os.makedirs(os.path.dirname(log_of(crate)), exist_ok=True)
+                        crate.out = open(log_of(crate), "w", encoding="utf-8")
+                        runs[pool.submit(prove, crate, self.running[crate])] = crate
+                        told = 0.0
+                if not runs:
+                    break
+                if time.monotonic() - told > 60:
+                    self.tell(", ".join(it.name + so_far(it) for it in self.running) or "nothing more")
+                    told = time.monotonic()
+                ended, _ = concurrent.futures.wait(runs, timeout=5, return_when=concurrent.futures.FIRST_COMPLETED)
+                for run in ended:
+                    crate = runs.pop(run)
+                    del self.running[crate]
+                    (self.failed if run.result() else self.done).append(crate)
+        for crate in self.failed:
+            self.blame(log_of(crate), "%s was not proved" % crate.name)
+        return not self.failed
 
 
 def prove(crate, jobs):
     """Proves a library, and keeps what the prover says of it in its folder out/, as the file build.log."""
     with crate.out:
         return crate.build_rlib(["--jobs", str(jobs)], anew=False)
-
-
-def prove_all(build):
-    with concurrent.futures.ThreadPoolExecutor(processors) as pool:
-        runs, told = {}, 0.0
-        while len(build.done) < len(build.crates):
-            ready = build.ready() if not build.failed else []
-            for at, crate in enumerate(ready):
-                if len(build.running) < processors:
-                    build.running[crate] = build.jobs(len(ready) - at)
-                    os.makedirs(os.path.dirname(log_of(crate)), exist_ok=True)
-                    crate.out = open(log_of(crate), "w", encoding="utf-8")
-                    runs[pool.submit(prove, crate, build.running[crate])] = crate
-                    told = 0.0
-            if not runs:
-                return
-            if time.monotonic() - told > 60:
-                build.tell()
-                told = time.monotonic()
-            ended, _ = concurrent.futures.wait(runs, timeout=5, return_when=concurrent.futures.FIRST_COMPLETED)
-            for run in ended:
-                crate = runs.pop(run)
-                del build.running[crate]
-                (build.failed if run.result() else build.done).append(crate)
 
 
 def arguments(folder):
@@ -104,51 +116,37 @@ def arguments(folder):
         return ["--", *words.read().split("\n")[:-1]]
 
 
-def link(folder):
+def link(folder, log):
     """Proves and links the program itself, by rt, and runs it once on nothing."""
-    with open(program + ".log", "w", encoding="utf-8") as log:
-        how = {"cwd": folder, "stdin": subprocess.DEVNULL, "stdout": log, "stderr": log}
-        return subprocess.run(["rt", "run", *arguments(folder)], **how).returncode
-
-
-def show(path):
-    with open(path, encoding="utf-8", errors="replace") as log:
-        sys.stderr.write("".join(log.readlines()[-20:]))
+    with open(log, "w", encoding="utf-8") as file:
+        done = subprocess.run(["rt", "run", *arguments(folder)], cwd=folder, stdin=subprocess.DEVNULL, stdout=file, stderr=file)
+    return done.returncode == 0
 
 
 def main():
+    name = sys.argv[1] if len(sys.argv) > 1 else "kvbucket"
+    program = current.path_of(name)
     # With Python's own handler an interrupt would wait for the checks that run.
     signal.signal(signal.SIGINT, signal.SIG_DFL)
     os.chdir(top)
     if kit.command() is None:
-        say("the Rattle kit's command rt is not on the path")
+        print("%s: the Rattle kit's command rt is not on the path" % name, file=sys.stderr)
         sys.exit(2)
-    rtlib = kit.builder()
-    folder = os.path.join(top, "crates", name)
-    whole = rtlib.Crate(folder, top, {})
-    names = [it.name for it in [*whole.below(), whole]]
+    whole = kit.crate(name)
     before = current.sources(name)
-    held = rtlib.lock([*whole.below(), whole])
-    build = Build([it for it in whole.below()])
-    build.done = [it for it in whole.below() if it.is_built()]
-    prove_all(build)
-    for it in held:
-        os.close(it)
-    for crate in build.failed:
-        show(log_of(crate))
-        say("%s was not proved; all that was said of it is in crates/%s/out/build.log" % (crate.name, crate.name))
-    if build.failed:
-        sys.exit(2)
-    say("proving %s; %d of %d crates done; %s" % (name, len(build.done), len(names), elapsed()))
+    with kit.held(whole):
+        build = Build(name, list(whole.below()))
+        if not build.prove_all():
+            sys.exit(2)
+    build.tell(name)
     os.makedirs(os.path.dirname(program), exist_ok=True)
-    if link(folder) or not os.path.exists(program):
-        show(program + ".log")
-        say("the program was not built; all that was said of it is in crates/%s/out/%s.log" % (name, name))
+    if not link(whole.folder, program + ".log") or not os.path.exists(program):
+        build.blame(program + ".log", "the program was not built")
         sys.exit(2)
     if not current.keep(name, before):
-        say("the sources changed while they were proved: run it again")
+        build.say("the sources changed while they were proved: run it again")
         sys.exit(2)
-    say("proved and built: %d crates, %s" % (len(names), elapsed()))
+    build.say("proved and built: %d crates, %s" % (len(build.crates) + 1, build.elapsed()))
 
 
 if __name__ == "__main__":

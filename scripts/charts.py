@@ -2,25 +2,21 @@
 """charts.py FOLDER: draws the figures of FOLDER/figures.tsv, which scripts/bench.py wrote, as charts beside them, by matplotlib
 (python3-matplotlib in Debian's packages). It tells each chart as a line: its group, a tab, its file. Each shows medians, with
 the least and the most of the rounds as bars, and can be read alone."""
-import collections, math, os, sys
+import math, os, sys
 
 import matplotlib
+from matplotlib import figure as drawing, ticker
+from matplotlib.backends.backend_svg import FigureCanvasSVG
 
-matplotlib.use("svg")
-matplotlib.rcParams.update({"svg.hashsalt": "bench", "font.size": 9, "axes.grid": True, "grid.alpha": 0.3, "svg.fonttype": "none"})
-import matplotlib.pyplot as plt
-from matplotlib.ticker import FuncFormatter, LogLocator, NullFormatter
+if __name__ == "__main__":
+    sys.dont_write_bytecode = True
+    sys.path.insert(0, os.path.dirname(os.path.dirname(os.path.realpath(__file__))))
+from scripts import figures
 
+STYLE = {"svg.hashsalt": "bench", "font.size": 9, "axes.grid": True, "grid.alpha": 0.3, "svg.fonttype": "none"}
 COLOURS = {"Vilgoued": "#0b6e4f", "HashMap": "#b5541c", "BTreeMap": "#5b4b9a"}
 MARKS = "os^vD*Ppx+<>hH1"
 LINES = (":", "-.", "--", "-")
-
-Figure = collections.namedtuple("Figure", "group what of others keys median least most unit")
-
-
-def figure_of(line):
-    group, what, of, others, keys, median, least, most, unit = line.rstrip("\n").split("\t")
-    return Figure(group, what, of, int(others), int(keys), float(median), float(least), float(most), unit)
 
 
 def name_of(figure):
@@ -28,20 +24,13 @@ def name_of(figure):
     return figure.of or figure.what
 
 
-def curve(axes, figures, at, label, scale, colour=None, mark="o", line="-"):
+def curve(axes, found, at, label, scale, colour=None, mark="o", line="-"):
     """What is below a hundredth of the unit is drawn there, since the scales are logarithmic."""
-    figures = sorted(figures, key=at)
-    low, middle, high = ([max(getattr(it, part) / scale, 0.01) for it in figures] for part in ("least", "median", "most"))
+    found = sorted(found, key=at)
+    low, middle, high = ([max(getattr(it, part) / scale, 0.01) for it in found] for part in ("least", "median", "most"))
     bars = [[m - l for m, l in zip(middle, low)], [h - m for m, h in zip(middle, high)]]
-    axes.errorbar([at(it) for it in figures], middle, yerr=bars, label=label, marker=mark, markersize=4, linewidth=1.2,
+    axes.errorbar([at(it) for it in found], middle, yerr=bars, label=label, marker=mark, markersize=4, linewidth=1.2,
                   linestyle=line, capsize=2, color=colour)
-
-
-def by_name(figures):
-    found = {}
-    for it in figures:
-        found.setdefault(name_of(it), []).append(it)
-    return found
 
 
 def colour_of(what):
@@ -50,51 +39,59 @@ def colour_of(what):
 
 def plain(axis):
     """Numbers, and no powers of ten, at 1, 2 and 5 of each decade."""
-    axis.set_major_locator(LogLocator(subs=(1, 2, 5), numticks=60))
-    axis.set_major_formatter(FuncFormatter(lambda value, _: "{:,.0f}".format(value) if value >= 1 else "{:g}".format(value)))
-    axis.set_minor_formatter(NullFormatter())
+    axis.set_major_locator(ticker.LogLocator(subs=(1, 2, 5), numticks=60))
+    axis.set_major_formatter(ticker.FuncFormatter(lambda value, _: "{:,.0f}".format(value) if value >= 1 else "{:g}".format(value)))
+    axis.set_minor_formatter(ticker.NullFormatter())
 
 
-def across_keys(axes, figures):
+def across_keys(axes, found):
     """A tick at each size, but for one that a little larger one stands for."""
-    sizes = sorted({it.keys for it in figures})
+    sizes = sorted({it.keys for it in found})
     axes.set_xscale("log")
     axes.set_xticks([size for size, next_one in zip(sizes, [*sizes[1:], math.inf]) if next_one > 1.2 * size])
-    axes.xaxis.set_major_formatter(FuncFormatter(lambda value, _: "{:,.0f}".format(value)))
-    axes.xaxis.set_minor_formatter(NullFormatter())
+    axes.xaxis.set_major_formatter(ticker.FuncFormatter(lambda value, _: "{:,.0f}".format(value)))
+    axes.xaxis.set_minor_formatter(ticker.NullFormatter())
 
 
-def finish(figure, folder, name, group):
-    figure.tight_layout()
-    figure.savefig(os.path.join(folder, name), metadata={"Date": None}, bbox_inches="tight")
-    plt.close(figure)
-    print("%s\t%s" % (group, name))
+class Chart:
+    """A chart of one file. `with` it curves are drawn, and then it is written and told."""
+
+    def __init__(self, folder, name, group, title, across, up):
+        self.path, self.told = os.path.join(folder, name), "%s\t%s" % (group, name)
+        self.drawing = drawing.Figure(figsize=(7.5, 4.8))
+        FigureCanvasSVG(self.drawing)
+        self.axes = self.drawing.subplots()
+        self.labels = {"xlabel": across, "ylabel": up, "title": title}
+
+    def __enter__(self):
+        return self.axes
+
+    def __exit__(self, *raised):
+        self.axes.set(yscale="log", **self.labels)
+        plain(self.axes.yaxis)
+        self.axes.legend(fontsize=7.5, loc="center left", bbox_to_anchor=(1.0, 0.5))
+        self.drawing.tight_layout()
+        self.drawing.savefig(self.path, metadata={"Date": None}, bbox_inches="tight")
+        print(self.told)
 
 
-def chart(folder, name, group, figures, title, across, up, scale):
+def chart(folder, name, group, of_group, title, across, up, scale):
     """One chart: keys across, one curve for each of what was measured."""
-    figure, axes = plt.subplots(figsize=(7.5, 4.8))
-    for place, (what, found) in enumerate(by_name(figures).items()):
-        curve(axes, found, lambda it: it.keys, what, scale, colour_of(what), MARKS[place % len(MARKS)])
-    axes.set(yscale="log", xlabel=across, ylabel=up, title=title)
-    across_keys(axes, figures)
-    plain(axes.yaxis)
-    axes.legend(fontsize=7.5, loc="center left", bbox_to_anchor=(1.0, 0.5))
-    finish(figure, folder, name, group)
+    with Chart(folder, name, group, title, across, up) as axes:
+        for place, (what, found) in enumerate(figures.grouped(of_group, name_of).items()):
+            curve(axes, found, lambda it: it.keys, what, scale, colour_of(what), MARKS[place % len(MARKS)])
+        across_keys(axes, of_group)
 
 
-def chart_of_others(folder, name, group, figures, title, across, up, scale):
+def chart_of_others(folder, name, group, of_group, title, across, up, scale):
     """One chart: threads beside the writer across; a colour for each that is set side by side, a line for each size."""
-    figure, axes = plt.subplots(figsize=(7.5, 4.8))
-    for what, found in by_name(figures).items():
-        for place, keys in enumerate(sorted({it.keys for it in found})):
-            label = "%s, %s keys" % (what, "{:,}".format(keys))
-            curve(axes, [it for it in found if it.keys == keys], lambda it: it.others, label, scale, colour_of(what), MARKS[place],
-                  LINES[place % len(LINES)])
-    axes.set(yscale="log", xlabel=across, ylabel=up, title=title, xticks=sorted({it.others for it in figures}))
-    plain(axes.yaxis)
-    axes.legend(fontsize=7.5, loc="center left", bbox_to_anchor=(1.0, 0.5))
-    finish(figure, folder, name, group)
+    with Chart(folder, name, group, title, across, up) as axes:
+        for what, found in figures.grouped(of_group, name_of).items():
+            for place, keys in enumerate(sorted({it.keys for it in found})):
+                label = "%s, %s keys" % (what, figures.in_digits(keys))
+                curve(axes, [it for it in found if it.keys == keys], lambda it: it.others, label, scale, colour_of(what),
+                      MARKS[place], LINES[place % len(LINES)])
+        axes.set(xticks=sorted({it.others for it in of_group}))
 
 
 def draw(folder, of):
@@ -136,11 +133,8 @@ def draw(folder, of):
 
 def main():
     folder = sys.argv[1]
-    of = collections.defaultdict(list)
-    with open(os.path.join(folder, "figures.tsv"), encoding="utf-8") as told:
-        for it in map(figure_of, told.readlines()[1:]):
-            of[it.group].append(it)
-    draw(folder, of)
+    with matplotlib.rc_context(STYLE):
+        draw(folder, figures.grouped(figures.read(folder), lambda it: it.group))
 
 
 if __name__ == "__main__":

@@ -1,17 +1,31 @@
 #!/usr/bin/env python3
-"""Whether a program is the one that was proved and built from the sources as they are now, so that one that is older than its
-sources, or of others, is never run for it.
+"""Whether what was built was made from the sources as they are now, so that nothing older than its sources, or of others, is run or
+given away for it.
 
-    current.py PROGRAM              ends with status 0 where it is, and else with 1
-    current.py --sources PROGRAM    prints what it is made from
-    current.py --keep PROGRAM FILE  notes it as current, where it is still made from what FILE says
+    current.py NAME              ends with status 0 where it is, and else with 1
+    current.py --sources NAME    prints what it is made from
+    current.py --keep NAME FILE  notes it as current, where it is still made from what FILE says
 
-What a program is made from is a text: of its crate, and of each that this stands on, the line of crates.txt, and each file
-of its code, its definitions and its proofs with its sum. A build leaves it beside the program, with the program's own sum."""
-import hashlib, os, re, sys
+NAME is a program, as kvbucket, or libvilgoued, which ./library leaves in lib/. What it is made from is a text with a sum for each
+crate that it stands on: of the crate's line of crates.txt, and of each file of its code, its definitions and its proofs; and with
+one for each other file. A build leaves the text beside what it made, with the sums of that."""
+import collections, hashlib, os, re, subprocess, sys
 
-top = os.path.realpath(os.path.join(os.path.dirname(__file__), ".."))
+if __name__ == "__main__":
+    sys.dont_write_bytecode = True
+    sys.path.insert(0, os.path.dirname(os.path.dirname(os.path.realpath(__file__))))
+from scripts import top
+
 PARTS = ("src", "specs", "proofs")
+# What a build makes, as paths of the repository: of a crate and those below it, and of other files and folders.
+Built = collections.namedtuple("Built", "crate others made")
+PROGRAM, LIBRARY = "kvbucket", "libvilgoued"
+
+
+def built(name):
+    if name == LIBRARY:
+        return Built("kv_c", ("library", "include", "c", "scripts/exports.map"), ("lib/libvilgoued.a", "lib/libvilgoued.so"))
+    return Built(name, (), ("crates/%s/out/%s" % (name, name),))
 
 
 def crates():
@@ -32,65 +46,96 @@ def below(name):
     return sorted(found)
 
 
-def sum_of(path):
-    with open(path, "rb") as file:
-        return hashlib.sha256(file.read()).hexdigest()
+def sum_of(data):
+    return hashlib.sha256(data).hexdigest()
 
 
-def files_of(crate):
-    for part in PARTS:
-        for folder, _, names in os.walk(os.path.join(top, "crates", crate, part)):
-            yield from (os.path.relpath(os.path.join(folder, name), top) for name in names)
+def sum_line(path):
+    """The sum of a file of the repository, and its path."""
+    with open(os.path.join(top, path), "rb") as file:
+        return "%s  %s\n" % (sum_of(file.read()), path)
 
 
-def sources(program):
-    """What a program is made from."""
-    names, lines = below(program), crates()
-    files = sorted((path for name in names for path in files_of(name)), key=os.fsencode)
-    told = [lines[name] for name in names] + ["%s  %s" % (sum_of(os.path.join(top, path)), path) for path in files]
-    return "".join(line + "\n" for line in told)
+def files_in(path):
+    """The files of the repository below a path, or the one that it is; none where nothing is there."""
+    whole = os.path.join(top, path)
+    if os.path.isfile(whole):
+        return [path]
+    found = (os.path.join(folder, name) for folder, _, names in os.walk(whole) for name in names)
+    return sorted((os.path.relpath(it, top) for it in found), key=os.fsencode)
 
 
-def path_of(program):
-    return os.path.join(top, "crates", program, "out", program)
+def crate_line(crate, line):
+    """The sum of a crate, and its path."""
+    files = (path for part in PARTS for path in files_in("crates/%s/%s" % (crate, part)))
+    return "%s  crates/%s\n" % (sum_of("".join([line + "\n", *map(sum_line, files)]).encode()), crate)
 
 
-def note_of(program):
-    """The file that a build leaves beside the program."""
-    return path_of(program) + ".sources"
+def sources(name):
+    """What this is made from."""
+    lines, it = crates(), built(name)
+    others = (path for other in it.others for path in files_in(other))
+    return "".join([*(crate_line(crate, lines[crate]) for crate in below(it.crate)), *map(sum_line, others)])
 
 
-def noted(program, made_from):
-    """What this file holds of a program that is made from this."""
-    return made_from + "%s  -\n" % sum_of(path_of(program))
-
-
-def is_current(program):
+def version_of(*command, word=""):
+    """The first line with this word of what a tool tells of itself."""
     try:
-        with open(note_of(program), encoding="utf-8") as file:
-            return os.access(path_of(program), os.X_OK) and file.read() == noted(program, sources(program))
+        done = subprocess.run(command, stdin=subprocess.DEVNULL, capture_output=True, text=True)
+    except OSError:
+        return "none"
+    return next((line.strip() for line in (done.stdout + done.stderr).splitlines() if word in line), "unknown")
+
+
+def compiler():
+    """The C compiler that ./library takes, and the tools that it links with: others make other bytes."""
+    return "%s, %s" % (version_of(os.environ.get("CC") or "cc", "-v", word=" version "), version_of("strip", "--version"))
+
+
+def path_of(name):
+    """The path of a program, or of the first file of another thing that is made."""
+    return os.path.join(top, built(name).made[0])
+
+
+def note_of(name):
+    """The file that a build leaves beside what it made."""
+    return path_of(name) + ".sources"
+
+
+def noted(name, made_from):
+    """What this file holds of what is made from this."""
+    by = "compiler: %s\n" % compiler() if name == LIBRARY else ""
+    return "".join([made_from, by, *map(sum_line, built(name).made)])
+
+
+def is_current(name):
+    try:
+        with open(note_of(name), encoding="utf-8") as file:
+            return file.read() == noted(name, sources(name))
     except (OSError, ValueError):
         return False
 
 
-def keep(program, made_from):
-    """Notes the program as current, if the sources are still these."""
-    is_same = sources(program) == made_from
+def keep(name, made_from):
+    """Notes it as current, if the sources are still these."""
+    is_same = sources(name) == made_from
     if is_same:
-        with open(note_of(program), "w", encoding="utf-8") as file:
-            file.write(noted(program, made_from))
+        with open(note_of(name), "w", encoding="utf-8") as file:
+            file.write(noted(name, made_from))
     return is_same
 
 
-def main(words):
+def main():
+    words = sys.argv[1:]
     if words[:1] == ["--sources"]:
         sys.stdout.write(sources(words[1]))
     elif words[:1] == ["--keep"]:
         with open(words[2], encoding="utf-8") as file:
-            sys.exit(not keep(words[1], file.read()))
+            if not keep(words[1], file.read()):
+                sys.exit("%s: its sources changed while it was built" % words[1])
     else:
         sys.exit(not is_current(words[0]))
 
 
 if __name__ == "__main__":
-    main(sys.argv[1:])
+    main()

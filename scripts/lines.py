@@ -18,14 +18,17 @@ class Program:
     """A program that runs, and waits for lines."""
 
     def __init__(self, path):
+        self.path = path
         self.process = subprocess.Popen([path], stdin=subprocess.PIPE, stdout=subprocess.PIPE, env=ENVIRONMENT)
+        assert self.process.stdin and self.process.stdout
+        self.lines, self.answers = self.process.stdin, self.process.stdout
         self.sent = self.answered = self.refused = 0
         self.has_ended = False
         self.news = threading.Condition()
         threading.Thread(target=self.count_answers, daemon=True).start()
 
     def count_answers(self):
-        while answers := self.process.stdout.read1(1 << 20):
+        while answers := os.read(self.answers.fileno(), 1 << 20):
             with self.news:
                 self.answered += answers.count(b"\n")
                 self.refused += answers.count(b'"error"')
@@ -45,13 +48,13 @@ class Program:
     def tell(self, lines, answers):
         """Writes lines, waits for so many answers, and returns the microseconds that they took."""
         before = self.processor_time()
-        self.process.stdin.write(lines.encode())
-        self.process.stdin.flush()
+        self.lines.write(lines.encode())
+        self.lines.flush()
         self.sent += answers
         with self.news:
             self.news.wait_for(lambda: self.has_ended or self.answered >= self.sent)
         if self.answered < self.sent:
-            sys.exit("%s ended before it had answered" % self.process.args[0])
+            sys.exit("%s ended before it had answered" % self.path)
         return (self.processor_time() - before) / 1000
 
     def put(self, keys):
@@ -60,9 +63,9 @@ class Program:
 
     def end(self):
         """Ends the program, which has to have answered each line, and refused none."""
-        self.process.stdin.close()
+        self.lines.close()
         if self.process.wait() != 0 or self.refused:
-            sys.exit("%s: %d lines were refused" % (self.process.args[0], self.refused))
+            sys.exit("%s: %d lines were refused" % (self.path, self.refused))
 
 
 def three_million(path, watched):
@@ -83,6 +86,10 @@ def three_million(path, watched):
     program.end()
 
 
+def main():
+    for watched in False, True:
+        three_million(sys.argv[1], watched)
+
+
 if __name__ == "__main__":
-    three_million(sys.argv[1], False)
-    three_million(sys.argv[1], True)
+    main()

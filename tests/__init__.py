@@ -1,6 +1,8 @@
-"""Tests of the program, of the libraries and of the pages, which run.py runs by parts."""
+"""Tests of the program, of the libraries and of the pages, which run.py runs by parts. What they import from Python's package is that of
+the repository."""
 import os, sys
 
-sys.dont_write_bytecode = True
-top = os.path.realpath(os.path.join(os.path.dirname(__file__), ".."))
-sys.path[:0] = [os.path.join(top, "python")]
+from scripts import top
+
+__all__ = ["top"]
+sys.path.insert(0, os.path.join(top, "python"))

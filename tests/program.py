@@ -6,6 +6,12 @@ from scripts import current
 path = os.path.abspath(os.environ.get("KVBUCKET") or current.path_of("kvbucket"))
 
 
+
+def begun(*arguments, standard_input=subprocess.PIPE):
+    """The program, which runs and writes to a pipe."""
+    return subprocess.Popen([path, *arguments], stdin=standard_input, stdout=subprocess.PIPE)
+
+
 class RunsTest(unittest.TestCase):
     def check(self, name, arguments, status, text="", faults="", exact=True, standard_input=subprocess.DEVNULL,
               standard_output=subprocess.PIPE, **given):

@@ -1,19 +1,23 @@
 #!/usr/bin/env python3
-"""run.py PART [--program PROGRAM] [--library FOLDER] [--tests TESTS]: runs a part of the tests. The last line is 'N passed, M failed',
-which counts each test, or where a test has subtests each of these.
+"""run.py PART [--program PROGRAM] [--bench BENCH] [--library FOLDER] [--tests TESTS]: runs a part of the tests. The last line is
+'N passed, M failed', which counts each test, or where a test has subtests each of these.
 
-PROGRAM is a built kvbucket, and where none is named the one in its crate; FOLDER is where libvilgoued lies, or else lib/, where
-./library puts it; TESTS is a proved test program, crates/NAME/out/NAME_tests, whose requests for memory the part `refusals` refuses.
-The part `server` starts a nats-server on loopback with its store in a temporary folder, and ends it; where there is none, and Debian's
+PROGRAM is a built kvbucket, and BENCH a built kv_bench, and where none is named the one in its crate; FOLDER is where libvilgoued lies,
+or else lib/, where ./library puts it; TESTS is a proved test program, crates/NAME/out/NAME_tests, whose requests for memory the part
+`refusals` refuses. The part `lint` runs those linters that are installed. The part `server` starts a nats-server on loopback with its store in a temporary folder, and ends it; where there is none, and Debian's
 package is not to be had, all of it is left out. How much is run, other parts read from variables: RACES, WRITES, MOST and JOBS."""
 import argparse, contextlib, os, sys, tempfile, unittest
 
-sys.dont_write_bytecode = True
-top = os.path.realpath(os.path.join(os.path.dirname(__file__), ".."))
-sys.path[0] = top
+if __name__ == "__main__":
+    sys.dont_write_bytecode = True
+    sys.path.insert(0, os.path.dirname(os.path.dirname(os.path.realpath(__file__))))
+from scripts import top
 
 # The modules of each part.
 PARTS = {
+    "lint": ["tests.test_lint"],
+    "release": ["tests.test_release"],
+    "bench": ["tests.test_bench"],
     "arguments": ["tests.test_arguments", "tests.test_devices"],
     "streams": ["tests.test_streams"],
     "compactions": ["tests.test_compactions"],
@@ -24,7 +28,7 @@ PARTS = {
                 "tests.python.test_example", "tests.python.test_sanitizers"],
     "server": ["tests.python.test_vilgoued", "tests.server.test_scripts", "tests.server.test_copies", "tests.server.test_meanwhile"],
     "quoted": ["tests.pages.test_quoted"],
-    "pages": ["tests.pages.test_pages"],
+    "pages": ["tests.pages.test_pages", "tests.pages.test_man"],
 }
 
 
@@ -72,33 +76,33 @@ def nats_server():
 
 
 def run(part):
-    """Runs a part, and tells how many passed and failed."""
+    """Runs a part, and tells how many tests passed, failed and were left out."""
     tests = unittest.defaultTestLoader.loadTestsFromNames(PARTS[part])
     result = unittest.TextTestRunner(stream=sys.stdout, verbosity=2, resultclass=Counts).run(tests)
+    assert isinstance(result, Counts)
     for test, reason in result.skipped:
         print("left out: %s: %s" % (test, reason))
-    return result.passed, result.failed()
+    return result.passed, result.failed(), len(result.skipped)
 
 
 def main():
     parser = argparse.ArgumentParser(description=__doc__, formatter_class=argparse.RawDescriptionHelpFormatter)
     parser.add_argument("part", choices=PARTS, metavar="PART", help=", ".join(PARTS))
     parser.add_argument("--program")
+    parser.add_argument("--bench")
     parser.add_argument("--library", metavar="FOLDER", default=os.path.join(top, "lib"))
     parser.add_argument("--tests")
     asked = parser.parse_args()
-    for name, path in (("KVBUCKET", asked.program), ("TESTS", asked.tests)):
+    for name, path in (("KVBUCKET", asked.program), ("BENCH", asked.bench), ("TESTS", asked.tests)):
         if path:
             os.environ[name] = os.path.abspath(path)
     os.environ.setdefault("VILGOUED_LIBRARY", os.path.join(os.path.abspath(asked.library), "libvilgoued.so"))
     with nats_server() if asked.part == "server" else contextlib.nullcontext(True) as is_there:
         if not is_there:
-            print("left out, 1 skipped: there is no nats-server: apt-get install nats-server")
-            print("0 passed, 0 failed")
-            return
-        passed, failed = run(asked.part)
+            print("left out: there is no nats-server: apt-get install nats-server")
+        passed, failed, left_out = run(asked.part) if is_there else (0, 0, 1)
     print("%d passed, %d failed" % (passed, failed))
-    sys.exit(failed > 0 or passed == 0)
+    sys.exit(failed > 0 or passed + left_out == 0)
 
 
 if __name__ == "__main__":

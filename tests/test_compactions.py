@@ -2,7 +2,7 @@
 compaction each 10,000 and a watch that is taken from each 1,000; and one of a third as many. Each line of the answers has to be the
 one that is worked out here, from the last write of each key. No more than 11,000 writes may be stored, so each compaction has to
 make room for the next writes; and the longer run may take no more than a few MB of memory above the shorter one."""
-import base64, os, subprocess, threading, time, unittest
+import base64, os, threading, time, unittest
 
 from tests import program
 
@@ -24,7 +24,8 @@ def compacted(last, keys):
 def session(writes):
     """Each line of the script, with the lines that answer it."""
     yield b"watch >\n", [b'{"watch":1}\n']
-    keys, waiting = {}, [b'{"marker":true,"watch":1}\n']
+    keys: dict[bytes, bytes] = {}
+    waiting = [b'{"marker":true,"watch":1}\n']
     for n in range(1, writes + 1):
         key = b"k%d" % (n % 1_000)
         keys.pop(key, None)
@@ -73,7 +74,7 @@ class Compactions(unittest.TestCase):
     def peak_of(self, writes):
         """Runs the script, and tells how much memory the process held at most, or 0 where it answers otherwise."""
         start = time.time()
-        run = subprocess.Popen([program.path, "--write-limit", "11000"], stdin=subprocess.PIPE, stdout=subprocess.PIPE)
+        run = program.begun("--write-limit", "11000")
         writer = threading.Thread(target=write, args=(run, writes))
         writer.start()
         fault = fault_of(run, writes)

@@ -22,7 +22,7 @@ def answered(output, wanted):
 class WhileMoreIsAwaited(unittest.TestCase):
     def talks(self, standard_input, writes, ends):
         """Writes each line when the answer to the one before is there, and then ends the input."""
-        run = subprocess.Popen([program.path], stdin=standard_input, stdout=subprocess.PIPE)
+        run = program.begun(standard_input=standard_input)
         self.addCleanup(run.stdout.close)
         os.close(standard_input)
         for line, answer in LINES:
@@ -33,11 +33,10 @@ class WhileMoreIsAwaited(unittest.TestCase):
         with self.subTest("the end"):
             rest = answered(run.stdout.fileno(), b"x")
             try:
-                status = run.wait(20)
+                self.assertEqual((rest, run.wait(20)), (b"", 0))
             except subprocess.TimeoutExpired:
                 run.kill()
-                status = "it does not end"
-            self.assertEqual((rest, status), (b"", 0))
+                self.fail("it does not end")
 
     def test_a_pipe(self):
         read_end, write_end = os.pipe()
@@ -54,7 +53,7 @@ class LongScripts(unittest.TestCase):
         """Runs a script of many pieces, counts the lines that come, and compares its time and its memory with bounds. The
         system counts to the memory what this process held when it began the run, so that has to be little."""
         start = time.time()
-        run = subprocess.Popen([program.path], stdin=subprocess.PIPE, stdout=subprocess.PIPE)
+        run = program.begun()
         self.addCleanup(run.stdout.close)
 
         def write():

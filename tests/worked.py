@@ -48,7 +48,7 @@ def parsed(name, text):
     if lines.pop() != b"":
         raise ValueError("%s: its last line has no end" % name)
     arguments = lines.pop(0).decode().split()[1:] if lines and lines[0].startswith(PROGRAM) else []
-    steps = []
+    steps: list[tuple[bytes, list[bytes]]] = []
     for line in lines:
         if line.startswith(PROMPT) or line == PROMPT.rstrip():
             steps.append((unescaped(line[len(PROMPT):]), []))

@@ -66,7 +66,7 @@ def each(command, shim, folder, numbers, stdin=os.devnull):
 # A test or script that makes so many requests has each of them refused, and of one that makes more a sample is.
 MOST = int(os.environ.get("MOST", 20000))
 # How many runs there are at a time.
-JOBS = int(os.environ.get("JOBS", os.cpu_count()))
+JOBS = int(os.environ.get("JOBS") or len(os.sched_getaffinity(0)))
 
 
 def step_of(requests):

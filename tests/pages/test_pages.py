@@ -13,6 +13,7 @@ Each table of docs/script.md has these columns, and neither page has a block of 
 Of each page, what it names has to exist: the files and headings of its links, the files and folders, calls
 (`Type::call`, `module::call`), edits (`crates/NAME/must-fail`) and other names that stand in it as code."""
 import glob, os, re, shlex, subprocess, tempfile, unittest
+from typing import Any
 
 from scripts import kit
 from tests import program, top
@@ -43,18 +44,21 @@ def wrong(page, line, text):
 def parts_of(page):
     """The blocks of a page, as (line, kind, lines), its tables, as (line, arguments, rows), and its other lines, numbered. A block
     with no end is of the kind "no end"."""
-    blocks, tables, texts = [], [], []
-    fence = table = None
+    blocks: list = []
+    tables: list = []
+    texts: list = []
+    fence: Any = None
+    table: Any = None
     for number, line in enumerate(read(os.path.join(top, page)).split("\n"), 1):
         if fence is not None:
             if line.strip() == "```":
-                blocks.append(tuple(fence))
+                blocks.append(fence)
                 fence = None
             else:
                 fence[2].append(line)
             continue
         if line.startswith("```"):
-            fence, table = [number, line[3:].strip(), []], None
+            fence, table = (number, line[3:].strip(), []), None
             continue
         if line.startswith("    ") and table is None and line.strip():
             blocks.append((number, "indented", [line]))

@@ -13,7 +13,8 @@ kinds = {"```rust": ".rt", "```antt": ".antt"}
 
 def blocks_of(page):
     """Of each block of code: its page and first line's number, the ending of the files that it may be of, and its lines."""
-    blocks, block = [], None
+    blocks: list[tuple[str, str, list[str]]] = []
+    block = None
     for number, line in enumerate(lines_of(page), 1):
         if block is None and line in kinds:
             block = ("%s:%d" % (page, number + 1), kinds[line], [])

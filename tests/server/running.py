@@ -16,9 +16,10 @@ def unpacked(folder):
     lists = ["-o", "Dir::State::Lists=%s/lists" % folder, "-o", "Dir::Cache=%s/cache" % folder]
     for names in (["lists", "partial"], ["cache", "archives", "partial"]):
         os.makedirs(os.path.join(folder, *names))
-    for options, commands in (([], [["download", "nats-server"]]), (lists, [["update"], ["download", "nats-server"]])):
+    download = ["download", "nats-server"]
+    for commands in [download], [[*lists, "update"], [*lists, *download]]:
         for command in commands:
-            run(["apt-get", "-q", *options, *command], folder)
+            run(["apt-get", "-q", *command], folder)
         for package in glob.glob(os.path.join(folder, "nats-server_*.deb")):
             run(["dpkg-deb", "-x", package, folder], folder)
             return os.path.join(folder, "usr", "sbin", "nats-server")

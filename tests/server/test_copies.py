@@ -10,8 +10,8 @@ from tests import program, top
 from tests.server.running import Server
 from vilgoued_nats import MARKER, Bucket, copy_to
 
-server = os.environ["VILGOUED_SERVER"]
-nats_server = os.environ["NATS_SERVER"]
+server = os.environ.get("VILGOUED_SERVER", "")
+nats_server = os.environ.get("NATS_SERVER", "")
 tools = os.path.join(top, "python")
 
 SCRIPT = """put a MQ==

@@ -7,7 +7,7 @@ import unittest
 from tests import top
 from vilgoued_nats import Bucket, KeyExists
 
-server = os.environ["VILGOUED_SERVER"]
+server = os.environ.get("VILGOUED_SERVER", "")
 
 
 class Interrupted(Bucket):

@@ -6,7 +6,7 @@ from tests.replay import replay
 from tests.worked import scripts
 from vilgoued_nats import Bucket
 
-server = os.environ["VILGOUED_SERVER"]
+server = os.environ.get("VILGOUED_SERVER", "")
 
 # What asks for something that a server doesn't have.
 LEFT_OUT = {

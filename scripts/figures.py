@@ -1,0 +1,34 @@
+"""The figures of the bench: scripts/bench.py makes them, and scripts/charts.py draws them."""
+import collections, os
+
+Figure = collections.namedtuple("Figure", "group what of others keys median least most unit")
+NAME = "figures.tsv"
+
+
+def parsed(line, tenths=False):
+    """The figure of a line of the file, or of one that kv_bench prints, which counts in tenths of the unit."""
+    group, what, of, others, keys, *values, unit = line.rstrip("\n").split("\t")
+    median, least, most = (float(it) / (10 if tenths else 1) for it in values)
+    return Figure(group, what, of, int(others), int(keys), median, least, most, unit)
+
+
+def read(folder):
+    with open(os.path.join(folder, NAME), encoding="utf-8") as file:
+        return [parsed(line) for line in file.readlines()[1:]]
+
+
+def lines_of(figures):
+    """The lines of the file."""
+    return ["\t".join(map(str, it)) for it in (Figure._fields, *figures)]
+
+
+def grouped(figures, name):
+    """The figures by the name that this gives to each."""
+    found = collections.defaultdict(list)
+    for it in figures:
+        found[name(it)].append(it)
+    return found
+
+
+def in_digits(number):
+    return "{:,}".format(number)

@@ -1,0 +1,157 @@
+#!/usr/bin/env python3
+"""release.py [--check]: makes dist/vilgoued-VERSION-linux-x86_64.tar.gz from the program and the library that were proved and built last,
+which have to be of the sources as they are now, and tells its size.
+
+With --check it compares the release that lies in dist/ with what would be made now, byte for byte; the library, which the machine's own C
+compiler makes, where that is the one of the release, and else by the sums of its sources. Where there is no dist/ it says so, and
+that is right."""
+import os, subprocess, sys, tempfile
+
+if __name__ == "__main__":
+    sys.dont_write_bytecode = True
+    sys.path.insert(0, os.path.dirname(os.path.dirname(os.path.realpath(__file__))))
+from scripts import archive, current, kit, top
+from scripts.current import LIBRARY, PROGRAM
+
+# How what is not current is built.
+BUILDS = {PROGRAM: "./kvbucket --build", LIBRARY: "./library"}
+LIBRARIES = ("lib/libvilgoued.a", "lib/libvilgoued.so.0", "lib/python/vilgoued/libvilgoued.so")
+PACKAGE = "python/vilgoued"
+PKG_CONFIG = """prefix=${pcfiledir}/../..
+includedir=${prefix}/include
+libdir=${prefix}/lib
+
+Name: vilgoued
+Description: A key-value bucket that you can watch
+Version: %s
+Libs: -L${libdir} -lvilgoued
+Libs.private: -pthread
+Cflags: -I${includedir}
+"""
+
+
+class Refused(Exception):
+    """Why no release is made, or why the one that is there is no longer right."""
+
+
+def read(path):
+    with open(os.path.join(top, path), "rb") as file:
+        return file.read()
+
+
+def version():
+    """The version, as the program tells it, which has to be proved in the logic of this kit."""
+    told = subprocess.run([current.path_of(PROGRAM), "--version"], stdin=subprocess.DEVNULL, capture_output=True, text=True).stdout
+    name, proved = told.rstrip("\n").partition(", proved with Rattle's ")[::2]
+    if not name.startswith(PROGRAM + " ") or proved != kit.logic():
+        raise Refused("the program says %r, and the kit proves in %s: run %s" % (told, kit.logic() or "no logic", BUILDS[PROGRAM]))
+    return name.removeprefix(PROGRAM + " ")
+
+
+def sources():
+    """What the release is made from: the sums of the program's sources and of the library's."""
+    lines = {line for name in BUILDS for line in current.sources(name).splitlines(True)}
+    return "".join(sorted(lines, key=lambda line: line.split()[1]))
+
+
+def stripped(path):
+    """The bytes of a library without the names that nothing outside it asks for."""
+    with tempfile.TemporaryDirectory() as folder:
+        copy = os.path.join(folder, "copy")
+        subprocess.run(["strip", "--enable-deterministic-archives", "--strip-unneeded", "-o", copy, os.path.join(top, path)], check=True)
+        with open(copy, "rb") as file:
+            return file.read()
+
+
+def libraries():
+    """What the machine's own C compiler makes, in the order of LIBRARIES."""
+    static, shared = map(stripped, current.built(LIBRARY).made)
+    return [static, shared, shared]
+
+
+def package():
+    """The files of the Python package."""
+    paths = [path for path in current.files_in(PACKAGE) if "__pycache__" not in path and not path.endswith(".so")]
+    if PACKAGE + "/__init__.py" not in paths:
+        raise Refused("there is no Python package in %s" % PACKAGE)
+    return {"lib/" + path: read(path) for path in paths}
+
+
+def needs(name):
+    if not current.is_current(name):
+        raise Refused("%s was not built from the sources as they are now: run %s" % (name, BUILDS[name]))
+
+
+def wanted(compiler, libraries):
+    """The name of the release that has to be there now, and its members by path, with the libraries that this compiler made."""
+    release = version()
+    build = "version: %s\nkit: %s\ncompiler: %s\nsources:\n%s" % (release, kit.version(), compiler, sources())
+    files = {"BUILD": build.encode(), "LICENSE": read("LICENSE"), "lib/pkgconfig/vilgoued.pc": (PKG_CONFIG % release).encode(),
+             "share/man/man1/kvbucket.1": read("docs/man/kvbucket.1"), "share/man/man3/vilgoued.3": read("docs/man/vilgoued.3"),
+             **{path: read(path) for path in current.files_in("include")}, **package(), **dict(zip(LIBRARIES, libraries))}
+    members = {path: archive.Member(data) for path, data in files.items()}
+    members["bin/kvbucket"] = archive.Member(read(current.built(PROGRAM).made[0]), is_run=True)
+    members["lib/libvilgoued.so"] = archive.Member(b"", link="libvilgoued.so.0")
+    return archive.name_of(release), members
+
+
+def make():
+    needs(PROGRAM)
+    needs(LIBRARY)
+    name, members = wanted(current.compiler(), libraries())
+    path = archive.write(name, members)
+    print("made %s: %d files, %d kB" % (os.path.relpath(path, top), len(members), -(-os.path.getsize(path) // 1000)))
+
+
+def told(build, word):
+    """What BUILD tells behind this word."""
+    return next((line[len(word) + 2:] for line in build.splitlines() if line.startswith(word + ": ")), "")
+
+
+def older(build):
+    """The crates and files that are no longer those of BUILD."""
+    return [line.split()[1] for line in sources().splitlines() if line not in build.splitlines()]
+
+
+def check():
+    if not os.path.isdir(archive.FOLDER):
+        print("there is no dist/, and so no release to compare")
+        return
+    name = archive.only()
+    there = dict(archive.each(name))
+    build = there.get("BUILD", archive.Member(b"")).data.decode()
+    changed = older(build)
+    if changed:
+        raise Refused("the release is older than its sources (%s): run ./release" % ", ".join(changed))
+    if told(build, "kit") != kit.version():
+        raise Refused("the release is of %s, and the kit is %s: run ./release" % (told(build, "kit"), kit.version() or "not there"))
+    needs(PROGRAM)
+    compiler = told(build, "compiler")
+    is_by_another = compiler != current.compiler()
+    if is_by_another:
+        made = [there.get(path, archive.Member(b"")).data for path in LIBRARIES]
+    else:
+        needs(LIBRARY)
+        made = libraries()
+    now, members = wanted(compiler, made)
+    wrong = sorted(path for path in {*there, *members} if there.get(path) != members.get(path))
+    if wrong:
+        raise Refused("the release is not what was built (%s): run ./release" % ", ".join(wrong))
+    if name != now or archive.unpacked(name) != archive.tar(now, members):
+        raise Refused("the release has not the form that ./release gives it: run ./release")
+    print("the release is what was built: %d files" % len(members))
+    if is_by_another:
+        print("of the libraries the sources were compared, since another compiler made them: " + compiler)
+
+
+def main():
+    try:
+        if sys.argv[1:] not in ([], ["--check"]):
+            raise Refused("the only argument is --check")
+        check() if sys.argv[1:] else make()
+    except (Refused, archive.Missing, OSError, subprocess.CalledProcessError) as error:
+        sys.exit("release: %s" % error)
+
+
+if __name__ == "__main__":
+    main()

@@ -1,0 +1,417 @@
+"""./release, ./install and the choice that ./kvbucket makes, in a small tree with these scripts, whose "proved" program is a script and
+whose library has one call. Its path has a space. The commands of docs/install.md are run in it."""
+import gzip, os, re, shlex, shutil, subprocess, sys, tarfile, tempfile, unittest
+
+from scripts import archive
+from tests import top
+
+COPIED = ("kvbucket", "library", "release", "install", "scripts", "include", "c", "docs/man", "LICENSE")
+PROGRAM = """#!/bin/sh
+case "$*" in
+  --version) echo "kvbucket 0.2.0, proved with Rattle's logic 0123" ;;
+  *) echo "%s" ;;
+esac
+"""
+KIT = """#!/bin/sh
+case "$1" in
+  version) echo "rattle-kit-0 logic 0123" ;;
+  doc) echo "$(dirname "$0")/START-HERE.md" ;;
+  lib) mkdir -p out && cp ../../kit/libkv_c.a out ;;
+  try) echo "quick build"; echo "run=ended status=0 proved=no" >&2 ;;
+esac
+"""
+LIBRARY = """#include <vilgoued.h>
+uint64_t kv_reach(kv_bucket *bucket, uint64_t *floor) { *floor = %d; return bucket->is_open ? KV_OK : KV_CLOSED; }
+"""
+USER = """#include <vilgoued.h>
+int main(void) { kv_bucket bucket = {0}; uint64_t floor; return kv_reach(&bucket, &floor) == KV_CLOSED ? 0 : 1; }
+"""
+ALTER = """
+import sys
+sys.path.insert(0, ".")
+from scripts import archive
+_, name, path, data = sys.argv
+members = dict(archive.each(name))
+members[path] = members[path]._replace(data=data.encode())
+archive.write(name, members)
+"""
+PACKAGE = """import ctypes, os
+library = ctypes.CDLL(os.path.join(os.path.dirname(os.path.abspath(__file__)), "libvilgoued.so"))
+"""
+HEADERS = ["include/" + name for name in sorted(os.listdir(os.path.join(top, "include")))]
+MEMBERS = ["BUILD", "LICENSE", "bin/kvbucket", *HEADERS, "lib/libvilgoued.a", "lib/libvilgoued.so", "lib/libvilgoued.so.0",
+           "lib/pkgconfig/vilgoued.pc", "lib/python/vilgoued/__init__.py", "lib/python/vilgoued/libvilgoued.so",
+           "lib/python/vilgoued/py.typed", "share/man/man1/kvbucket.1", "share/man/man3/vilgoued.3"]
+# What a build and a release leave.
+OUTPUTS = ("crates/kvbucket/out", "lib", "dist")
+NEEDED = ("cc", "strip", "ar", "pkg-config")
+missing = [name for name in NEEDED if not shutil.which(name)]
+
+
+def copy(path, to):
+    os.makedirs(os.path.dirname(to), exist_ok=True)
+    if os.path.isdir(path):
+        shutil.copytree(path, to)
+    else:
+        shutil.copy(path, to)
+
+
+def setUpModule():
+    Tree.outputs = tempfile.mkdtemp()
+    unittest.addModuleCleanup(shutil.rmtree, Tree.outputs)
+
+
+@unittest.skipIf(missing, "%s is not installed: apt-get install build-essential pkg-config" % " and ".join(missing))
+class Tree(unittest.TestCase):
+    """A test in a tree of its own."""
+
+    # Where the outputs of the first tree that was built and released lie, for all others.
+    outputs = ""
+
+    def setUp(self):
+        room = tempfile.TemporaryDirectory()
+        self.addCleanup(room.cleanup)
+        self.room, self.top = room.name, os.path.join(room.name, "a tree")
+        for path in filter(lambda path: os.path.exists(os.path.join(top, path)), COPIED):
+            copy(os.path.join(top, path), self.path(path))
+        self.write("crates.txt", "low:\nkvbucket: low\nkv_c staticlib: low\n")
+        for name in "low", "kvbucket", "kv_c":
+            self.write("crates/%s/src/lib.rt" % name, "pub fn %s() {}\n" % name)
+        self.write("python/vilgoued/__init__.py", PACKAGE)
+        self.write("python/vilgoued/py.typed", "")
+        self.write("python/vilgoued/__pycache__/it.pyc", "of another Python\n")
+        self.write("kit/rt", KIT, is_run=True)
+
+    def path(self, path):
+        return os.path.join(self.top, path)
+
+    def write(self, path, text, is_run=False):
+        os.makedirs(os.path.dirname(self.path(path)), exist_ok=True)
+        with open(self.path(path), "w", encoding="utf-8") as file:
+            file.write(text)
+        os.chmod(self.path(path), 0o755 if is_run else 0o644)
+
+    def run_in(self, *command, kit=True, text="", **environment):
+        """How a command ends in the tree, with the kit on the path or without."""
+        path = [os.path.dirname(sys.executable), "/usr/bin", "/bin"]
+        given = {"HOME": self.room, "PATH": ":".join([self.path("kit"), *path] if kit else path), **environment}
+        return subprocess.run(command, cwd=self.top, env=given, input=text, capture_output=True, text=True)
+
+    def works(self, *command, **how):
+        """What a command prints that has to succeed."""
+        done = self.run_in(*command, **how)
+        self.assertEqual(done.returncode, 0, done.stdout + done.stderr)
+        return done.stdout
+
+    def refused(self, *command, **how):
+        """The one sentence by which a command refuses."""
+        done = self.run_in(*command, **how)
+        self.assertNotEqual(done.returncode, 0, done.stdout)
+        self.assertEqual((done.stdout, done.stderr.count("\n")), ("", 1), done.stderr)
+        return done.stderr
+
+    def keep(self, name):
+        sources = self.works("scripts/current.py", "--sources", name)
+        self.works("scripts/current.py", "--keep", name, "/dev/stdin", text=sources)
+
+    def build_program(self, says="built here"):
+        self.write("crates/kvbucket/out/kvbucket", PROGRAM % says, is_run=True)
+        self.keep("kvbucket")
+
+    def build_static(self, path, source):
+        """Makes a static library of a text in C."""
+        self.write("it.c", source)
+        os.makedirs(os.path.dirname(self.path(path)), exist_ok=True)
+        self.works("cc", "-Iinclude", "-fPIC", "-c", "it.c", "-o", "it.o")
+        self.works("ar", "rcD", path, "it.o")
+
+    def build_library(self, number=1):
+        self.build_static("lib/libvilgoued.a", LIBRARY % number)
+        self.works("cc", "-shared", "-o", "lib/libvilgoued.so", "it.o")
+        self.keep("libvilgoued")
+
+    def make(self):
+        """Builds all, makes the release, and answers its path."""
+        self.build_program()
+        self.build_library()
+        self.works("./release")
+        return self.path("dist/vilgoued-0.2.0-%s.tar.gz" % archive.machine())
+
+    def release(self):
+        """The same, of the tree as it was at first."""
+        for path in OUTPUTS:
+            shutil.rmtree(self.path(path), ignore_errors=True)
+        if not os.listdir(self.outputs):
+            self.make()
+            for path in OUTPUTS:
+                copy(self.path(path), os.path.join(self.outputs, path))
+        else:
+            for path in OUTPUTS:
+                copy(os.path.join(self.outputs, path), self.path(path))
+        return self.path("dist/vilgoued-0.2.0-%s.tar.gz" % archive.machine())
+
+    def forget_builds(self):
+        for path in OUTPUTS[:2]:
+            shutil.rmtree(self.path(path))
+
+    def alter(self, name, path, data):
+        """Makes the archive again, with other bytes of a member."""
+        self.works(sys.executable, "-B", "-c", ALTER, name, path, data)
+
+
+class Making(Tree):
+    def test_it_has_what_was_built(self):
+        with tarfile.open(self.release()) as file:
+            file.extractall(self.room)
+        root = os.path.join(self.room, "vilgoued-0.2.0-%s" % archive.machine())
+        files = sorted(os.path.relpath(os.path.join(folder, name), root) for folder, _, names in os.walk(root) for name in names)
+        self.assertEqual(files, MEMBERS)
+        self.assertEqual(self.works(os.path.join(root, "bin", "kvbucket")), "built here\n")
+        self.assertEqual(os.readlink(os.path.join(root, "lib", "libvilgoued.so")), "libvilgoued.so.0")
+        with open(os.path.join(root, "BUILD"), encoding="utf-8") as build:
+            lines = build.read().splitlines()
+        self.assertEqual(lines[:2], ["version: 0.2.0", "kit: rattle-kit-0 logic 0123"])
+        self.assertRegex(lines[2], "^compiler: .* version .*, .*strip")
+        sources = [line.split()[1] for line in lines[4:]]
+        self.assertEqual(sources, sorted(sources))
+        self.assertLessEqual({"crates/kv_c", "crates/kvbucket", "crates/low", *HEADERS, "library", "scripts/exports.map"}, set(sources))
+
+    def test_it_has_no_times_no_owners_and_an_order(self):
+        with open(self.release(), "rb") as file:
+            self.assertEqual(file.read(8)[3:], bytes(5), "no name, and no time")
+        with tarfile.open(self.release()) as tar:
+            members = tar.getmembers()
+        self.assertEqual([it.name for it in members], sorted(it.name for it in members))
+        self.assertEqual({(it.mtime, it.uid, it.gid, it.uname, it.gname) for it in members}, {(0, 0, 0, "", "")})
+
+    def test_it_is_the_same_each_time(self):
+        with open(self.make(), "rb") as file:
+            first = file.read()
+        for folder, _, names in os.walk(self.top):
+            for name in names:
+                os.utime(os.path.join(folder, name), (1, 1))
+        with open(self.make(), "rb") as file:
+            self.assertEqual(file.read(), first)
+
+    def test_it_takes_the_place_of_the_one_before(self):
+        self.release()
+        self.write("crates/kvbucket/out/kvbucket", PROGRAM.replace("0.2.0", "0.3.0") % "later", is_run=True)
+        self.keep("kvbucket")
+        self.works("./release")
+        self.assertEqual(os.listdir(self.path("dist")), ["vilgoued-0.3.0-%s.tar.gz" % archive.machine()])
+
+    def test_it_is_made_of_nothing_older_than_its_sources(self):
+        self.assertIn("run ./kvbucket --build", self.refused("./release"))
+        self.build_program()
+        self.assertIn("run ./library", self.refused("./release"))
+        self.build_library()
+        self.works("./release")
+        self.write("crates/low/src/lib.rt", "pub fn changed() {}\n")
+        self.assertIn("run ./kvbucket --build", self.refused("./release"))
+
+    def test_it_is_made_of_no_program_of_another_logic(self):
+        self.release()
+        self.write("kit/rt", KIT.replace("0123", "4567"), is_run=True)
+        self.assertIn("the kit proves in logic 4567", self.refused("./release"))
+
+    def test_it_is_made_of_what_library_makes(self):
+        self.build_program()
+        self.build_static("kit/libkv_c.a", LIBRARY % 1)
+        self.build_static("kit/c/liblibc_c.a", "int heap;\n")
+        self.works("./library")
+        self.works("./release")
+        self.works("./release", "--check")
+
+    def test_another_argument_is_refused(self):
+        self.assertIn("--check", self.refused("./release", "--all"))
+
+
+class Checking(Tree):
+    def test_without_a_release_it_passes_and_says_so(self):
+        self.assertIn("there is no dist/", self.works("./release", "--check"))
+
+    def test_a_release_of_what_was_built_passes(self):
+        self.release()
+        self.assertIn("the release is what was built: %d files" % len(MEMBERS), self.works("./release", "--check"))
+
+    def test_one_that_is_older_than_the_sources_fails(self):
+        for path in "crates/low/specs/It.antt", "include/vilgoued.h", "scripts/exports.map":
+            with self.subTest(path):
+                self.release()
+                self.write(path, "changed\n" if path.startswith("crates") else "/* changed */\n")
+                named = "crates/low" if path.startswith("crates") else path
+                told = self.refused("./release", "--check")
+                self.assertIn("older than its sources (", told)
+                self.assertIn(named, told)
+                self.assertIn("run ./release", told)
+                if path.startswith("crates"):
+                    os.remove(self.path(path))
+                else:
+                    shutil.copy(os.path.join(top, path), self.path(path))
+
+    def test_one_with_another_file_than_the_tree_fails(self):
+        self.release()
+        for path, members in (("docs/man/kvbucket.1", "share/man/man1/kvbucket.1"), ("LICENSE", "LICENSE, share/man/man1/kvbucket.1"),
+                              ("python/vilgoued/new.py", "LICENSE, lib/python/vilgoued/new.py, share/man/man1/kvbucket.1")):
+            with self.subTest(path):
+                self.write(path, "changed\n")
+                self.assertIn("is not what was built (%s): run ./release" % members, self.refused("./release", "--check"))
+
+    def test_one_with_another_program_or_library_fails(self):
+        name = os.path.basename(self.release()).removesuffix(".tar.gz")
+        self.alter(name, "bin/kvbucket", PROGRAM % "built elsewhere")
+        self.assertIn("is not what was built (bin/kvbucket)", self.refused("./release", "--check"))
+        self.release()
+        self.build_library(number=2)
+        self.assertIn("lib/libvilgoued.a", self.refused("./release", "--check"))
+
+    def test_one_of_another_form_fails(self):
+        path = self.release()
+        with gzip.open(path) as file:
+            tar = file.read()
+        with gzip.open(path, "wb") as file:
+            file.write(tar + bytes(10240))
+        self.assertIn("the form", self.refused("./release", "--check"))
+
+    def test_the_library_of_another_compiler_is_compared_by_its_sources(self):
+        self.release()
+        self.write("kit/other-cc", "#!/bin/sh\necho 'other version 9' >&2\n", is_run=True)
+        self.write("lib/libvilgoued.so", "made by another compiler\n")
+        self.assertIn("since another compiler made them: ", self.works("./release", "--check", CC="other-cc"))
+        self.write("crates/kv_c/src/lib.rt", "pub fn changed() {}\n")
+        self.assertIn("crates/kv_c", self.refused("./release", "--check", CC="other-cc"))
+
+    def test_what_was_not_built_is_not_compared(self):
+        self.release()
+        self.forget_builds()
+        self.assertIn("run ./kvbucket --build", self.refused("./release", "--check"))
+
+    def test_one_of_another_kit_fails(self):
+        self.release()
+        self.write("kit/rt", KIT.replace("kit-0", "kit-1"), is_run=True)
+        self.assertIn("of rattle-kit-0 logic 0123, and the kit is rattle-kit-1 logic 0123", self.refused("./release", "--check"))
+
+
+class Running(Tree):
+    def test_the_program_of_the_release_needs_no_kit(self):
+        self.release()
+        self.forget_builds()
+        for _ in range(2):
+            self.assertEqual(self.works("./kvbucket", kit=False), "built here\n")
+        self.assertEqual(self.works("./kvbucket", "--version", kit=False), "kvbucket 0.2.0, proved with Rattle's logic 0123\n")
+
+    def test_one_that_was_unpacked_and_changed_is_unpacked_again(self):
+        self.release()
+        self.forget_builds()
+        self.works("./kvbucket", kit=False)
+        self.write("out/release/kvbucket", PROGRAM % "changed", is_run=True)
+        self.assertEqual(self.works("./kvbucket", kit=False), "built here\n")
+
+    def test_what_was_built_here_goes_before_it(self):
+        self.release()
+        self.build_program(says="built later")
+        self.assertEqual(self.works("./kvbucket", kit=False), "built later\n")
+
+    def test_a_release_of_other_sources_is_not_run(self):
+        self.release()
+        self.forget_builds()
+        self.write("crates/low/src/lib.rt", "pub fn changed() {}\n")
+        done = self.run_in("./kvbucket")
+        self.assertEqual((done.returncode, done.stdout), (0, "quick build\n"))
+        self.assertIn("a quick build, which proves nothing", done.stderr)
+        self.assertIn("rt is not on the path", self.refused("./kvbucket", kit=False))
+
+    def test_a_change_of_the_library_alone_leaves_the_program(self):
+        self.release()
+        self.forget_builds()
+        self.write("crates/kv_c/src/lib.rt", "pub fn changed() {}\n")
+        self.assertEqual(self.works("./kvbucket", kit=False), "built here\n")
+
+    def test_an_archive_that_is_none_is_not_run(self):
+        path = self.release()
+        self.forget_builds()
+        with open(path, "wb") as file:
+            file.write(b"no archive")
+        self.assertEqual(self.works("./kvbucket"), "quick build\n")
+
+
+class Installing(Tree):
+    def installed(self, *words):
+        """The paths that an installation tells, and the lines behind them."""
+        lines = self.works("./install", *words, kit=False).splitlines()
+        at = next(at for at, line in enumerate(lines) if line.startswith("installed "))
+        return lines[:at], lines[at:]
+
+    def test_it_says_what_it_wrote(self):
+        self.release()
+        prefix = os.path.join(self.room, "some where")
+        told, behind = self.installed(prefix)
+        there = [os.path.join(folder, name) for folder, _, names in os.walk(prefix) for name in names]
+        self.assertEqual(sorted(told), sorted(there))
+        self.assertEqual(len(told), len(MEMBERS))
+        self.assertIn("export PATH='%s/bin'${PATH:+:$PATH}" % prefix, behind)
+        self.assertTrue(os.access(os.path.join(prefix, "bin", "kvbucket"), os.X_OK))
+        self.assertFalse(os.access(os.path.join(prefix, "LICENSE"), os.F_OK), "it stands in share/doc")
+
+    def test_it_goes_to_the_users_own_folder(self):
+        self.release()
+        told, _ = self.installed()
+        self.assertIn(os.path.join(self.room, ".local", "bin", "kvbucket"), told)
+
+    def test_another_one_takes_its_place(self):
+        self.release()
+        first = self.installed()
+        self.build_program(says="built later")
+        self.works("./release")
+        self.assertEqual(self.installed(), first)
+        self.assertEqual(self.works(os.path.join(self.room, ".local/bin/kvbucket")), "built later\n")
+
+    def test_pkg_config_finds_it(self):
+        self.release()
+        prefix = os.path.join(self.room, "some where")
+        self.installed(prefix)
+        flags = self.works("pkg-config", "--cflags", "--libs", "vilgoued", PKG_CONFIG_PATH=os.path.join(prefix, "lib/pkgconfig"))
+        self.write("user.c", USER)
+        self.works("cc", "user.c", *shlex.split(flags), "-o", "user")
+        self.works("./user", LD_LIBRARY_PATH=os.path.join(prefix, "lib"))
+        version = self.works("pkg-config", "--modversion", "vilgoued", PKG_CONFIG_PATH=os.path.join(prefix, "lib/pkgconfig"))
+        self.assertEqual(version, "0.2.0\n")
+
+    def test_a_release_that_is_missing_is_one_sentence(self):
+        self.assertIn("there is no release in dist/", self.refused("./install", kit=False))
+
+    def test_one_for_another_machine_is_one_sentence(self):
+        self.write("dist/vilgoued-0.2.0-linux-other64.tar.gz", "")
+        self.assertIn("is for linux-other64, and this machine is %s" % archive.machine(), self.refused("./install", kit=False))
+
+    def test_a_broken_one_is_one_sentence_and_writes_nothing(self):
+        path = self.release()
+        with open(path, "r+b") as file:
+            file.truncate(os.path.getsize(path) // 2)
+        self.assertIn("is no whole archive", self.refused("./install", kit=False))
+        self.assertFalse(os.path.exists(os.path.join(self.room, ".local")))
+
+    def test_two_releases_are_one_sentence(self):
+        shutil.copy(self.release(), self.path("dist/vilgoued-0.1.0-%s.tar.gz" % archive.machine()))
+        self.assertIn("dist/ has 2 releases", self.refused("./install", kit=False))
+
+    def test_a_folder_that_is_none_is_one_sentence(self):
+        self.release()
+        self.write("file", "")
+        self.assertIn("install: ", self.refused("./install", self.path("file"), kit=False))
+        self.assertIn("the only argument", self.refused("./install", "--prefix", kit=False))
+
+
+class Page(Tree):
+    def test_its_commands_run(self):
+        self.release()
+        self.write("program.c", USER)
+        with open(os.path.join(top, "docs", "install.md"), encoding="utf-8") as page:
+            commands = re.findall(r"^```sh\n(.*?)^```$", page.read(), re.M | re.S)
+        told = self.works("bash", "-euc", "".join(commands), kit=False)
+        for text in "kvbucket 0.2.0", "kit: rattle-kit-0 logic 0123", ".local/lib/pkgconfig/vilgoued.pc":
+            self.assertIn(text, told)
+
+
+if __name__ == "__main__":
+    unittest.main()
