@@ -24,7 +24,7 @@ PARTS = {
     "races": ["tests.test_races"],
     "scripts": ["tests.test_scripts"],
     "refusals": ["tests.memory.test_refusals"],
-    "library": ["tests.c.test_library", "tests.python.test_vilgoued", "tests.python.test_scripts",
+    "library": ["tests.c.test_library", "tests.c.test_shared", "tests.python.test_vilgoued", "tests.python.test_scripts",
                 "tests.python.test_example", "tests.python.test_sanitizers"],
     "server": ["tests.python.test_vilgoued", "tests.server.test_scripts", "tests.server.test_copies", "tests.server.test_meanwhile"],
     "quoted": ["tests.pages.test_quoted"],

@@ -10,8 +10,13 @@ def lines_of(path):
         return file.read().splitlines()
 
 
+def blocks(page, language):
+    """The lines of each of a page's blocks in this language."""
+    lines = lines_of(page)
+    starts = [at + 1 for at, line in enumerate(lines) if line == "```" + language]
+    return [lines[start:lines.index("```", start)] for start in starts]
+
+
 def first_block(page, language):
     """The lines of a page's first block in this language."""
-    lines = lines_of(page)
-    start = lines.index("```" + language) + 1
-    return lines[start:lines.index("```", start)]
+    return blocks(page, language)[0]

@@ -1,0 +1,610 @@
+/* The functions of vilgoued_shared.h: a bucket behind one mutex, and a number that counts what is published, which
+ * readers and followers look at without the mutex. Each step on a bucket, a view or a feed is a call of an export of
+ * vilgoued.h. */
+#define _GNU_SOURCE
+#include "vilgoued_shared.h"
+#include <errno.h>
+#include <pthread.h>
+#include <stdatomic.h>
+#include <stdlib.h>
+#include <sys/eventfd.h>
+#include <time.h>
+#include <unistd.h>
+
+/* The state of a kv_shared: whether it is open, and above that how many calls are inside. */
+enum { OPEN = 1, INSIDE = 2 };
+
+/* The sequence: two flags, and above them how many acts are published. It changes under the mutex alone. */
+enum { CLOSED = 1, FINISHED = 2, ONE_ACT = 4 };
+
+/* What the handles of one bucket refer to: its own, and those of its readers and followers. It is freed with the last
+ * reference. */
+struct core {
+    pthread_mutex_t lock;
+    pthread_cond_t changed; /* for followers: the sequence changed, or one of them was stopped */
+    pthread_cond_t idle;    /* for a close: nobody is inside any more */
+    kv_bucket bucket;
+    uint64_t last, floor; /* the bucket's last revision, and the floor that it was compacted to */
+    _Atomic size_t references;
+    struct follower *followers;
+    bool has_waiters; /* whether a follower may be asleep, or a descriptor wait to become readable */
+    /* Readers load the sequence all the time, so it has a cache line for itself. */
+    char before[64];
+    _Atomic uint64_t sequence;
+    char behind[64];
+};
+
+struct reader {
+    struct core *core;
+    kv_view view;
+    uint64_t seen; /* the sequence, when the view was opened */
+};
+
+struct follower {
+    struct core *core;
+    kv_feed feed;
+    uint64_t seen;
+    _Atomic uint64_t last; /* the last revision of the view that the feed has gone on to */
+    _Atomic bool is_stopped;
+    int fd;
+    bool is_armed; /* whether the descriptor is there and not readable */
+    struct follower *next, **link;
+};
+
+static uint64_t sequence_of(struct core *core) {
+    return atomic_load_explicit(&core->sequence, memory_order_acquire);
+}
+
+/* Makes a follower's descriptor readable, where it waits for that. Under the mutex. */
+static void signal_fd(struct follower *follower) {
+    static const uint64_t one = 1;
+    if (follower->is_armed) {
+        /* Its count was 0, so this can't fail. */
+        ssize_t written = write(follower->fd, &one, sizeof one);
+        (void)written;
+        follower->is_armed = false;
+    }
+}
+
+/* Makes it unreadable, until the sequence changes. Under the mutex. */
+static void rearm_fd(struct follower *follower) {
+    uint64_t count;
+    if (follower->fd >= 0 && !follower->is_armed) {
+        ssize_t drained = read(follower->fd, &count, sizeof count);
+        (void)drained;
+        follower->is_armed = follower->core->has_waiters = true;
+    }
+}
+
+/* Changes the sequence, and wakes who waits for that: where nobody does, that is one store. Under the mutex. */
+static void publish(struct core *core, uint64_t sequence) {
+    atomic_store_explicit(&core->sequence, sequence, memory_order_release);
+    if (!core->has_waiters)
+        return;
+    core->has_waiters = false;
+    pthread_cond_broadcast(&core->changed);
+    for (struct follower *it = core->followers; it; it = it->next)
+        signal_fd(it);
+}
+
+/* Lets the mutex go and leaves. A close waits for that, under the mutex. */
+static uint64_t leave(kv_shared *shared, struct core *core, uint64_t code) {
+    if (__atomic_sub_fetch(&shared->state, INSIDE, __ATOMIC_RELEASE) == 0)
+        pthread_cond_signal(&core->idle);
+    pthread_mutex_unlock(&core->lock);
+    return code;
+}
+
+/* The same behind an act, which is published where it was accepted. */
+static uint64_t leave_published(kv_shared *shared, struct core *core, uint64_t code) {
+    if (code == KV_OK)
+        publish(core, sequence_of(core) + ONE_ACT);
+    return leave(shared, core, code);
+}
+
+static uint64_t leave_written(kv_shared *shared, struct core *core, uint64_t code, const uint64_t *revision) {
+    if (code == KV_OK)
+        core->last = *revision;
+    return leave_published(shared, core, code);
+}
+
+/* Comes in by a handle and takes the mutex; NULL where the handle is closed, or was while this call waited for the
+ * mutex. */
+static struct core *enter(kv_shared *shared) {
+    uint64_t state = __atomic_load_n(&shared->state, __ATOMIC_RELAXED);
+    while (state & OPEN)
+        if (__atomic_compare_exchange_n(&shared->state, &state, state + INSIDE, true, __ATOMIC_ACQUIRE,
+                                        __ATOMIC_RELAXED)) {
+            struct core *core = shared->at;
+            pthread_mutex_lock(&core->lock);
+            if (!(sequence_of(core) & CLOSED))
+                return core;
+            leave(shared, core, KV_CLOSED);
+            break;
+        }
+    return NULL;
+}
+
+/* Drops one reference. */
+static void release(struct core *core) {
+    if (atomic_fetch_sub(&core->references, 1) != 1)
+        return;
+    pthread_cond_destroy(&core->idle);
+    pthread_cond_destroy(&core->changed);
+    pthread_mutex_destroy(&core->lock);
+    free(core);
+}
+
+/* Sleepers go by a clock that nobody sets. Who waits for the mutex spins a little, as it is mostly held for
+ * microseconds. */
+static bool make_locks(struct core *core) {
+    pthread_mutexattr_t spins;
+    pthread_condattr_t steady;
+    bool is_made = pthread_mutexattr_init(&spins) == 0;
+    if (!is_made)
+        return false;
+    pthread_mutexattr_settype(&spins, PTHREAD_MUTEX_ADAPTIVE_NP);
+    is_made = pthread_mutex_init(&core->lock, &spins) == 0;
+    pthread_mutexattr_destroy(&spins);
+    if (!is_made || pthread_condattr_init(&steady) != 0)
+        return false;
+    pthread_condattr_setclock(&steady, CLOCK_MONOTONIC);
+    is_made = pthread_cond_init(&core->changed, &steady) == 0 && pthread_cond_init(&core->idle, NULL) == 0;
+    pthread_condattr_destroy(&steady);
+    return is_made;
+}
+
+uint64_t kv_shared_open(kv_shared *shared, const uint8_t *name, size_t name_size, const kv_limits *limits) {
+    struct core *core;
+    uint64_t code;
+    if (__atomic_load_n(&shared->state, __ATOMIC_ACQUIRE) & OPEN)
+        return KV_OPEN_ALREADY;
+    core = malloc(sizeof *core);
+    if (!core)
+        return KV_OUT_OF_MEMORY;
+    *core = (struct core){.references = 1};
+    code = kv_open(&core->bucket, name, name_size, limits);
+    if (code == KV_OK && !make_locks(core)) {
+        kv_close(&core->bucket);
+        code = KV_OUT_OF_MEMORY;
+    }
+    if (code != KV_OK) {
+        free(core);
+        return code;
+    }
+    shared->at = core;
+    __atomic_fetch_or(&shared->state, OPEN, __ATOMIC_RELEASE);
+    return KV_OK;
+}
+
+uint64_t kv_shared_finish(kv_shared *shared) {
+    struct core *core = enter(shared);
+    if (!core)
+        return KV_CLOSED;
+    publish(core, sequence_of(core) | FINISHED);
+    return leave(shared, core, KV_OK);
+}
+
+void kv_shared_close(kv_shared *shared) {
+    struct core *core;
+    if (!(__atomic_fetch_and(&shared->state, ~(uint64_t)OPEN, __ATOMIC_ACQ_REL) & OPEN))
+        return;
+    core = shared->at;
+    pthread_mutex_lock(&core->lock);
+    publish(core, sequence_of(core) | CLOSED);
+    while (__atomic_load_n(&shared->state, __ATOMIC_ACQUIRE) != 0)
+        pthread_cond_wait(&core->idle, &core->lock);
+    pthread_mutex_unlock(&core->lock);
+    shared->at = NULL;
+    /* Whoever finds the flag leaves the bucket alone. */
+    kv_close(&core->bucket);
+    release(core);
+}
+
+uint64_t kv_shared_put(kv_shared *shared, const uint8_t *key, size_t key_size, const uint8_t *value, size_t value_size,
+                       uint64_t *revision) {
+    struct core *core = enter(shared);
+    return !core ? KV_CLOSED
+                 : leave_written(shared, core, kv_put(&core->bucket, key, key_size, value, value_size, revision),
+                                 revision);
+}
+
+uint64_t kv_shared_create(kv_shared *shared, const uint8_t *key, size_t key_size, const uint8_t *value,
+                          size_t value_size, uint64_t *revision) {
+    struct core *core = enter(shared);
+    return !core ? KV_CLOSED
+                 : leave_written(shared, core, kv_create(&core->bucket, key, key_size, value, value_size, revision),
+                                 revision);
+}
+
+uint64_t kv_shared_update(kv_shared *shared, const uint8_t *key, size_t key_size, const uint8_t *value,
+                          size_t value_size, uint64_t last, uint64_t *revision) {
+    struct core *core = enter(shared);
+    return !core ? KV_CLOSED
+                 : leave_written(shared, core,
+                                 kv_update(&core->bucket, key, key_size, value, value_size, last, revision), revision);
+}
+
+uint64_t kv_shared_delete(kv_shared *shared, const uint8_t *key, size_t key_size, bool has_last, uint64_t last,
+                          uint64_t *revision) {
+    struct core *core = enter(shared);
+    return !core ? KV_CLOSED
+                 : leave_written(shared, core, kv_delete(&core->bucket, key, key_size, has_last, last, revision),
+                                 revision);
+}
+
+uint64_t kv_shared_purge(kv_shared *shared, const uint8_t *key, size_t key_size, bool has_last, uint64_t last,
+                         uint64_t *revision) {
+    struct core *core = enter(shared);
+    return !core ? KV_CLOSED
+                 : leave_written(shared, core, kv_purge(&core->bucket, key, key_size, has_last, last, revision),
+                                 revision);
+}
+
+uint64_t kv_shared_seal(kv_shared *shared) {
+    struct core *core = enter(shared);
+    return !core ? KV_CLOSED : leave_published(shared, core, kv_seal(&core->bucket));
+}
+
+uint64_t kv_shared_compact(kv_shared *shared, uint64_t floor, uint64_t *watch) {
+    struct core *core = enter(shared);
+    uint64_t code;
+    if (!core)
+        return KV_CLOSED;
+    code = kv_compact(&core->bucket, floor, watch);
+    if (code == KV_OK)
+        core->floor = floor;
+    return leave_published(shared, core, code);
+}
+
+/* A follower goes on where it has handed out all that it went on to. So it lags behind a floor exactly where that is
+ * above the last revision that it has gone on to. */
+uint64_t kv_shared_reach(kv_shared *shared, uint64_t *floor) {
+    struct core *core = enter(shared);
+    uint64_t code, least = 0;
+    if (!core)
+        return KV_CLOSED;
+    code = kv_reach(&core->bucket, &least);
+    for (struct follower *it = core->followers; it; it = it->next) {
+        uint64_t last = atomic_load(&it->last);
+        if (!atomic_load(&it->is_stopped) && last >= core->floor && last < least)
+            least = last;
+    }
+    if (code == KV_OK)
+        *floor = least;
+    return leave(shared, core, code);
+}
+
+uint64_t kv_shared_get(kv_shared *shared, const uint8_t *key, size_t key_size, uint8_t *room, size_t room_size,
+                       size_t *size, uint64_t *revision) {
+    struct core *core = enter(shared);
+    return !core ? KV_CLOSED
+                 : leave(shared, core, kv_get(&core->bucket, key, key_size, room, room_size, size, revision));
+}
+
+uint64_t kv_shared_get_at(kv_shared *shared, const uint8_t *key, size_t key_size, uint64_t at, uint8_t *room,
+                          size_t room_size, size_t *size, uint64_t *revision) {
+    struct core *core = enter(shared);
+    return !core ? KV_CLOSED
+                 : leave(shared, core, kv_get_at(&core->bucket, key, key_size, at, room, room_size, size, revision));
+}
+
+uint64_t kv_shared_history(kv_shared *shared, const uint8_t *key, size_t key_size, size_t index, uint8_t *room,
+                           size_t room_size, kv_item *item, size_t *count) {
+    struct core *core = enter(shared);
+    return !core ? KV_CLOSED
+                 : leave(shared, core, kv_history(&core->bucket, key, key_size, index, room, room_size, item, count));
+}
+
+uint64_t kv_shared_keys(kv_shared *shared, const uint8_t *filter, size_t filter_size, uint8_t *room, size_t room_size,
+                        size_t *size, size_t *count) {
+    struct core *core = enter(shared);
+    return !core ? KV_CLOSED
+                 : leave(shared, core, kv_keys(&core->bucket, filter, filter_size, room, room_size, size, count));
+}
+
+uint64_t kv_shared_get_status(kv_shared *shared, kv_status *status) {
+    struct core *core = enter(shared);
+    return !core ? KV_CLOSED : leave(shared, core, kv_get_status(&core->bucket, status));
+}
+
+uint64_t kv_shared_snapshot(kv_shared *shared, kv_view *view) {
+    struct core *core = enter(shared);
+    return !core ? KV_CLOSED : leave(shared, core, kv_snapshot(&core->bucket, view));
+}
+
+uint64_t kv_shared_watch(kv_shared *shared, const uint8_t *filters, size_t filters_size, const kv_options *options,
+                         uint64_t *number) {
+    struct core *core = enter(shared);
+    return !core ? KV_CLOSED : leave(shared, core, kv_watch(&core->bucket, filters, filters_size, options, number));
+}
+
+uint64_t kv_shared_take(kv_shared *shared, uint64_t number, uint8_t *keys, size_t keys_size, uint8_t *values,
+                        size_t values_size, kv_item *item) {
+    struct core *core = enter(shared);
+    return !core ? KV_CLOSED
+                 : leave(shared, core, kv_take(&core->bucket, number, keys, keys_size, values, values_size, item));
+}
+
+uint64_t kv_shared_stop(kv_shared *shared, uint64_t number, uint64_t *handed) {
+    struct core *core = enter(shared);
+    return !core ? KV_CLOSED : leave(shared, core, kv_stop(&core->bucket, number, handed));
+}
+
+uint64_t kv_reader_open(kv_shared *shared, kv_reader *handle) {
+    struct core *core = enter(shared);
+    struct reader *reader;
+    uint64_t code;
+    if (!core)
+        return KV_CLOSED;
+    if (handle->is_open)
+        return leave(shared, core, KV_OPEN_ALREADY);
+    reader = malloc(sizeof *reader);
+    if (!reader)
+        return leave(shared, core, KV_OUT_OF_MEMORY);
+    *reader = (struct reader){.core = core, .seen = sequence_of(core)};
+    code = kv_snapshot(&core->bucket, &reader->view);
+    if (code == KV_OK) {
+        atomic_fetch_add(&core->references, 1);
+        *handle = (kv_reader){true, reader};
+    } else
+        free(reader);
+    return leave(shared, core, code);
+}
+
+/* The reader of a handle, gone on to all that is published; NULL where it can't, and the code says why. */
+static struct reader *refreshed(kv_reader *handle, uint64_t *code) {
+    struct reader *reader = handle->at;
+    struct core *core;
+    kv_view later = {0};
+    uint64_t sequence;
+    if (!handle->is_open) {
+        *code = KV_CLOSED;
+        return NULL;
+    }
+    core = reader->core;
+    if (sequence_of(core) == reader->seen)
+        return reader;
+    pthread_mutex_lock(&core->lock);
+    sequence = sequence_of(core);
+    *code = sequence & CLOSED ? KV_CLOSED : kv_snapshot(&core->bucket, &later);
+    pthread_mutex_unlock(&core->lock);
+    if (*code != KV_OK)
+        return NULL;
+    kv_view_close(&reader->view);
+    reader->view = later;
+    reader->seen = sequence;
+    return reader;
+}
+
+uint64_t kv_reader_get(kv_reader *handle, const uint8_t *key, size_t key_size, uint8_t *room, size_t room_size,
+                       size_t *size, uint64_t *revision) {
+    uint64_t code;
+    struct reader *reader = refreshed(handle, &code);
+    return reader ? kv_view_get(&reader->view, key, key_size, room, room_size, size, revision) : code;
+}
+
+uint64_t kv_reader_get_at(kv_reader *handle, const uint8_t *key, size_t key_size, uint64_t at, uint8_t *room,
+                          size_t room_size, size_t *size, uint64_t *revision) {
+    uint64_t code;
+    struct reader *reader = refreshed(handle, &code);
+    return reader ? kv_view_get_at(&reader->view, key, key_size, at, room, room_size, size, revision) : code;
+}
+
+uint64_t kv_reader_history(kv_reader *handle, const uint8_t *key, size_t key_size, size_t index, uint8_t *room,
+                           size_t room_size, kv_item *item, size_t *count) {
+    uint64_t code;
+    struct reader *reader = refreshed(handle, &code);
+    return reader ? kv_view_history(&reader->view, key, key_size, index, room, room_size, item, count) : code;
+}
+
+uint64_t kv_reader_keys(kv_reader *handle, const uint8_t *filter, size_t filter_size, uint8_t *room, size_t room_size,
+                        size_t *size, size_t *count) {
+    uint64_t code;
+    struct reader *reader = refreshed(handle, &code);
+    return reader ? kv_view_keys(&reader->view, filter, filter_size, room, room_size, size, count) : code;
+}
+
+uint64_t kv_reader_get_status(kv_reader *handle, kv_status *status) {
+    uint64_t code;
+    struct reader *reader = refreshed(handle, &code);
+    return reader ? kv_view_get_status(&reader->view, status) : code;
+}
+
+void kv_reader_close(kv_reader *handle) {
+    struct reader *reader = handle->at;
+    if (!handle->is_open)
+        return;
+    *handle = (kv_reader){0};
+    kv_view_close(&reader->view);
+    release(reader->core);
+    free(reader);
+}
+
+/* Puts a follower among those of its core. Under the mutex. */
+static void link_follower(struct follower *follower) {
+    struct core *core = follower->core;
+    follower->next = core->followers;
+    follower->link = &core->followers;
+    if (follower->next)
+        follower->next->link = &follower->next;
+    core->followers = follower;
+    atomic_fetch_add(&core->references, 1);
+}
+
+/* Takes it out, and frees it. */
+static void free_follower(struct follower *follower) {
+    struct core *core = follower->core;
+    pthread_mutex_lock(&core->lock);
+    *follower->link = follower->next;
+    if (follower->next)
+        follower->next->link = follower->link;
+    pthread_mutex_unlock(&core->lock);
+    if (follower->fd >= 0)
+        close(follower->fd);
+    kv_feed_close(&follower->feed);
+    release(core);
+    free(follower);
+}
+
+/* It stands among the followers before its feed is opened, which may look at each key: so a floor that kv_shared_reach
+ * tells meanwhile is none that it lags behind. */
+uint64_t kv_follower_open(kv_shared *shared, const uint8_t *filters, size_t filters_size, const kv_options *options,
+                          kv_follower *handle) {
+    struct core *core = enter(shared);
+    struct follower *follower;
+    kv_view view = {0};
+    uint64_t code;
+    if (!core)
+        return KV_CLOSED;
+    if (handle->is_open)
+        return leave(shared, core, KV_OPEN_ALREADY);
+    follower = malloc(sizeof *follower);
+    if (!follower)
+        return leave(shared, core, KV_OUT_OF_MEMORY);
+    *follower = (struct follower){.core = core, .seen = sequence_of(core), .last = core->last, .fd = -1};
+    code = kv_snapshot(&core->bucket, &view);
+    if (code != KV_OK) {
+        free(follower);
+        return leave(shared, core, code);
+    }
+    link_follower(follower);
+    leave(shared, core, KV_OK);
+    code = kv_feed_open(&view, filters, filters_size, options, &follower->feed);
+    kv_view_close(&view);
+    if (code == KV_OK)
+        *handle = (kv_follower){true, follower};
+    else
+        free_follower(follower);
+    return code;
+}
+
+static bool is_ended(struct follower *follower) {
+    return sequence_of(follower->core) & CLOSED || atomic_load_explicit(&follower->is_stopped, memory_order_relaxed);
+}
+
+/* How long a next may sleep. The clock is read before it first does. */
+struct timeout {
+    uint64_t milliseconds;
+    bool has_begun;
+    struct timespec until;
+};
+
+/* Sleeps until somebody wakes it, and answers whether the time was over first. Under the mutex. */
+static bool wait_timed_out(struct core *core, struct timeout *timeout) {
+    if (timeout->milliseconds == 0)
+        return true;
+    core->has_waiters = true;
+    if (timeout->milliseconds == KV_FOREVER) {
+        pthread_cond_wait(&core->changed, &core->lock);
+        return false;
+    }
+    if (!timeout->has_begun) {
+        clock_gettime(CLOCK_MONOTONIC, &timeout->until);
+        timeout->until.tv_sec += timeout->milliseconds / 1000;
+        timeout->until.tv_nsec += timeout->milliseconds % 1000 * 1000000;
+        if (timeout->until.tv_nsec >= 1000000000) {
+            timeout->until.tv_nsec -= 1000000000;
+            timeout->until.tv_sec++;
+        }
+        timeout->has_begun = true;
+    }
+    return pthread_cond_timedwait(&core->changed, &core->lock, &timeout->until) == ETIMEDOUT;
+}
+
+/* Waits until there is more than a follower has seen, and opens a view of that; or answers why there is none: with
+ * KV_OK and a closed view where the time was over. */
+static uint64_t await_view(struct follower *follower, struct timeout *timeout, kv_view *view, uint64_t *seen,
+                           uint64_t *last) {
+    struct core *core = follower->core;
+    bool is_over = false;
+    uint64_t code = KV_OK;
+    pthread_mutex_lock(&core->lock);
+    for (;;) {
+        *seen = sequence_of(core);
+        *last = core->last;
+        if (is_ended(follower))
+            code = KV_CLOSED;
+        else if (*seen != follower->seen)
+            code = kv_snapshot(&core->bucket, view);
+        else if (*seen & FINISHED)
+            code = KV_CLOSED;
+        else if (!is_over) {
+            is_over = wait_timed_out(core, timeout);
+            continue;
+        } else
+            rearm_fd(follower);
+        break;
+    }
+    pthread_mutex_unlock(&core->lock);
+    return code;
+}
+
+uint64_t kv_follower_next(kv_follower *handle, uint64_t milliseconds, uint8_t *keys, size_t keys_size, uint8_t *values,
+                          size_t values_size, kv_item *item, uint64_t *floor) {
+    struct follower *follower = handle->at;
+    struct timeout timeout = {.milliseconds = milliseconds};
+    if (!handle->is_open)
+        return KV_CLOSED;
+    for (;;) {
+        kv_view view = {0};
+        kv_item taken;
+        uint64_t code, seen, last;
+        if (is_ended(follower))
+            return KV_CLOSED;
+        code = kv_feed_take(&follower->feed, keys, keys_size, values, values_size, &taken);
+        if (code != KV_OK || taken.kind != KV_EMPTY) {
+            if (code == KV_OK || code == KV_TOO_LITTLE_ROOM)
+                *item = taken;
+            return code;
+        }
+        code = await_view(follower, &timeout, &view, &seen, &last);
+        if (code == KV_OK && !view.is_open)
+            *item = taken;
+        if (code != KV_OK || !view.is_open)
+            return code;
+        code = kv_feed_refresh(&follower->feed, &view, floor);
+        kv_view_close(&view);
+        if (code != KV_OK)
+            return code;
+        follower->seen = seen;
+        atomic_store(&follower->last, last);
+    }
+}
+
+uint64_t kv_follower_fd(kv_follower *handle, int *fd) {
+    struct follower *follower = handle->at;
+    if (!handle->is_open || is_ended(follower))
+        return KV_CLOSED;
+    if (follower->fd < 0)
+        follower->fd = eventfd(1, EFD_CLOEXEC | EFD_NONBLOCK);
+    if (follower->fd < 0)
+        return errno == ENOMEM ? KV_OUT_OF_MEMORY : KV_NO_DESCRIPTOR;
+    *fd = follower->fd;
+    return KV_OK;
+}
+
+uint64_t kv_follower_stop(kv_follower *handle) {
+    struct follower *follower = handle->at;
+    struct core *core;
+    uint64_t code = KV_OK;
+    if (!handle->is_open)
+        return KV_CLOSED;
+    core = follower->core;
+    pthread_mutex_lock(&core->lock);
+    if (sequence_of(core) & CLOSED)
+        code = KV_CLOSED;
+    atomic_store(&follower->is_stopped, true);
+    pthread_cond_broadcast(&core->changed);
+    signal_fd(follower);
+    pthread_mutex_unlock(&core->lock);
+    return code;
+}
+
+void kv_follower_close(kv_follower *handle) {
+    struct follower *follower = handle->at;
+    if (!handle->is_open)
+        return;
+    *handle = (kv_follower){0};
+    free_follower(follower);
+}

@@ -1,0 +1,51 @@
+"""Programs in C beside libvilgoued, in the folder of VILGOUED_LIBRARY. The C compiler is CC, or else cc, and that for C++ is CXX, or
+else c++."""
+import os, subprocess, tempfile, unittest
+
+from tests import top
+
+here = os.path.dirname(os.path.abspath(__file__))
+libraries = os.path.dirname(os.path.abspath(os.environ["VILGOUED_LIBRARY"]))
+C, CXX = os.environ.get("CC", "cc"), os.environ.get("CXX", "c++")
+INCLUDE = os.path.join(top, "include")
+SHELL = os.path.join(top, "c", "shared.c")
+STRICT = ["-pedantic", "-Wall", "-Wextra", "-Werror"]
+CHECKED = ["-g", "-fsanitize=address,undefined", "-fno-sanitize-recover=all"]
+WRAPPED = ["-Wl,--wrap=malloc", "-Wl,--wrap=realloc"]
+
+
+def ran(*command, **more):
+    """What a command that has to succeed prints, with more in its environment."""
+    how = {"stdin": subprocess.DEVNULL, "stdout": subprocess.PIPE, "stderr": subprocess.STDOUT, "env": dict(os.environ, **more)}
+    done = subprocess.run(command, text=True, **how)
+    if done.returncode != 0:
+        raise AssertionError("%s: status %d\n%s" % (" ".join(command), done.returncode, done.stdout))
+    return done.stdout
+
+
+class ProgramTest(unittest.TestCase):
+    """A test that makes and runs programs of this folder."""
+
+    def setUp(self):
+        room = tempfile.TemporaryDirectory()
+        self.addCleanup(room.cleanup)
+        self.folder = room.name
+
+    def built(self, name, *flags):
+        """Makes a program of this folder beside the static library."""
+        program = os.path.join(self.folder, name)
+        wrapped = WRAPPED if name.endswith("sweep") else []
+        ran(C, "-Wall", "-Wextra", "-Werror", "-I" + INCLUDE, os.path.join(here, name + ".c"), *flags, *wrapped,
+            os.path.join(libraries, "libvilgoued.a"), "-o", program, "-pthread")
+        return program
+
+    def needs(self, *flags):
+        """Leaves a test out where the compiler makes no program with these sanitizers, or it does not run."""
+        empty = os.path.join(self.folder, "empty")
+        with open(empty + ".c", "w", encoding="utf-8") as file:
+            file.write("int main(void) { return 0; }\n")
+        try:
+            ran(C, *flags, empty + ".c", "-o", empty)
+            ran(empty)
+        except AssertionError:
+            self.skipTest("%s has no %s" % (C, " ".join(flag for flag in flags if flag.startswith("-fsanitize"))))

@@ -1,0 +1,72 @@
+"""vilgoued_shared.h, the shell in C by which threads share a bucket, as programs in C use it: each function and each refusal; writers,
+readers and followers at once; sleeping, waking and closing; each request for memory refused; the same under sanitizers and valgrind
+where they are installed, with less of everything. What calls take is printed."""
+import os, shutil, unittest
+
+from tests.c.compiling import C, CHECKED, CXX, INCLUDE, SHELL, STRICT, ProgramTest, here, libraries, ran
+from tests.pages.examples import blocks, lines_of
+
+RACES = ["-g", "-O1", "-fsanitize=thread"]
+# What is proved is not built with the sanitizer, so it sees neither the counts of owners there nor what they order.
+QUIET = os.path.join(here, "races-not-seen")
+# By how much less there is of everything where each step is slow.
+LESS = "10"
+LEAST = "50"
+
+
+class Shell(ProgramTest):
+    def test_compilers_have_nothing_to_say(self):
+        for compiler in filter(shutil.which, sorted({C, "gcc", "clang"})):
+            with self.subTest(compiler):
+                ran(compiler, "-std=c11", "-O2", "-pthread", *STRICT, "-I" + INCLUDE, "-c", SHELL, "-o", os.path.join(self.folder, "shared.o"))
+
+    @unittest.skipUnless(shutil.which(CXX), "there is no %s: apt-get install g++" % CXX)
+    def test_cpp_calls_it(self):
+        program = os.path.join(self.folder, "example")
+        ran(CXX, "-std=c++11", "-Wall", "-Wextra", "-Werror", "-I" + INCLUDE, "-x", "c++", os.path.join(here, "shared_example.c"),
+            "-x", "none", os.path.join(libraries, "libvilgoued.a"), "-o", program, "-pthread")
+        self.assertEqual(ran(program).splitlines(), lines_of("tests/c/shared_example.stdout"))
+
+
+class Programs(ProgramTest):
+    def test_each_function_and_each_refusal(self):
+        ran(self.built("shared_use", "-O2"))
+
+    def test_four_writers_four_readers_and_four_followers(self):
+        print(ran(self.built("shared_threads", "-O2")), end="")
+
+    def test_each_request_for_memory_refused_in_turn(self):
+        print(ran(self.built("shared_sweep", "-O2")), end="")
+
+    def test_the_example_says_what_it_is_to_say(self):
+        self.assertEqual(ran(self.built("shared_example", "-O2")).splitlines(), lines_of("tests/c/shared_example.stdout"))
+
+    def test_what_calls_take(self):
+        print(ran(self.built("shared_costs", "-O2")), end="")
+
+    def test_with_sanitizers_of_addresses_and_undefined_behaviour(self):
+        self.needs(*CHECKED)
+        for name, *words in (["shared_use"], ["shared_threads", LESS], ["shared_sweep"]):
+            with self.subTest(name):
+                ran(self.built(name, SHELL, *CHECKED), *words)
+
+    def test_with_the_sanitizer_of_threads(self):
+        self.needs(*RACES)
+        for name, *words in (["shared_use"], ["shared_threads", LESS]):
+            with self.subTest(name):
+                ran(self.built(name, SHELL, *RACES), *words, TSAN_OPTIONS="suppressions=%s halt_on_error=1" % QUIET)
+
+    @unittest.skipUnless(shutil.which("valgrind"), "valgrind is not installed: apt-get install valgrind")
+    def test_under_valgrind(self):
+        for name, *words in (["shared_use"], ["shared_threads", LEAST]):
+            with self.subTest(name):
+                ran("valgrind", "-q", "--leak-check=full", "--error-exitcode=9", "--fair-sched=yes", self.built(name, "-O2", "-g"), *words)
+
+
+class Quoted(unittest.TestCase):
+    def test_the_page_quotes_the_example(self):
+        self.assertIn(lines_of("tests/c/shared_example.c"), blocks("docs/c.md", "c"))
+
+
+if __name__ == "__main__":
+    unittest.main()
