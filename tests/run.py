@@ -24,9 +24,11 @@ PARTS = {
     "races": ["tests.test_races"],
     "scripts": ["tests.test_scripts"],
     "refusals": ["tests.memory.test_refusals"],
-    "library": ["tests.c.test_library", "tests.c.test_shared", "tests.python.test_vilgoued", "tests.python.test_scripts",
-                "tests.python.test_example", "tests.python.test_sanitizers"],
-    "server": ["tests.python.test_vilgoued", "tests.server.test_scripts", "tests.server.test_copies", "tests.server.test_meanwhile"],
+    "library": ["tests.c.test_library", "tests.c.test_shared", "tests.python.test_vilgoued", "tests.python.test_following",
+                "tests.python.test_package", "tests.python.test_page", "tests.python.test_scripts", "tests.python.test_example",
+                "tests.python.test_sanitizers"],
+    "server": ["tests.python.test_vilgoued", "tests.python.test_following", "tests.python.test_page", "tests.server.test_scripts",
+               "tests.server.test_copies", "tests.server.test_meanwhile", "tests.server.test_secure"],
     "quoted": ["tests.pages.test_quoted"],
     "pages": ["tests.pages.test_pages", "tests.pages.test_man"],
 }
@@ -96,7 +98,7 @@ def main():
     for name, path in (("KVBUCKET", asked.program), ("BENCH", asked.bench), ("TESTS", asked.tests)):
         if path:
             os.environ[name] = os.path.abspath(path)
-    os.environ.setdefault("VILGOUED_LIBRARY", os.path.join(os.path.abspath(asked.library), "libvilgoued.so"))
+    os.environ.setdefault("VILGOUED_LIB", os.path.join(os.path.abspath(asked.library), "libvilgoued.so"))
     with nats_server() if asked.part == "server" else contextlib.nullcontext(True) as is_there:
         if not is_there:
             print("left out: there is no nats-server: apt-get install nats-server")

@@ -1,11 +1,11 @@
-"""Programs in C beside libvilgoued, in the folder of VILGOUED_LIBRARY. The C compiler is CC, or else cc, and that for C++ is CXX, or
+"""Programs in C beside libvilgoued, in the folder of VILGOUED_LIB. The C compiler is CC, or else cc, and that for C++ is CXX, or
 else c++."""
 import os, subprocess, tempfile, unittest
 
 from tests import top
 
 here = os.path.dirname(os.path.abspath(__file__))
-libraries = os.path.dirname(os.path.abspath(os.environ["VILGOUED_LIBRARY"]))
+libraries = os.path.dirname(os.path.abspath(os.environ["VILGOUED_LIB"]))
 C, CXX = os.environ.get("CC", "cc"), os.environ.get("CXX", "c++")
 INCLUDE = os.path.join(top, "include")
 SHELL = os.path.join(top, "c", "shared.c")

@@ -1,4 +1,4 @@
-"""libvilgoued, in the folder of VILGOUED_LIBRARY, as programs in C use it: the header, the names that the library has and wants, and
+"""libvilgoued, in the folder of VILGOUED_LIB, as programs in C use it: the header, the names that the library has and wants, and
 programs that call each function, on threads too, and with each request for memory refused; with sanitizers and valgrind where they
 are installed."""
 import os, shutil, unittest

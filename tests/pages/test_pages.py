@@ -170,9 +170,10 @@ def tree():
         words.update(re.findall(r"[\w-]+", text))
         words.update(re.findall(r"\w+", text))
         words.update(re.split(r"[/.]", path))
-    for pattern in ("crates.txt", "bench", "kvbucket", "library", "test", "scripts/*", "tests/*", "tests/*/*", "tests/scripts/*/*", "include/*", "python/*", ".ci/*", "HANDLES"):
+    for pattern in ("crates.txt", "bench", "kvbucket", "library", "test", "scripts/*", "tests/*", "tests/*/*", "tests/scripts/*/*", "include/*", "python/*", "python/*/*.py", ".ci/*", "HANDLES"):
         for path in glob.glob(os.path.join(top, pattern)):
             if os.path.isfile(path):
+                words.update(re.findall(r"[\w-]+", read(path)))
                 words.update(re.findall(r"\w+", read(path)))
                 words.update(os.path.relpath(path, top).split("/"))
     return texts, words

@@ -1,4 +1,4 @@
-"""The example of the Python module: what it prints, and the pages that quote it."""
+"""The example of the package: what it prints, and the pages that quote it."""
 import os, subprocess, sys, unittest
 
 from tests import top
@@ -11,7 +11,7 @@ class Example(unittest.TestCase):
         self.assertEqual((done.returncode, done.stdout.splitlines(), done.stderr), (0, lines_of("python/example.stdout"), ""))
 
     def test_pages_quote_it(self):
-        for page in "docs/c.md", "README.md":
+        for page in "docs/python.md", "README.md":
             with self.subTest(page):
                 self.assertEqual(first_block(page, "python"), lines_of("python/example.py"))
 

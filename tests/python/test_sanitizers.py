@@ -1,4 +1,4 @@
-"""The worked scripts and the tests of vilgoued.py once more, where AddressSanitizer looks at all memory that the library and the module
+"""The worked scripts and the tests of vilgoued once more, where AddressSanitizer looks at all memory that the library and the module
 have: what lies beside a buffer, or was freed, is neither read nor written."""
 import os, subprocess, sys, unittest
 

@@ -1,4 +1,4 @@
-"""The worked scripts on a bucket of vilgoued.py, over the library for C: the answers have to be those of the program. A race is of
+"""The worked scripts on a bucket of vilgoued, over the library for C: the answers have to be those of the program. A race is of
 threads in one process, which the library has not."""
 import unittest
 

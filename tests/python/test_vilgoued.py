@@ -1,33 +1,13 @@
-"""Tests of vilgoued.py over libvilgoued.so, which VILGOUED_LIBRARY names. Where VILGOUED_SERVER is the URL of a NATS server,
-they are the tests of vilgoued_nats.py over it, and those that differ there are expected to fail."""
+"""Tests of vilgoued over libvilgoued.so, which VILGOUED_LIB names. Where VILGOUED_SERVER is the URL of a NATS server, they
+are the tests of vilgoued.nats over it, and those that differ there are expected to fail."""
 import ctypes
-import itertools
-import os
+import pickle
 import threading
 import unittest
 
 import vilgoued
-from vilgoued import Entry, Snapshot
-
-server = os.environ.get("VILGOUED_SERVER")
-fresh = itertools.count(1)
-
-
-def open_bucket(name, *arguments, **settings):
-    """The bucket of this name, in this process or on the server."""
-    if server:
-        return vilgoued.nats.Bucket(server, name, *arguments, **settings)
-    return vilgoued.Bucket(name, *arguments, **settings)
-
-
-def fresh_bucket(**settings):
-    """A bucket with no writes."""
-    return open_bucket(f"settings-{os.getpid()}-{next(fresh)}", **settings)
-
-
-def differs_on_a_server(reason):
-    """Marks a test that has to fail there, and tells why."""
-    return unittest.expectedFailure if server else lambda test: test
+from tests.python.buckets import differs_on_a_server, fresh_bucket, open_bucket, server
+from vilgoued import Entry, Snapshot, _library
 
 
 class Writes(unittest.TestCase):
@@ -339,12 +319,30 @@ class Refusals(unittest.TestCase):
         room, size = ctypes.create_string_buffer(17), ctypes.c_size_t()
 
         def name_of(code):
-            done = vilgoued._lib.kv_code_name(code, room, len(room), ctypes.byref(size))
+            done = _library.library().kv_code_name(code, ctypes.addressof(room), len(room), ctypes.addressof(size))
             return room.raw[: size.value].decode() if done == 0 else done
 
-        for code, refusal in vilgoued._REFUSALS.items():
-            self.assertEqual(name_of(code), refusal.__name__)
+        for code, refusal in vilgoued.refusals._CLASSES.items():
+            self.assertEqual(name_of(code), 37 if refusal is vilgoued.NoDescriptor else refusal.__name__)
         self.assertEqual([name_of(code) for code in (0, 22, 31, 38, (1 << 64) - 1)], [37] * 5)
+
+    def test_they_say_what_is_wrong(self):
+        with fresh_bucket() as bucket:
+            bucket["a"] = b"1"
+            for call, text in (
+                (lambda: bucket.put("a..b", b""), "a key has 1 to 255"),
+                (lambda: bucket.create("a", b""), "the key has a value"),
+                (lambda: bucket.update("a", b"", last=7), "the key's last revision is 1"),
+                (lambda: bucket.watch("a", history=True, updates=True), "two of history"),
+            ):
+                with self.assertRaisesRegex(vilgoued.KvError, text):
+                    call()
+
+    def test_they_cross_processes(self):
+        refusal = pickle.loads(pickle.dumps(vilgoued.WrongLastRevision(3)))
+        self.assertEqual((type(refusal), refusal.last, str(refusal)), (vilgoued.WrongLastRevision, 3, "the key's last revision is 3"))
+        self.assertIs(pickle.loads(pickle.dumps(vilgoued.MARKER)), vilgoued.MARKER)
+        self.assertEqual(pickle.loads(pickle.dumps(Entry("a", "DEL", 2, 0, None))), Entry("a", "DEL", 2, 0, None))
 
     def test_numbers(self):
         with fresh_bucket() as bucket:

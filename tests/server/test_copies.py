@@ -8,7 +8,7 @@ import unittest
 import vilgoued
 from tests import program, top
 from tests.server.running import Server
-from vilgoued_nats import MARKER, Bucket, copy_to
+from vilgoued.nats import MARKER, Bucket, copy_to
 
 server = os.environ.get("VILGOUED_SERVER", "")
 nats_server = os.environ.get("NATS_SERVER", "")

@@ -5,7 +5,7 @@ import threading
 import unittest
 
 from tests import top
-from vilgoued_nats import Bucket, KeyExists
+from vilgoued.nats import Bucket, KeyExists
 
 server = os.environ.get("VILGOUED_SERVER", "")
 

@@ -4,7 +4,7 @@ import os, unittest
 
 from tests.replay import replay
 from tests.worked import scripts
-from vilgoued_nats import Bucket
+from vilgoued.nats import Bucket
 
 server = os.environ.get("VILGOUED_SERVER", "")
 

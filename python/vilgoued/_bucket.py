@@ -1,0 +1,143 @@
+"""A bucket in the memory of this process."""
+from __future__ import annotations
+
+import ctypes
+from types import TracebackType
+from typing import Any, List, Optional, SupportsIndex, Type
+
+from ._arguments import Data, Name, data_of, name_of, number_of, options_of
+from ._items import Entry
+from ._library import Limits, check, give_back, library, room
+from ._mirror import Mirror
+from ._reads import Function, Reads
+from ._snapshot import Snapshot
+from ._watch import Watch
+
+
+class Bucket(Reads):
+    """A bucket of this name, with no writes. Any thread may use it.
+
+    `history` is how many entries of each key are kept, 1 to 64; the others are limits: the bytes of a value, the writes that
+    are stored, and the last revision."""
+
+    def __init__(
+        self,
+        name: Name,
+        history: SupportsIndex = 1,
+        *,
+        value_limit: SupportsIndex = 1_048_576,
+        write_limit: SupportsIndex = 1_000_000,
+        revision_limit: SupportsIndex = 4_294_967_295,
+    ) -> None:
+        loaded = library()
+        self._kv_put, self._kv_create, self._kv_update = loaded.kv_shared_put, loaded.kv_shared_create, loaded.kv_shared_update
+        self._kv_delete, self._kv_purge = loaded.kv_shared_delete, loaded.kv_shared_purge
+        super().__init__(
+            loaded.kv_shared_get, loaded.kv_shared_get_at, loaded.kv_shared_keys, loaded.kv_shared_get_status,
+            loaded.kv_shared_snapshot, loaded.kv_shared_close,
+        )
+        limits = Limits(*map(number_of, (history, value_limit, write_limit, revision_limit)))
+        text = name_of(name)
+        check(loaded.kv_shared_open(self._at, text, len(text), ctypes.addressof(limits)))
+
+    def _write(self, function: Function, *arguments: Any) -> int:
+        used = room()
+        try:
+            code = function(self._at, *arguments, used.number_at)
+            if code:
+                check(code, used.number.value)
+            return used.number.value
+        finally:
+            give_back(used)
+
+    def put(self, key: Name, value: Data) -> int:
+        """Gives the key the value, and answers the revision of the write."""
+        name, data = name_of(key), data_of(value)
+        return self._write(self._kv_put, name, len(name), data, len(data))
+
+    def create(self, key: Name, value: Data) -> int:
+        """The same, where the key has no value."""
+        name, data = name_of(key), data_of(value)
+        return self._write(self._kv_create, name, len(name), data, len(data))
+
+    def update(self, key: Name, value: Data, *, last: SupportsIndex) -> int:
+        """The same, where `last` is the key's last revision, 0 where it was never written."""
+        name, data = name_of(key), data_of(value)
+        return self._write(self._kv_update, name, len(name), data, len(data), number_of(last))
+
+    def delete(self, key: Name, *, last: Optional[SupportsIndex] = None) -> int:
+        """Ends the value of the key; with `last`, only where that is the key's last revision."""
+        name = name_of(key)
+        return self._write(self._kv_delete, name, len(name), last is not None, number_of(last or 0))
+
+    def purge(self, key: Name, *, last: Optional[SupportsIndex] = None) -> int:
+        """The same, and the key's earlier entries go."""
+        name = name_of(key)
+        return self._write(self._kv_purge, name, len(name), last is not None, number_of(last or 0))
+
+    def __setitem__(self, key: Name, value: Data) -> None:
+        self.put(key, value)
+
+    def __delitem__(self, key: Name) -> None:
+        self.delete(key)
+
+    def seal(self) -> None:
+        """Ends the writes."""
+        check(library().kv_shared_seal(self._at))
+
+    def compact(self, floor: SupportsIndex) -> None:
+        """Compacts to the floor: of the writes at or below it only the retained ones stay stored. BadFloor where it is 0,
+        above the last revision, or below the floor so far; else WatchBehind, which has `watch`, the least number of one
+        that has still to hand out an entry at or below the floor that came after it was opened."""
+        self._write(library().kv_shared_compact, number_of(floor))
+
+    def reach(self) -> int:
+        """The highest floor to which the bucket can be compacted now, so that no watch refuses it and none that is followed is
+        Lagged; 0 where there is none."""
+        return self._write(library().kv_shared_reach)
+
+    def history(self, key: Name) -> List[Entry]:
+        """The retained entries of the key, oldest first; none where it was never written."""
+        with self.snapshot() as moment:
+            return moment.history(key)
+
+    def snapshot(self) -> Snapshot:
+        """What the bucket has accepted by now."""
+        return Snapshot(self)
+
+    def watch(
+        self,
+        filters: Name,
+        *,
+        history: bool = False,
+        updates: bool = False,
+        since: Optional[SupportsIndex] = None,
+        ignore_deletes: bool = False,
+        headers_only: bool = False,
+    ) -> Watch:
+        """A watch of the keys that a filter matches, or one of several filters with a comma between two. As an iterator it goes
+        through what is there; `follow` sleeps for more, and `changes` waits for more in asyncio.
+
+        At most 64 are open at a time that are not followed, and one that is behind refuses a compaction: who needs it no
+        longer calls `stop`, or opens it by `with`."""
+        return Watch(self, filters, options_of(history, updates, since, ignore_deletes, headers_only))
+
+    def mirror(self, filters: Name = ">") -> Mirror:
+        """The keys that match and their values, as a mapping that keeps itself up to date."""
+        return Mirror(self, filters)
+
+    def finish(self) -> None:
+        """Tells who follows that no write comes any more: they end once all was handed out."""
+        check(library().kv_shared_finish(self._at))
+
+    def close(self) -> None:
+        """Frees the bucket. Who follows comes to the end, and each later call is Closed. What is closed stays so."""
+        super().close()
+
+    def __enter__(self) -> Bucket:
+        return self
+
+    def __exit__(
+        self, kind: Optional[Type[BaseException]], error: Optional[BaseException], trace: Optional[TracebackType]
+    ) -> None:
+        self.close()

@@ -1,0 +1,419 @@
+"""Watches that sleep for more, or wait for it in asyncio, and mirrors; over the library or on a NATS server, as test_vilgoued."""
+import asyncio
+import os
+import signal
+import subprocess
+import sys
+import threading
+import time
+import unittest
+
+import vilgoued
+from tests import top
+from tests.python.buckets import fresh_bucket, server
+
+# Longer than anything here takes.
+LONG = 20
+
+
+def later(call, *arguments):
+    """Makes a call in a moment, on another thread."""
+    timer = threading.Timer(0.1, call, arguments)
+    timer.start()
+    return timer
+
+
+def revisions(items):
+    return [0 if item.marker else item.revision for item in items]
+
+
+class Base(unittest.TestCase):
+    def setUp(self):
+        self.bucket = fresh_bucket(history=3)
+        self.addCleanup(self.bucket.close)
+
+
+class Follow(Base):
+    def test_it_sleeps_until_there_is_more(self):
+        self.bucket["app.a"] = b"1"
+        items = self.bucket.watch("app.>").follow(LONG)
+        self.assertEqual(revisions([next(items), next(items)]), [1, 0])
+        began = time.monotonic()
+        timer = later(self.bucket.put, "app.b", b"2")
+        self.assertEqual(next(items), vilgoued.Entry("app.b", "PUT", 2, 1, b"2"))
+        self.assertLess(time.monotonic() - began, LONG / 2)
+        timer.join()
+
+    def test_what_does_not_match_is_slept_over(self):
+        items = self.bucket.watch("app.>", updates=True).follow(LONG)
+        timers = later(self.bucket.put, "other", b""), later(lambda: time.sleep(0.1) or self.bucket.put("app.b", b""))
+        self.assertEqual(next(items).key, "app.b")
+        for timer in timers:
+            timer.join()
+
+    def test_it_loses_nothing_and_repeats_nothing(self):
+        watch = self.bucket.watch("app.*", updates=True)
+        found = []
+        reader = threading.Thread(target=lambda: found.extend(watch.follow(LONG)))
+        reader.start()
+        count = 60 if server else 3000
+        for number in range(count):
+            self.bucket[f"app.{number % 7 if not server else number}"] = b"1"
+        self.bucket.finish()
+        reader.join(LONG)
+        self.assertEqual(revisions(found), list(range(1, count + 1)))
+        self.assertEqual(watch.stop(), count)
+
+    def test_it_goes_on_where_the_iterator_was(self):
+        for key in ("a", "b"):
+            self.bucket[key] = b"1"
+        watch = self.bucket.watch(">")
+        self.assertEqual(next(watch).revision, 1)
+        self.assertEqual(revisions(watch.follow(0)), [2, 0])
+        self.bucket["c"] = b"1"
+        self.assertEqual(revisions(watch), [3])
+        self.bucket["d"] = b"1"
+        self.assertEqual(revisions(watch.follow(0)), [4])
+        self.assertEqual(watch.stop(), 5)
+        with self.assertRaises(vilgoued.NoSuchWatch):
+            next(watch)
+
+    def test_it_shows_what_the_watch_would(self):
+        watch = self.bucket.watch("a.*", ignore_deletes=True, headers_only=True)
+        self.assertEqual(revisions(watch.follow(0)), [0])
+        self.bucket["a.x"] = b"12"
+        del self.bucket["a.x"]
+        self.bucket["b"] = b"1"
+        self.assertEqual(list(watch.follow(0)), [vilgoued.Entry("a.x", "PUT", 1, 2, None)])
+
+    def test_large_values_come_whole(self):
+        watch = self.bucket.watch(">", updates=True)
+        self.assertEqual(list(watch.follow(0)), [])
+        self.bucket["a"] = bytes(100_000)
+        self.assertEqual([item.value for item in watch.follow(0)], [bytes(100_000)])
+
+    def test_it_ends_when_the_time_is_over(self):
+        watch = self.bucket.watch(">", updates=True)
+        began = time.monotonic()
+        self.assertEqual(list(watch.follow(0.2)), [])
+        self.assertGreaterEqual(time.monotonic() - began, 0.2)
+
+    def ends(self, end):
+        watch = self.bucket.watch(">")
+        timer = later(end, watch)
+        self.assertEqual(list(watch.follow(LONG)), [vilgoued.MARKER])
+        timer.join()
+
+    def test_a_finish_ends_it(self):
+        self.ends(lambda watch: self.bucket.finish())
+
+    def test_the_close_of_its_bucket_ends_it(self):
+        self.ends(lambda watch: self.bucket.close())
+
+    def test_a_stop_ends_it(self):
+        self.ends(lambda watch: watch.stop())
+
+    def test_behind_a_finish_all_is_handed_out(self):
+        self.bucket["a"] = b"1"
+        self.bucket.finish()
+        self.assertEqual(revisions(self.bucket.watch(">").follow()), [1, 0])
+
+    def test_an_interrupt_ends_the_sleep(self):
+        watch = self.bucket.watch(">", updates=True)
+        timer = later(os.kill, os.getpid(), signal.SIGINT)
+        with self.assertRaises(KeyboardInterrupt):
+            list(watch.follow(LONG))
+        timer.join()
+        self.bucket["a"] = b"1"
+        self.assertEqual(revisions(watch.follow(0)), [1])
+
+    def test_two_threads_follow_one_watch(self):
+        watch, found = self.bucket.watch(">", updates=True), []
+        readers = [threading.Thread(target=lambda: found.extend(watch.follow(LONG))) for _ in range(2)]
+        for reader in readers:
+            reader.start()
+        for number in range(50):
+            self.bucket["a"] = b"1"
+            time.sleep(0.001)
+        self.bucket.finish()
+        for reader in readers:
+            reader.join(LONG)
+        self.assertEqual(sorted(revisions(found)), sorted(set(revisions(found))))
+        self.assertEqual(revisions(found)[-1:], [50])
+
+
+@unittest.skipIf(server, "a server has no floors")
+class Lags(Base):
+    def test_who_is_too_slow_is_lagged(self):
+        watch = self.bucket.watch("a")
+        self.assertEqual(revisions(watch.follow(0)), [0])
+        for _ in range(3):
+            self.bucket["a"] = b"1"
+        self.assertEqual(self.bucket.reach(), 0)
+        self.bucket.compact(3)
+        with self.assertRaises(vilgoued.Lagged) as refused:
+            list(watch.follow(0))
+        self.assertEqual(refused.exception.floor, 3)
+        with self.assertRaises(vilgoued.Lagged):
+            asyncio.run(watch.changes().__anext__())
+
+    def test_who_is_followed_counts_as_none_of_the_64(self):
+        watches = [self.bucket.watch(">") for _ in range(64)]
+        for watch in watches:
+            self.assertEqual(revisions(watch.follow(0)), [0])
+        self.assertEqual(self.bucket.status().watches, 0)
+        self.assertEqual(self.bucket.watch(">").number, 65)
+
+    def test_a_mirror_begins_anew(self):
+        self.bucket["a"] = self.bucket["b"] = b"1"
+        mirror, told = self.bucket.mirror(), []
+        mirror.on_change(lambda key, value: told.append((key, value)))
+        del self.bucket["a"]
+        self.bucket["c"] = b"3"
+        self.bucket.compact(4)
+        self.assertEqual(mirror, {"b": b"1", "c": b"3"})
+        self.assertEqual(told, [("a", None), ("c", b"3")])
+
+
+class Changes(Base):
+    def test_they_come_in_asyncio(self):
+        async def run():
+            found = []
+
+            async def read():
+                async for item in self.bucket.watch("app.>").changes():
+                    found.append(item)
+
+            reader = asyncio.ensure_future(read())
+            for number in range(30):
+                self.bucket[f"app.{number}"] = b"1"
+                await asyncio.sleep(0.001)
+            self.bucket.finish()
+            await asyncio.wait_for(reader, LONG)
+            return found
+
+        found = asyncio.run(run())
+        self.assertEqual([item.key for item in found if not item.marker], [f"app.{number}" for number in range(30)])
+
+    def test_they_wait_without_holding_up_others(self):
+        async def run():
+            changes, steps = self.bucket.watch(">", updates=True).changes(), 0
+            first = asyncio.ensure_future(changes.__anext__())
+            while steps < 20:
+                steps += 1
+                await asyncio.sleep(0.005)
+            self.assertFalse(first.done())
+            self.bucket["a"] = b"1"
+            return await asyncio.wait_for(first, LONG)
+
+        self.assertEqual(asyncio.run(run()).revision, 1)
+
+    def test_another_thread_wakes_them(self):
+        async def run():
+            timer = later(self.bucket.put, "a", b"1")
+            item = await asyncio.wait_for(self.bucket.watch("a", updates=True).changes().__anext__(), LONG)
+            timer.join()
+            return item
+
+        self.assertEqual(asyncio.run(run()).value, b"1")
+
+    def test_a_step_that_is_cancelled_loses_nothing(self):
+        async def run():
+            changes = self.bucket.watch(">", updates=True).changes()
+            for number in range(1, 4):
+                with self.assertRaises(asyncio.TimeoutError):
+                    await asyncio.wait_for(changes.__anext__(), 0.05)
+                self.bucket["a"] = b"1"
+                self.assertEqual((await asyncio.wait_for(changes.__anext__(), LONG)).revision, number)
+
+        asyncio.run(run())
+
+    def test_the_close_of_the_bucket_ends_them(self):
+        async def run():
+            timer = later(self.bucket.close)
+            found = [item async for item in self.bucket.watch(">").changes()]
+            timer.join()
+            return found
+
+        self.assertEqual(asyncio.run(run()), [vilgoued.MARKER])
+
+
+class Mirrors(Base):
+    def setUp(self):
+        super().setUp()
+        self.bucket["app.a"] = b"1"
+        self.bucket["app.b"] = b"2"
+        self.bucket["db.c"] = b"3"
+
+    def test_it_is_a_mapping_of_what_matches(self):
+        mirror = self.bucket.mirror("app.>")
+        self.assertEqual(mirror, {"app.a": b"1", "app.b": b"2"})
+        self.assertEqual((mirror["app.a"], mirror.get("db.c"), len(mirror)), (b"1", None, 2))
+        self.assertIn("app.b", mirror)
+        self.assertEqual(sorted(mirror), ["app.a", "app.b"])
+        self.assertEqual(mirror.get_value("app.b"), (b"2", 2))
+        with self.assertRaises(KeyError):
+            mirror["db.c"]
+        with self.assertRaises(TypeError):
+            mirror["app.a"] = b"2"
+
+    def test_each_access_shows_each_write_before_it(self):
+        mirror = self.bucket.mirror("app.>")
+        for number in range(20):
+            self.bucket["app.a"] = b"%d" % number
+            self.assertEqual(mirror["app.a"], b"%d" % number)
+        del self.bucket["app.a"]
+        self.assertNotIn("app.a", mirror)
+        self.bucket.purge("app.b")
+        self.assertEqual(len(mirror), 0)
+        self.assertEqual(mirror.revision, self.bucket.status().last)
+
+    def test_it_tells_of_each_change(self):
+        mirror, told = self.bucket.mirror("app.>"), []
+
+        @mirror.on_change
+        def tell(key, value):
+            told.append((key, value, mirror.get(key)))
+
+        self.bucket["app.a"] = b"5"
+        self.bucket["db.c"] = b"5"
+        del self.bucket["app.b"]
+        self.bucket.delete("app.never")
+        self.assertEqual(told, [])
+        self.assertEqual(mirror.copy(), {"app.a": b"5"})
+        self.assertEqual(told, [("app.a", b"5", b"5"), ("app.b", None, None)])
+
+    def test_what_a_callback_raises_comes_out_and_loses_nothing(self):
+        mirror, wrong = self.bucket.mirror("app.>"), [True]
+
+        @mirror.on_change
+        def tell(key, value):
+            if wrong:
+                raise ValueError(wrong.pop())
+
+        self.bucket["app.a"] = b"5"
+        self.bucket["app.b"] = b"6"
+        with self.assertRaises(ValueError):
+            len(mirror)
+        self.assertEqual(mirror, {"app.a": b"5", "app.b": b"6"})
+
+    def test_it_waits_for_a_change(self):
+        mirror = self.bucket.mirror("app.>")
+        timer = later(self.bucket.put, "app.c", b"7")
+        self.assertTrue(mirror.wait(LONG))
+        self.assertEqual(mirror["app.c"], b"7")
+        timer.join()
+        self.assertFalse(mirror.wait(0.05))
+
+    def test_behind_the_close_it_stays_as_it_was(self):
+        mirror = self.bucket.mirror("app.>")
+        self.bucket.close()
+        self.assertFalse(mirror.wait(LONG))
+        self.assertEqual(mirror, {"app.a": b"1", "app.b": b"2"})
+
+    def test_its_own_close(self):
+        with self.bucket.mirror("app.>") as mirror:
+            self.assertEqual(len(mirror), 2)
+        self.bucket["app.c"] = b"1"
+        self.assertEqual(len(mirror), 2)
+        self.assertEqual(self.bucket.status().watches, 0)
+
+
+SIX_THREADS = """
+import threading
+from vilgoued import Bucket, KvError
+
+bucket, refused = Bucket("six"), []
+
+def write(number):
+    for at in range(5000):
+        try:
+            bucket.put(f"k.{number}.{at}", b"%d" % at)
+        except KvError as refusal:
+            refused.append(refusal)
+
+threads = [threading.Thread(target=write, args=(number,)) for number in range(6)]
+for thread in threads:
+    thread.start()
+for thread in threads:
+    thread.join()
+keys = set(bucket.keys())
+values = sum(bucket[f"k.{number}.{at}"] == b"%d" % at for number in range(6) for at in range(5000))
+print(len(refused), bucket.status().last, len(keys), values)
+"""
+
+
+@unittest.skipIf(server, "six threads of one process")
+class Threads(unittest.TestCase):
+    def test_six_threads_put_to_one_bucket(self):
+        done = subprocess.run(
+            [sys.executable, "-B", "-c", SIX_THREADS], cwd=os.path.join(top, "python"), capture_output=True, text=True, timeout=300)
+        self.assertEqual((done.stdout, done.stderr), ("0 30000 30000 30000\n", ""))
+
+    def test_threads_read_write_and_watch_one_bucket(self):
+        bucket, wrong = fresh_bucket(history=2), []
+
+        def use(number):
+            try:
+                for at in range(200):
+                    bucket[f"k.{number}"] = b"%d" % at
+                    if bucket[f"k.{number}"] != b"%d" % at or bucket.history(f"k.{number}")[-1].value != b"%d" % at:
+                        wrong.append(at)
+                    with bucket.watch(f"k.{number}") as watch:
+                        if revisions(watch)[-1] != 0:
+                            wrong.append(at)
+            except vilgoued.KvError as refusal:
+                wrong.append(refusal)
+
+        threads = [threading.Thread(target=use, args=(number,)) for number in range(6)]
+        for thread in threads:
+            thread.start()
+        for thread in threads:
+            thread.join()
+        self.assertEqual(wrong, [])
+        bucket.close()
+
+    def test_a_snapshot_and_a_feed_are_used_by_several(self):
+        with fresh_bucket() as bucket:
+            for number in range(500):
+                bucket[f"k.{number}"] = b"%d" % number
+            with bucket.snapshot() as view:
+                feed, found, wrong = view.watch(">"), [], []
+
+                def use():
+                    try:
+                        found.extend(feed)
+                        wrong.extend(number for number in range(500) if view[f"k.{number}"] != b"%d" % number)
+                    except vilgoued.KvError as refusal:
+                        wrong.append(refusal)
+
+                threads = [threading.Thread(target=use) for _ in range(4)]
+                for thread in threads:
+                    thread.start()
+                for thread in threads:
+                    thread.join()
+        self.assertEqual((wrong, sorted(revisions(found))), ([], list(range(501))))
+
+    def test_a_close_while_others_call(self):
+        bucket, refused = fresh_bucket(), []
+
+        def use():
+            try:
+                while True:
+                    bucket["a"] = b"1"
+                    bucket.get("a")
+            except vilgoued.KvError as refusal:
+                refused.append(type(refusal))
+
+        threads = [threading.Thread(target=use) for _ in range(4)]
+        for thread in threads:
+            thread.start()
+        time.sleep(0.05)
+        bucket.close()
+        for thread in threads:
+            thread.join(LONG)
+        self.assertEqual(refused, [vilgoued.Closed] * 4)
+
+
+if __name__ == "__main__":
+    unittest.main()
