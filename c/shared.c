@@ -20,7 +20,7 @@ enum { CLOSED = 1, FINISHED = 2, ONE_ACT = 4 };
 /* What the handles of one bucket refer to: its own, and those of its readers and followers. It is freed with the last
  * reference. */
 struct core {
-    pthread_mutex_t lock;
+    pthread_mutex_t lock;   /* it spins a little before it sleeps, as it is mostly held for microseconds */
     pthread_cond_t changed; /* for followers: the sequence changed, or one of them was stopped */
     pthread_cond_t idle;    /* for a close: nobody is inside any more */
     kv_bucket bucket;
@@ -135,21 +135,14 @@ static void release(struct core *core) {
     free(core);
 }
 
-/* Sleepers go by a clock that nobody sets. Who waits for the mutex spins a little, as it is mostly held for
- * microseconds. */
-static bool make_locks(struct core *core) {
-    pthread_mutexattr_t spins;
+/* Sleepers go by a clock that nobody sets. */
+static bool make_condition(pthread_cond_t *condition) {
     pthread_condattr_t steady;
-    bool is_made = pthread_mutexattr_init(&spins) == 0;
-    if (!is_made)
-        return false;
-    pthread_mutexattr_settype(&spins, PTHREAD_MUTEX_ADAPTIVE_NP);
-    is_made = pthread_mutex_init(&core->lock, &spins) == 0;
-    pthread_mutexattr_destroy(&spins);
-    if (!is_made || pthread_condattr_init(&steady) != 0)
+    bool is_made;
+    if (pthread_condattr_init(&steady) != 0)
         return false;
     pthread_condattr_setclock(&steady, CLOCK_MONOTONIC);
-    is_made = pthread_cond_init(&core->changed, &steady) == 0 && pthread_cond_init(&core->idle, NULL) == 0;
+    is_made = pthread_cond_init(condition, &steady) == 0;
     pthread_condattr_destroy(&steady);
     return is_made;
 }
@@ -162,9 +155,10 @@ uint64_t kv_shared_open(kv_shared *shared, const uint8_t *name, size_t name_size
     core = malloc(sizeof *core);
     if (!core)
         return KV_OUT_OF_MEMORY;
-    *core = (struct core){.references = 1};
+    *core =
+        (struct core){.lock = PTHREAD_ADAPTIVE_MUTEX_INITIALIZER_NP, .idle = PTHREAD_COND_INITIALIZER, .references = 1};
     code = kv_open(&core->bucket, name, name_size, limits);
-    if (code == KV_OK && !make_locks(core)) {
+    if (code == KV_OK && !make_condition(&core->changed)) {
         kv_close(&core->bucket);
         code = KV_OUT_OF_MEMORY;
     }

@@ -10,7 +10,8 @@ from scripts import archive
 
 # What stands at the top of the archive, and is not of its own kind there.
 DOCUMENTS = {"BUILD": "share/doc/vilgoued/BUILD", "LICENSE": "share/doc/vilgoued/LICENSE"}
-FOUND_BY = (("PATH", "bin"), ("PKG_CONFIG_PATH", "lib/pkgconfig"), ("PYTHONPATH", "lib/python"), ("MANPATH", "share/man"))
+# How it is found. Manual pages are looked for beside each folder of PATH.
+FOUND_BY = (("PATH", "bin"), ("PKG_CONFIG_PATH", "lib/pkgconfig"), ("PYTHONPATH", "lib/python"))
 
 
 def put(path, member):

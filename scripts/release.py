@@ -77,6 +77,11 @@ def package():
     return {"lib/" + path: read(path) for path in paths}
 
 
+def manual():
+    """The manual pages, each in the folder of its section, which its ending tells."""
+    return {"share/man/man%s/%s" % (path[-1], os.path.basename(path)): read(path) for path in current.files_in("docs/man")}
+
+
 def needs(name):
     if not current.is_current(name):
         raise Refused("%s was not built from the sources as they are now: run %s" % (name, BUILDS[name]))
@@ -87,8 +92,7 @@ def wanted(compiler, libraries):
     release = version()
     build = "version: %s\nkit: %s\ncompiler: %s\nsources:\n%s" % (release, kit.version(), compiler, sources())
     files = {"BUILD": build.encode(), "LICENSE": read("LICENSE"), "lib/pkgconfig/vilgoued.pc": (PKG_CONFIG % release).encode(),
-             "share/man/man1/kvbucket.1": read("docs/man/kvbucket.1"), "share/man/man3/vilgoued.3": read("docs/man/vilgoued.3"),
-             **{path: read(path) for path in current.files_in("include")}, **package(), **dict(zip(LIBRARIES, libraries))}
+             **{path: read(path) for path in current.files_in("include")}, **manual(), **package(), **dict(zip(LIBRARIES, libraries))}
     members = {path: archive.Member(data) for path, data in files.items()}
     members["bin/kvbucket"] = archive.Member(read(current.built(PROGRAM).made[0]), is_run=True)
     members["lib/libvilgoued.so"] = archive.Member(b"", link="libvilgoued.so.0")

@@ -312,6 +312,18 @@ class Running(Tree):
         self.build_program(says="built later")
         self.assertEqual(self.works("./kvbucket", kit=False), "built later\n")
 
+    def test_what_was_built_here_is_not_built_again(self):
+        self.build_program()
+        done = self.run_in("./kvbucket", "--build")
+        self.assertEqual((done.returncode, done.stdout), (0, ""))
+        self.assertIn("is proved and built, and nothing has changed since", done.stderr)
+
+    def test_a_release_stands_for_no_build(self):
+        self.release()
+        self.forget_builds()
+        done = self.run_in("./kvbucket", "--build", kit=False)
+        self.assertEqual((done.returncode, done.stderr), (2, "kvbucket: the Rattle kit's command rt is not on the path\n"))
+
     def test_a_release_of_other_sources_is_not_run(self):
         self.release()
         self.forget_builds()

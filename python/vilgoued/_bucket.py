@@ -7,9 +7,9 @@ from typing import Any, List, Optional, SupportsIndex, Type
 
 from ._arguments import Data, Name, data_of, name_of, number_of, options_of
 from ._items import Entry
-from ._library import Limits, check, give_back, library, room
+from ._library import Function, Limits, check, give_back, library, room
 from ._mirror import Mirror
-from ._reads import Function, Reads
+from ._reads import Reads
 from ._snapshot import Snapshot
 from ._watch import Watch
 

@@ -36,24 +36,10 @@ def deadline(timeout: Optional[float]) -> Optional[float]:
     return None if timeout is None else time.monotonic() + timeout
 
 
-async def _readable(descriptor: int) -> None:
-    """Waits in asyncio until a descriptor is readable."""
-    loop = asyncio.get_running_loop()
-    is_there: asyncio.Future[None] = loop.create_future()
-
-    def tell() -> None:
-        if not is_there.done():
-            is_there.set_result(None)
-
-    loop.add_reader(descriptor, tell)
-    try:
-        await is_there
-    finally:
-        loop.remove_reader(descriptor)
-
-
 class Following(Iterator[Item], ABC):
     """An iterator over what is there now: it ends where nothing is left, and goes on when there is more."""
+
+    _is_awaited = False
 
     @abstractmethod
     def _take(self) -> Optional[Item]:
@@ -75,7 +61,7 @@ class Following(Iterator[Item], ABC):
         """Ends the watch, and answers how many items it was handed, the end marker counted. Who sleeps in `follow` or waits in
         `changes` has come to the end."""
 
-    def end(self) -> None:
+    def _stop_if_open(self) -> None:
         """Stops it, if it is still open."""
         try:
             self.stop()
@@ -88,7 +74,21 @@ class Following(Iterator[Item], ABC):
     def __exit__(
         self, kind: Optional[Type[BaseException]], error: Optional[BaseException], trace: Optional[TracebackType]
     ) -> None:
-        self.end()
+        self._stop_if_open()
+
+    async def _readable(self) -> None:
+        """Waits in asyncio until the descriptor is readable."""
+        if self._is_awaited:
+            raise RuntimeError("another task goes through the changes of this watch")
+        loop, descriptor = asyncio.get_running_loop(), self._descriptor()
+        is_there: asyncio.Future[None] = loop.create_future()
+        loop.add_reader(descriptor, lambda: None if is_there.done() else is_there.set_result(None))
+        self._is_awaited = True
+        try:
+            await is_there
+        finally:
+            self._is_awaited = False
+            loop.remove_reader(descriptor)
 
     def __next__(self) -> Item:
         item = self._take()
@@ -100,19 +100,19 @@ class Following(Iterator[Item], ABC):
         """Goes through what is there, and then sleeps for more. It ends once nothing came for so many seconds, if they are
         given, or when the bucket is finished or closed, or the watch stopped. It can be followed again, and goes on
         where it was."""
-        until = None
-        while True:
-            try:
+        try:
+            until = None
+            while True:
                 item = self._take_following()
-            except (Closed, NoSuchWatch):
-                return
-            if item is not None:
-                until = None
-                yield item
-            else:
-                until = until or deadline(timeout)
-                if not is_readable(self._descriptor(), until):
-                    return
+                if item is None:
+                    until = until or deadline(timeout)
+                    if not is_readable(self._descriptor(), until):
+                        return
+                else:
+                    until = None
+                    yield item
+        except (Closed, NoSuchWatch):
+            pass
 
     def changes(self) -> AsyncIterator[Item]:
         """The same in asyncio, with no thread and no limit of time. Each step can be cancelled, and loses no item."""
@@ -131,13 +131,13 @@ class _Changes(AsyncIterator[Item]):
         if self._in_a_row == _IN_A_ROW:
             self._in_a_row = 0
             await asyncio.sleep(0)
-        while True:
-            try:
+        try:
+            item = await self._following._take_in_asyncio()
+            while item is None:
+                self._in_a_row = 0
+                await self._following._readable()
                 item = await self._following._take_in_asyncio()
-            except (Closed, NoSuchWatch):
-                raise StopAsyncIteration from None
-            if item is not None:
-                self._in_a_row += 1
-                return item
-            self._in_a_row = 0
-            await _readable(self._following._descriptor())
+        except (Closed, NoSuchWatch):
+            raise StopAsyncIteration from None
+        self._in_a_row += 1
+        return item

@@ -6,14 +6,16 @@ import functools
 import os
 import platform
 import struct
-from typing import Any, Dict, Iterator, List, Tuple
+from typing import Any, Callable, Dict, Iterator, List, Optional, Tuple
 
-from ._items import Entry, Op
+from ._items import MARKER, Entry, Item, Op
 from .refusals import refusal
 
 NAME = "libvilgoued.so"
 _HERE = os.path.dirname(os.path.abspath(__file__))
 _CHECKOUT = os.path.dirname(os.path.dirname(_HERE))
+
+Function = Callable[..., int]
 
 # What is told by a code, and leads to no exception everywhere.
 KEY_NOT_FOUND, TOO_LITTLE_ROOM = 12, 33
@@ -164,34 +166,36 @@ _OPS: Tuple[Op, Op, Op] = ("PUT", "DEL", "PURGE")
 class Room:
     """Memory that answers are copied to, and the arguments that name it, which are made once."""
 
-    def __init__(self) -> None:
+    def __init__(self, size: int = 4096) -> None:
         self.size, self.number, self.count = ctypes.c_size_t(), ctypes.c_uint64(), ctypes.c_size_t()
-        # Slices of arrays of characters are bytes, which the types of ctypes do not say.
         self.item = ItemStruct()
+        # Slices of arrays of characters are bytes, which the types of ctypes do not say.
         self._keys: Any = ctypes.create_string_buffer(255)
         self.number_at = ctypes.addressof(self.number)
-        self.item_at = ctypes.addressof(self.item)
-        self.grow(4096)
+        self.grow(size)
 
     def grow(self, size: int) -> None:
         """Makes room for a value of this size."""
         self.values: Any = ctypes.create_string_buffer(size)
         values = ctypes.addressof(self.values), size
-        size_at, count_at = ctypes.addressof(self.size), ctypes.addressof(self.count)
+        size_at, count_at, item_at = map(ctypes.addressof, (self.size, self.count, self.item))
         self.value = (*values, size_at, self.number_at)
-        self.entry = (*values, self.item_at, count_at)
+        self.entry = (*values, item_at, count_at)
         self.keys = (*values, size_at, count_at)
-        self.items = (ctypes.addressof(self._keys), len(self._keys), *values, self.item_at)
+        self.items = (ctypes.addressof(self._keys), len(self._keys), *values, item_at)
+        self.items_or_floor = (*self.items, self.number_at)
 
-    def key(self) -> str:
-        key: bytes = self._keys[: self.item.key_size]
-        return key.decode()
-
-    def entry_of(self, key: str) -> Entry:
+    def entry_of(self, key: bytes) -> Entry:
         """The entry that was copied."""
         item = self.item
         value = self.values[: item.value_size] if item.has_value else None
-        return Entry(key, _OPS[item.op], item.revision, item.size, value)
+        return Entry(key.decode(), _OPS[item.op], item.revision, item.size, value)
+
+    def taken(self) -> Optional[Item]:
+        """The item that was handed out, or None where nothing was."""
+        if self.item.kind == 2:
+            return self.entry_of(self._keys[: self.item.key_size])
+        return MARKER if self.item.kind == 1 else None
 
 
 # Rooms that no call uses now. A call takes one out, so two threads, or a call and a signal's handler, never have the same.
@@ -200,7 +204,7 @@ give_back = _rooms.append
 
 
 def room() -> Room:
-    """A room for one call, which gives it back. It stays as large as it grew."""
+    """A room for one call, which gives it back. It stays as large as it grew, which is no larger than a value."""
     try:
         return _rooms.pop()
     except IndexError:
@@ -211,3 +215,17 @@ def check(code: int, number: int = 0) -> None:
     """Raises the refusal of a code, if it is one."""
     if code:
         raise refusal(code, number)
+
+
+def take(function: Function, *before: int, may_lag: bool = False) -> Optional[Item]:
+    """The next item that a function of the library hands out, or None where nothing is left."""
+    used = room()
+    try:
+        code = function(*before, *(used.items_or_floor if may_lag else used.items))
+        while code == TOO_LITTLE_ROOM:
+            used.grow(used.item.value_size)
+            code = function(*before, *(used.items_or_floor if may_lag else used.items))
+        check(code, used.number.value)
+        return used.taken()
+    finally:
+        give_back(used)

@@ -49,12 +49,13 @@ class Mirror(Mapping[str, bytes]):
                     self._take_in(item, found)
         except Lagged:
             return self._begin()
-        before, self._values = self._values, found
-        for key in before:
-            if key not in found:
-                self._tell(key, None)
+        # Change by change: where a callback raises, the next access begins anew and goes on behind it.
+        for key in [key for key in self._values if key not in found]:
+            del self._values[key]
+            self._tell(key, None)
         for key, value in found.items():
-            if key not in before or before[key].revision != value.revision:
+            if self._values.get(key) != value:
+                self._values[key] = value
                 self._tell(key, value.value)
         return watch
 
@@ -103,10 +104,8 @@ class Mirror(Mapping[str, bytes]):
         changes, until = self._changes, deadline(timeout)
         while True:
             self._go_on()
-            if self._changes != changes:
-                return True
-            if self._has_ended or not is_readable(self._watch._descriptor(), until):
-                return False
+            if self._changes != changes or self._has_ended or not is_readable(self._watch._descriptor(), until):
+                return self._changes != changes
 
     def on_change(self, told: _OnChange) -> _OnChange:
         """Has `told` called with the key and its value, or None where it has none any more, for each change from now on: as this
@@ -151,7 +150,7 @@ class Mirror(Mapping[str, bytes]):
         """Ends it: it stays as it is."""
         with self._lock:
             self._has_ended = True
-            self._watch.end()
+            self._watch._stop_if_open()
 
     def __enter__(self) -> Mirror:
         return self

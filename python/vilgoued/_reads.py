@@ -2,15 +2,14 @@
 from __future__ import annotations
 
 import ctypes
-from typing import Callable, List, Optional, SupportsIndex, TypeVar, Union, overload
+from typing import List, Optional, SupportsIndex, TypeVar, Union, overload
 
 from ._arguments import Name, name_of, number_of
 from ._items import Status, Value
-from ._library import KEY_NOT_FOUND, TOO_LITTLE_ROOM, Handle, StatusStruct, check, give_back, room
+from ._library import KEY_NOT_FOUND, TOO_LITTLE_ROOM, Function, Handle, Room, StatusStruct, check, give_back, room
 from .refusals import refusal
 
 _T = TypeVar("_T")
-Function = Callable[..., int]
 
 
 class Reads:
@@ -74,17 +73,19 @@ class Reads:
 
     def keys(self, filter: Name = ">") -> List[str]:
         """The keys that match and have a value, in the order of their last puts."""
-        name, used = name_of(filter), room()
+        name, kept = name_of(filter), room()
         try:
+            used = kept
             code = self._kv_keys(self._at, name, len(name), *used.keys)
             while code == TOO_LITTLE_ROOM:
-                used.grow(used.size.value)
+                # A list of keys may be as large as the bucket, so its room is not kept.
+                used = Room(used.size.value)
                 code = self._kv_keys(self._at, name, len(name), *used.keys)
             check(code)
             names: bytes = used.values[: used.size.value]
             return names.decode().split("\0")[:-1]
         finally:
-            give_back(used)
+            give_back(kept)
 
     def status(self) -> Status:
         """The numbers of the bucket; those of a snapshot have no watches."""

@@ -7,9 +7,9 @@ from types import TracebackType
 from typing import Any, Iterator, List, Optional, SupportsIndex, Type
 
 from ._arguments import Name, name_of, options_of
-from ._items import MARKER, Entry, Item
-from ._library import KEY_NOT_FOUND, TOO_LITTLE_ROOM, Handle, Options, check, give_back, library, room
-from ._reads import Function, Reads
+from ._items import Entry, Item
+from ._library import KEY_NOT_FOUND, TOO_LITTLE_ROOM, Function, Handle, Options, check, give_back, library, room, take
+from ._reads import Reads
 
 
 def _in_turn(lock: threading.Lock, function: Any) -> Function:
@@ -50,7 +50,7 @@ class Snapshot(Reads):
                 if code == KEY_NOT_FOUND or code == 0 and used.item.kind == 0:
                     return entries
                 check(code)
-                entries.append(used.entry_of(name.decode()))
+                entries.append(used.entry_of(name))
         finally:
             give_back(used)
 
@@ -104,19 +104,11 @@ class Feed(Iterator[Item]):
             give_back(used)
 
     def __next__(self) -> Item:
-        used = room()
-        try:
-            with self._lock:
-                code = self._kv_take(self._at, *used.items)
-                while code == TOO_LITTLE_ROOM:
-                    used.grow(used.item.value_size)
-                    code = self._kv_take(self._at, *used.items)
-            check(code)
-            if used.item.kind == 0:
-                raise StopIteration
-            return MARKER if used.item.kind == 1 else used.entry_of(used.key())
-        finally:
-            give_back(used)
+        with self._lock:
+            item = take(self._kv_take, self._at)
+        if item is None:
+            raise StopIteration
+        return item
 
     def close(self) -> None:
         """Frees what is held. What is closed stays so."""

@@ -7,19 +7,12 @@ from typing import TYPE_CHECKING, Optional
 
 from ._arguments import Name, name_of
 from ._following import Following
-from ._items import MARKER, Item
-from ._library import TOO_LITTLE_ROOM, Handle, Options, Room, check, give_back, library, room
+from ._items import Item
+from ._library import Handle, Options, check, library, take
 from .refusals import Closed, NoSuchWatch
 
 if TYPE_CHECKING:
     from ._bucket import Bucket
-
-
-def _item(used: Room) -> Optional[Item]:
-    """The item that was handed out, or None where nothing was."""
-    if used.item.kind == 2:
-        return used.entry_of(used.key())
-    return MARKER if used.item.kind == 1 else None
 
 
 class Follower:
@@ -38,17 +31,8 @@ class Follower:
 
     def take(self) -> Optional[Item]:
         """The next item, or None where there is none now. Closed where none comes any more."""
-        used = room()
-        try:
-            with self._lock:
-                code = self._next(self._at, 0, *used.items, used.number_at)
-                while code == TOO_LITTLE_ROOM:
-                    used.grow(used.item.value_size)
-                    code = self._next(self._at, 0, *used.items, used.number_at)
-            check(code, used.number.value)
-            return _item(used)
-        finally:
-            give_back(used)
+        with self._lock:
+            return take(self._next, self._at, 0, may_lag=True)
 
     def stop(self) -> None:
         """Wakes who waits, for whom it then has ended."""
@@ -82,16 +66,7 @@ class Watch(Following):
         self.number = number.value
 
     def _take_held(self) -> Optional[Item]:
-        used = room()
-        try:
-            code = self._kv_take(self._bucket._at, self.number, *used.items)
-            while code == TOO_LITTLE_ROOM:
-                used.grow(used.item.value_size)
-                code = self._kv_take(self._bucket._at, self.number, *used.items)
-            check(code)
-            item = _item(used)
-        finally:
-            give_back(used)
+        item = take(self._kv_take, self._bucket._at, self.number)
         if item is not None and not item.marker:
             self._last = item.revision
         return item

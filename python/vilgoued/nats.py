@@ -445,16 +445,12 @@ class Watch(Following):
 
     def _take_following(self) -> Optional[Item]:
         with self._lock:
-            try:
+            item = self._take_or_end()
+            if item is None:
+                # It is asked once more behind the bell, which tells only of what comes from now on.
+                self._listen()
                 item = self._take_or_end()
-                if item is None:
-                    # It is asked once more behind the bell, which tells only of what comes from now on.
-                    self._listen()
-                    item = self._take_or_end()
-                return item
-            except (Closed, NoSuchWatch):
-                self._let_go()
-                raise
+            return item
 
     def _take_or_end(self) -> Optional[Item]:
         is_finished = self._bucket._is_finished
@@ -472,7 +468,7 @@ class Watch(Following):
 
     def _descriptor(self) -> int:
         if self._bell is None:
-            raise NoSuchWatch()
+            raise Closed()
         return self._bell.fileno()
 
     async def _take_in_asyncio(self) -> Optional[Item]:
@@ -486,13 +482,11 @@ class Watch(Following):
             if asked.done():
                 self._asked = None
 
-    def _let_go(self) -> None:
-        if self._bell is not None:
-            self._bell.close()
-
     def __del__(self) -> None:
-        if hasattr(self, "_bell"):
-            self._let_go()
+        # Not before: another thread may sleep on the bell's descriptor.
+        bell = getattr(self, "_bell", None)
+        if bell is not None:
+            bell.close()
 
     def stop(self) -> int:
         self._check()

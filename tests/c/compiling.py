@@ -8,6 +8,9 @@ here = os.path.dirname(os.path.abspath(__file__))
 libraries = os.path.dirname(os.path.abspath(os.environ["VILGOUED_LIB"]))
 C, CXX = os.environ.get("CC", "cc"), os.environ.get("CXX", "c++")
 INCLUDE = os.path.join(top, "include")
+# What a program is linked with: the static library, or the shared one where it lies.
+STATIC = [os.path.join(libraries, "libvilgoued.a")]
+SHARED = ["-L" + libraries, "-lvilgoued", "-Wl,-rpath," + libraries]
 SHELL = os.path.join(top, "c", "shared.c")
 STRICT = ["-pedantic", "-Wall", "-Wextra", "-Werror"]
 CHECKED = ["-g", "-fsanitize=address,undefined", "-fno-sanitize-recover=all"]
@@ -31,12 +34,12 @@ class ProgramTest(unittest.TestCase):
         self.addCleanup(room.cleanup)
         self.folder = room.name
 
-    def built(self, name, *flags):
-        """Makes a program of this folder beside the static library."""
+    def built(self, name, *flags, beside=STATIC):
+        """Makes a program of this folder beside a library, the static one where none is named."""
         program = os.path.join(self.folder, name)
         wrapped = WRAPPED if name.endswith("sweep") else []
         ran(C, "-Wall", "-Wextra", "-Werror", "-I" + INCLUDE, os.path.join(here, name + ".c"), *flags, *wrapped,
-            os.path.join(libraries, "libvilgoued.a"), "-o", program, "-pthread")
+            *beside, "-o", program, "-pthread")
         return program
 
     def needs(self, *flags):

@@ -108,14 +108,44 @@ static void puts_beside_a_sleeper(void) {
     kv_shared_close(&bucket);
 }
 
-static double a_get(kv_reader *r) {
+/* A get of one key after another, or of the first alone. */
+static double a_get(kv_reader *r, bool is_one) {
+    uint8_t room[16];
+    size_t size;
+    uint64_t revision;
+    double began = spent();
+    for (uint64_t i = 0; i < GETS; i++) {
+        const char *key = key_of(is_one ? 0 : i);
+        WANT(kv_reader_get(r, B(key), room, sizeof room, &size, &revision) == KV_OK);
+    }
+    return (spent() - began) / GETS;
+}
+
+static double a_get_of_a_view(void) {
+    kv_view view = {0};
+    uint8_t room[16];
+    size_t size;
+    uint64_t revision;
+    double began;
+    WANT(kv_shared_snapshot(&bucket, &view) == KV_OK);
+    began = spent();
+    for (uint64_t i = 0; i < GETS; i++) {
+        const char *key = key_of(i);
+        WANT(kv_view_get(&view, B(key), room, sizeof room, &size, &revision) == KV_OK);
+    }
+    began = spent() - began;
+    kv_view_close(&view);
+    return began / GETS;
+}
+
+static double a_get_under_the_mutex(void) {
     uint8_t room[16];
     size_t size;
     uint64_t revision;
     double began = spent();
     for (uint64_t i = 0; i < GETS; i++) {
         const char *key = key_of(i);
-        WANT(kv_reader_get(r, B(key), room, sizeof room, &size, &revision) == KV_OK);
+        WANT(kv_shared_get(&bucket, B(key), room, sizeof room, &size, &revision) == KV_OK);
     }
     return (spent() - began) / GETS;
 }
@@ -146,7 +176,7 @@ static void gets_beside(const char *what, double pace) {
     atomic_store(&is_over, false);
     began = now();
     pthread_create(&writer, NULL, writes, &pace);
-    ns = a_get(&r);
+    ns = a_get(&r, false);
     began = now() - began;
     atomic_store(&is_over, true);
     pthread_join(writer, NULL);
@@ -158,19 +188,12 @@ static void gets_beside(const char *what, double pace) {
 
 static void gets(void) {
     kv_reader r = {0};
-    uint8_t room[16];
-    size_t size;
-    uint64_t revision;
-    double began;
     begin_anew();
     WANT(kv_reader_open(&bucket, &r) == KV_OK);
-    told("kv_reader_get, nothing new", a_get(&r));
-    began = spent();
-    for (uint64_t i = 0; i < GETS; i++) {
-        const char *key = key_of(i);
-        WANT(kv_shared_get(&bucket, B(key), room, sizeof room, &size, &revision) == KV_OK);
-    }
-    told("kv_shared_get, nobody else", (spent() - began) / GETS);
+    told("kv_view_get", a_get_of_a_view());
+    told("kv_reader_get, nothing new", a_get(&r, false));
+    told("kv_reader_get, nothing new, one key again and again", a_get(&r, true));
+    told("kv_shared_get, nobody else", a_get_under_the_mutex());
     kv_reader_close(&r);
     kv_shared_close(&bucket);
     gets_beside("a writer of 10,000 a second", 1e5);

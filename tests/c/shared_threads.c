@@ -365,6 +365,7 @@ static void waits_in_a_loop(void) {
 
 static _Atomic int inside;
 
+// cppcheck-suppress constParameter ; a thread takes a pointer to what may change
 static void *sleeps_until_closed(void *with) {
     kv_follower f = {0};
     struct taken t;
@@ -458,7 +459,7 @@ static void closes_beside_all(void) {
 
 static void *sleeps_until_stopped(void *with) {
     struct taken t;
-    WANT(next(with, KV_FOREVER, &t) == KV_CLOSED);
+    WANT(next(with, KV_FOREVER - 1, &t) == KV_CLOSED);
     return NULL;
 }
 

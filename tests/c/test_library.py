@@ -20,22 +20,24 @@ class Header(unittest.TestCase):
 
 class Names(unittest.TestCase):
     def names(self, kind, *options, library="libvilgoued.so"):
-        """The names of one kind that a library tells, without the versions of those that it wants, and by the member that tells it."""
+        """The names of one kind that a library tells, without the versions of those that it wants, each with the member that tells it."""
         told = (line.split() for line in ran("nm", "-A", *options, os.path.join(libraries, library)).splitlines())
-        return sorted({(words[0].split(":")[1], words[-1].split("@")[0]) for words in told if len(words) > 2 and words[-2] == kind})
+        return {(words[-1].split("@")[0], words[0].split(":")[1]) for words in told if len(words) > 2 and words[-2] == kind}
+
+    def wanted(self, by_the_shell):
+        return {name for name, member in self.names("U", "-u", library="libvilgoued.a") if (member == "shared.o") == by_the_shell}
 
     def test_it_has_those_of_the_headers(self):
-        self.assertEqual([name for _, name in self.names("T", "-D", "--defined-only")], lines_of("tests/c/exported"))
+        self.assertEqual(sorted(name for name, _ in self.names("T", "-D", "--defined-only")), lines_of("tests/c/exported"))
 
     def test_what_is_proved_wants_nothing_but_memory(self):
         """A runtime, threads or locks would show here."""
-        wanted = self.names("U", "-u", library="libvilgoued.a")
-        self.assertLessEqual({name for member, name in wanted if member != "shared.o"},
-                             {*lines_of("tests/c/undefined"), "rattle_alloc", "rattle_dealloc", "rattle_realloc"})
+        heap = {"rattle_alloc", "rattle_dealloc", "rattle_realloc"}
+        self.assertLessEqual(self.wanted(by_the_shell=False), {*lines_of("tests/c/undefined"), *heap})
 
     def test_the_shell_wants_threads_a_clock_and_descriptors_too(self):
-        wanted = {name for member, name in self.names("U", "-u", library="libvilgoued.a") if member == "shared.o"}
-        self.assertLessEqual(wanted, {*lines_of("tests/c/undefined"), *lines_of("tests/c/undefined-shared"), *lines_of("tests/c/exported")})
+        own = {*lines_of("tests/c/undefined"), *lines_of("tests/c/exported")}
+        self.assertLessEqual(self.wanted(by_the_shell=True) - own, set(lines_of("tests/c/undefined-shared")))
 
 
 class Programs(ProgramTest):

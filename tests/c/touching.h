@@ -1,6 +1,7 @@
 /* What is proved is built without the sanitizer of threads, which so sees nothing of it. Included before the shell,
  * this has each call of an export write to the handles that it uses, in sight of the sanitizer: so two calls at a time
  * that use one handle are a race, as are two with no order between them. */
+#define _GNU_SOURCE
 #include "vilgoued.h"
 
 #define TOUCHED(handle) (*(volatile bool *)&(handle)->is_open = (handle)->is_open, (handle))

@@ -2,6 +2,7 @@
 include/vilgoued.h, and nothing of either kind that is not there."""
 import os, re, shutil, subprocess, unittest
 
+from scripts import current
 from tests import program, top
 from tests.pages.examples import lines_of
 
@@ -56,7 +57,7 @@ class Header(unittest.TestCase):
 class Form(unittest.TestCase):
     @unittest.skipUnless(shutil.which("groff"), "groff is not installed: apt-get install groff")
     def test_groff_finds_nothing_wrong(self):
-        for page in PAGES:
+        for page in current.files_in("docs/man"):
             with self.subTest(page):
                 done = subprocess.run(["groff", "-man", "-Tutf8", "-ww", "-z", os.path.join(top, page)], capture_output=True, text=True)
                 self.assertEqual((done.returncode, done.stderr), (0, ""))

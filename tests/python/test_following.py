@@ -174,6 +174,23 @@ class Lags(Base):
         self.assertEqual(mirror, {"b": b"1", "c": b"3"})
         self.assertEqual(told, [("a", None), ("c", b"3")])
 
+    def test_a_mirror_that_begins_anew_tells_each_change_though_a_callback_raises(self):
+        mirror, told, wrong = self.bucket.mirror(), [], [True, True]
+
+        @mirror.on_change
+        def tell(key, value):
+            told.append(key)
+            if wrong:
+                raise ValueError(wrong.pop())
+
+        for key in "abc":
+            self.bucket[key] = b"1"
+        self.bucket.compact(3)
+        for _ in range(2):
+            with self.assertRaises(ValueError):
+                len(mirror)
+        self.assertEqual((sorted(mirror), told), (["a", "b", "c"], ["a", "b", "c"]))
+
 
 class Changes(Base):
     def test_they_come_in_asyncio(self):
@@ -225,6 +242,18 @@ class Changes(Base):
                     await asyncio.wait_for(changes.__anext__(), 0.05)
                 self.bucket["a"] = b"1"
                 self.assertEqual((await asyncio.wait_for(changes.__anext__(), LONG)).revision, number)
+
+        asyncio.run(run())
+
+    def test_a_second_task_is_refused(self):
+        async def run():
+            watch = self.bucket.watch(">", updates=True)
+            first = asyncio.ensure_future(watch.changes().__anext__())
+            await asyncio.sleep(0.1)
+            with self.assertRaisesRegex(RuntimeError, "another task"):
+                await asyncio.wait_for(watch.changes().__anext__(), LONG)
+            self.bucket["a"] = b"1"
+            self.assertEqual((await asyncio.wait_for(first, LONG)).revision, 1)
 
         asyncio.run(run())
 
@@ -341,6 +370,46 @@ keys = set(bucket.keys())
 values = sum(bucket[f"k.{number}.{at}"] == b"%d" % at for number in range(6) for at in range(5000))
 print(len(refused), bucket.status().last, len(keys), values)
 """
+
+
+NO_DESCRIPTORS = """
+import resource
+from vilgoued import MARKER, Bucket, NoDescriptor
+
+bucket = Bucket("none")
+bucket["a"] = b"1"
+watch = bucket.watch("a")
+limits = resource.getrlimit(resource.RLIMIT_NOFILE)
+resource.setrlimit(resource.RLIMIT_NOFILE, (3, limits[1]))
+followed = watch.follow(0)
+print(next(followed).key, next(followed))
+try:
+    next(followed)
+except NoDescriptor as refused:
+    print(refused.code, bucket.status().watches)
+resource.setrlimit(resource.RLIMIT_NOFILE, limits)
+bucket["a"] = b"2"
+print(next(followed, None), next(watch.follow(0)).value)
+"""
+
+
+@unittest.skipIf(server, "a descriptor of the library")
+class Descriptors(unittest.TestCase):
+    def test_where_the_system_gives_none_the_watch_stays_as_it_was(self):
+        done = subprocess.run(
+            [sys.executable, "-B", "-c", NO_DESCRIPTORS], cwd=os.path.join(top, "python"), capture_output=True, text=True, timeout=60)
+        self.assertEqual((done.stdout, done.stderr), ("a MARKER\n64 1\nNone b'2'\n", ""))
+
+    def test_they_are_given_back(self):
+        with fresh_bucket() as bucket:
+            before = len(os.listdir("/proc/self/fd"))
+            for _ in range(50):
+                with bucket.watch(">") as watch:
+                    self.assertEqual(list(watch.follow(0)), [vilgoued.MARKER])
+                with bucket.mirror() as mirror:
+                    self.assertEqual(len(mirror), 0)
+            del watch, mirror
+            self.assertEqual(len(os.listdir("/proc/self/fd")), before)
 
 
 @unittest.skipIf(server, "six threads of one process")

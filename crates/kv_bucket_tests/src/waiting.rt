@@ -2,7 +2,6 @@
 
 mod closing;
 mod following;
-mod opening;
 mod rounds;
 mod sleepers;
 mod waits;

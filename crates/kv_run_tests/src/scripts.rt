@@ -4,6 +4,7 @@
 use kv_keys::KvError;
 use kv_model::Config;
 use kv_run::{CountedReader, CountedWriter, Form, Input, Output, program, replay, replay_bounded};
+use kv_test_tools::again;
 use std::alloc::{AllocError, Global};
 use std::fmt::Debug;
 use std::process::Abort;
@@ -20,18 +21,12 @@ mod watching;
 
 // The configuration that is named where no other is.
 fn named(alloc: Global) -> Result<Config, KvError> {
-    match Config::named(alloc, "kv") {
-        Err(KvError::OutOfMemory) => Config::named(alloc, "kv"),
-        config => config,
-    }
+    again(|| Config::named(alloc, "kv"))
 }
 
 // Room for any text of these tests, so that writing takes no memory.
 fn paper(alloc: Global) -> Result<Vec<u8>, AllocError> {
-    match Vec::with_capacity(alloc, 16_384) {
-        Err(AllocError) => Vec::with_capacity(alloc, 16_384),
-        bytes => bytes,
-    }
+    again(|| Vec::with_capacity(alloc, 16_384))
 }
 
 // Whole lines from the beginning of a text.

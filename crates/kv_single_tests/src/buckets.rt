@@ -2,26 +2,18 @@
 //! it was, and the same call, made again, goes on.
 
 use crate::equal::equal;
+use crate::limits::{Limits, keeping, limited};
 use crate::same::tell_the_same;
-use kv_single::{
-    Bucket, Call, Config, Filter, Filters, Key, KvError, Options, Reply, Request, Start, Status,
-    Taken,
-};
+use kv_single::{Bucket, Call, Filter, Filters, Key, KvError, Reply, Request, Status, Taken};
+use kv_test_tools::{Answered, LATEST, again, again_on, delete, purge, put};
 use std::alloc::Global;
 use std::process::Abort;
 use std::test::Fail;
 
 mod asking;
 mod making;
-mod openings;
 mod rows;
 mod running;
-
-const LATEST: Options = Options {
-    start: Start::Latest,
-    ignore_deletes: false,
-    headers_only: false,
-};
 
 // What is asked of a bucket.
 #[derive(Clone, Copy)]
@@ -72,16 +64,17 @@ fn entry(revision: u64, value: Option<&[u8]>) -> Answer {
     Answer::Entry(revision, first)
 }
 
-fn is_refused(answer: Answer) -> bool {
-    matches!(answer, Answer::Refused(_))
-}
-
-fn lacks_memory(answer: Answer) -> bool {
-    matches!(answer, Answer::Refused(KvError::OutOfMemory))
+impl Answered for Answer {
+    fn refusal(&self) -> Option<KvError> {
+        match *self {
+            Answer::Refused(error) => Some(error),
+            _ => None,
+        }
+    }
 }
 
 // No row opens a watch of a greater number.
-const LAST_WATCH: u64 = 65;
+const LAST_WATCH: u64 = 3;
 
 // Two buckets look alike: by their versions, by how many watches each has, and by what each of these is given next.
 fn look_alike(rt: &impl Abort, first: &Bucket, second: &Bucket) {
@@ -93,26 +86,11 @@ fn look_alike(rt: &impl Abort, first: &Bucket, second: &Bucket) {
     }
 }
 
-// A bucket's history, and its limits of a value, of its writes and of its revisions.
-type Limits = (u64, u64, u64, u64);
-
-// The limits of a bucket that keeps so many entries of each key.
-fn keeping(history: u64) -> Limits {
-    (history, 1_048_576, 1_000_000, 4_294_967_295)
-}
-
-fn open_once(alloc: Global, name: &str, limits: Limits) -> Result<Bucket, KvError> {
-    let mut config = Config::named(alloc, name)?;
-    config.history = limits.0;
-    config.value_limit = limits.1;
-    config.write_limit = limits.2;
-    config.revision_limit = limits.3;
+fn open_once(alloc: Global, limits: Limits) -> Result<Bucket, KvError> {
+    let config = limited(alloc, "kv", limits)?;
     Bucket::open(alloc, &config)
 }
 
-fn open(alloc: Global, name: &str, limits: Limits) -> Result<Bucket, KvError> {
-    match open_once(alloc, name, limits) {
-        Err(KvError::OutOfMemory) => open_once(alloc, name, limits),
-        bucket => bucket,
-    }
+fn open(alloc: Global, limits: Limits) -> Result<Bucket, KvError> {
+    again(|| open_once(alloc, limits))
 }

@@ -9,6 +9,7 @@ use kv_single::{
     Shown, Stopped, Taken, Trie, Version, Visit, Write, fnv32, given,
 };
 use kv_store::{Config, Op, Request, Status};
+use kv_test_tools::again;
 use kv_watch::laws::{given_goes_on, one_kept_is_latest, revisions_rise};
 use kv_watch::{Options, Start};
 use std::alloc::Global;
@@ -144,16 +145,13 @@ fn all_are_had_once(rt: &impl Abort, alloc: Global) -> Result<(), KvError> {
 }
 
 #[test]
-fn names_of_the_crates_below(rt: HostRuntime) -> Result<(), Fail> {
-    match all_are_had_once(&rt, rt.alloc()) {
-        Err(KvError::OutOfMemory) => all_are_had_once(&rt, rt.alloc())?,
-        had => had?,
-    }
+fn kv_single_has_the_names_of_the_crates_below(rt: HostRuntime) -> Result<(), Fail> {
+    again(|| all_are_had_once(&rt, rt.alloc()))?;
     Ok(())
 }
 
 #[test]
-fn laws_of_what_is_given() {
+fn kv_watch_has_the_laws_of_what_is_given() {
     revisions_rise();
     given_goes_on();
     one_kept_is_latest();

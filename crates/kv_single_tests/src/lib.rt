@@ -9,6 +9,8 @@ mod equal;
 #[cfg(test)]
 mod handed_on;
 #[cfg(test)]
+mod limits;
+#[cfg(test)]
 mod names;
 #[cfg(test)]
 mod same;

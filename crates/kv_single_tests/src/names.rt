@@ -1,9 +1,8 @@
 //! Tests of names by texts from outside: published hashes, NATS ADR-8's rules, and the worked rows of the bucket.
-//!
-//! A request for memory that is refused is made again: a second refusal in a row does not come.
 
 use crate::equal::equal;
 use kv_keys::{Filter, Filters, Key, KvError, Place, Short, fnv32, is_name};
+use kv_test_tools::{again, again_on};
 use std::alloc::{AllocError, Global};
 use std::process::Abort;
 use std::test::Fail;
@@ -80,32 +79,28 @@ impl Parsed for Filters {
 }
 
 fn made<T: Parsed>(alloc: Global, text: &str) -> Result<T, KvError> {
-    match T::parsed(alloc, text) {
-        Err(KvError::OutOfMemory) => T::parsed(alloc, text),
-        parsed => parsed,
-    }
-}
-
-fn push(text: &mut String, part: &str) -> Result<(), AllocError> {
-    match text.push_str(part) {
-        Ok(()) => Ok(()),
-        Err(_) => text.push_str(part),
-    }
+    again(|| T::parsed(alloc, text))
 }
 
 // `count` times `part` behind `start`, and then `end`.
-fn repeated(
-    alloc: Global,
-    start: &str,
-    part: &str,
+#[derive(Clone, Copy)]
+struct Repeated {
+    start: &'static str,
+    part: &'static str,
     count: u64,
-    end: &str,
-) -> Result<String, AllocError> {
+    end: &'static str,
+}
+
+fn text_once(alloc: Global, repeated: Repeated) -> Result<String, AllocError> {
     let mut text = String::new(alloc);
-    push(&mut text, start)?;
-    for _ in 0..count {
-        push(&mut text, part)?;
+    text.push_str(repeated.start)?;
+    for _ in 0..repeated.count {
+        text.push_str(repeated.part)?;
     }
-    push(&mut text, end)?;
+    text.push_str(repeated.end)?;
     Ok(text)
+}
+
+fn text_of(alloc: Global, repeated: Repeated) -> Result<String, AllocError> {
+    again(|| text_once(alloc, repeated))
 }

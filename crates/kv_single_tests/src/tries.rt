@@ -3,6 +3,7 @@
 
 use crate::equal::equal;
 use kv_keys::{Key, KvError, Place, Short};
+use kv_test_tools::{again, again_on};
 use kv_trie::{Node, Trie, Visit, Wants};
 use std::alloc::Global;
 use std::process::Abort;
@@ -85,10 +86,7 @@ fn put_again<K: Named>(
     text: &str,
     value: u32,
 ) -> Result<(), KvError> {
-    match put(alloc, trie, text, value) {
-        Err(KvError::OutOfMemory) => put(alloc, trie, text, value),
-        done => done,
-    }
+    again(|| put(alloc, trie, text, value))
 }
 
 // The trie of these names and values, built apart from every other.

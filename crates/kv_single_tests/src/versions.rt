@@ -2,9 +2,11 @@
 //! is as it was, and the same call, made again, goes on.
 
 use crate::equal::equal;
+use crate::limits::{DEFAULTS, Limits, keeping, limited};
 use kv_keys::{Key, KvError};
 use kv_model::{Config, Op, Request, Start, Status, Write};
 use kv_store::Version;
+use kv_test_tools::{again, again_on};
 use std::alloc::Global;
 use std::process::Abort;
 use std::test::Fail;
@@ -38,28 +40,6 @@ enum Ask {
 
 // A key, what is asked of it, and the answer: the last revision then, or why it is refused.
 type Row = (&'static str, Ask, Result<u64, KvError>);
-
-// A bucket's history, and its limits of a value, of its writes and of its revisions.
-type Limits = (u64, u64, u64, u64);
-
-// The limits of a bucket that keeps so many entries of each key.
-fn keeping(history: u64) -> Limits {
-    (history, 1_048_576, 1_000_000, 4_294_967_295)
-}
-
-fn limit(config: &mut Config, limits: Limits) {
-    let (history, value_limit, write_limit, revision_limit) = limits;
-    config.history = history;
-    config.value_limit = value_limit;
-    config.write_limit = write_limit;
-    config.revision_limit = revision_limit;
-}
-
-fn limited(alloc: Global, bucket: &str, limits: Limits) -> Result<Config, KvError> {
-    let mut config = Config::named(alloc, bucket)?;
-    limit(&mut config, limits);
-    Ok(config)
-}
 
 fn value_of(alloc: Global, ask: Ask) -> Result<Vec<u8>, KvError> {
     match ask {

@@ -2,9 +2,11 @@
 //! memory is refused: then nothing has changed, and the same call, made again, goes on.
 
 use crate::equal::equal;
-use kv_keys::{Filter, Filters, Key, KvError};
-use kv_model::{Config, Event, Op, Options, Request, Start};
+use crate::limits::{keeping, limited};
+use kv_keys::{Filter, Filters, KvError};
+use kv_model::{Event, Op, Options, Request, Start};
 use kv_store::Version;
+use kv_test_tools::{LATEST, again, again_on, delete, purge, put};
 use kv_watch::{Cursor, Taken};
 use std::alloc::Global;
 use std::process::Abort;
@@ -15,12 +17,6 @@ mod driving;
 mod flags;
 mod rows;
 mod shows;
-
-const LATEST: Options = Options {
-    start: Start::Latest,
-    ignore_deletes: false,
-    headers_only: false,
-};
 
 // A write of a row.
 #[derive(Clone, Copy)]
@@ -40,41 +36,21 @@ fn number_of(item: Event) -> u64 {
 
 const MARKER: u64 = 0;
 
-fn keep(config: &mut Config, history: u64) {
-    config.history = history;
-}
-
 fn empty_once(alloc: Global, history: u64) -> Result<Version, KvError> {
-    let mut config = Config::named(alloc, "kv")?;
-    keep(&mut config, history);
+    let config = limited(alloc, "kv", keeping(history))?;
     Version::empty(alloc, &config)
 }
 
 // A bucket that keeps so many entries of each key.
 fn empty(alloc: Global, history: u64) -> Result<Version, KvError> {
-    match empty_once(alloc, history) {
-        Err(KvError::OutOfMemory) => empty_once(alloc, history),
-        version => version,
-    }
-}
-
-fn put_request(alloc: Global, key: &str, value: &str) -> Result<Request, KvError> {
-    let key = Key::parse(alloc, key)?;
-    let value = Vec::from_slice(alloc, value.as_bytes())?;
-    Ok(Request::Put { key, value })
+    again(|| empty_once(alloc, history))
 }
 
 fn request(alloc: Global, deed: Deed) -> Result<Request, KvError> {
     match deed {
-        Deed::Put(key, value) => put_request(alloc, key, value),
-        Deed::Delete(key) => Ok(Request::Delete {
-            key: Key::parse(alloc, key)?,
-            last: None,
-        }),
-        Deed::Purge(key) => Ok(Request::Purge {
-            key: Key::parse(alloc, key)?,
-            last: None,
-        }),
+        Deed::Put(key, value) => put(alloc, key, value),
+        Deed::Delete(key) => delete(alloc, key, None),
+        Deed::Purge(key) => purge(alloc, key, None),
     }
 }
 
@@ -85,10 +61,7 @@ fn write_once(alloc: Global, version: &Version, deed: Deed) -> Result<Version, K
 
 // The version with one more write.
 fn write(alloc: Global, version: &Version, deed: Deed) -> Result<Version, KvError> {
-    match write_once(alloc, version, deed) {
-        Err(KvError::OutOfMemory) => write_once(alloc, version, deed),
-        version => version,
-    }
+    again(|| write_once(alloc, version, deed))
 }
 
 // A version with these writes behind those of another.
@@ -112,10 +85,7 @@ fn written(alloc: Global, deeds: &[Deed]) -> Result<Version, KvError> {
 }
 
 fn filters(alloc: Global, text: &str) -> Result<Filters, KvError> {
-    match Filters::parse(alloc, text) {
-        Err(KvError::OutOfMemory) => Filters::parse(alloc, text),
-        filters => filters,
-    }
+    again(|| Filters::parse(alloc, text))
 }
 
 fn one_once(alloc: Global, text: &str) -> Result<Filters, KvError> {
@@ -125,10 +95,7 @@ fn one_once(alloc: Global, text: &str) -> Result<Filters, KvError> {
 
 // The list of one filter.
 fn one(alloc: Global, text: &str) -> Result<Filters, KvError> {
-    match one_once(alloc, text) {
-        Err(KvError::OutOfMemory) => one_once(alloc, text),
-        filters => filters,
-    }
+    again(|| one_once(alloc, text))
 }
 
 // A cursor at the version. A refusal leaves the version as it was.
@@ -140,13 +107,12 @@ fn open(
     options: Options,
 ) -> Result<Cursor, KvError> {
     let before = version.status();
-    match Cursor::open(alloc, version, filters, options) {
-        Err(KvError::OutOfMemory) => {
-            equal(rt, version.status(), before);
-            Cursor::open(alloc, version, filters, options)
-        }
-        cursor => cursor,
-    }
+    let mut version = version;
+    again_on(
+        &mut version,
+        |version| equal(rt, version.status(), before),
+        |version| Cursor::open(alloc, *version, filters, options),
+    )
 }
 
 fn open_on(

@@ -137,8 +137,5 @@ fn compacted<R: Wait + Abort>(rt: &R, alloc: Global) -> Result<(), KvError> {
 
 #[test]
 fn a_service_that_compacts(rt: HostRuntime) -> Result<(), Fail> {
-    match compacted(&rt, rt.alloc()) {
-        Err(KvError::OutOfMemory) => Ok(compacted(&rt, rt.alloc())?),
-        done => Ok(done?),
-    }
+    Ok(again(|| compacted(&rt, rt.alloc()))?)
 }

@@ -47,9 +47,6 @@ fn watched(rt: &impl Abort, alloc: Global) -> Result<(), KvError> {
 }
 
 #[test]
-fn first_look(rt: HostRuntime) -> Result<(), Fail> {
-    match watched(&rt, rt.alloc()) {
-        Err(KvError::OutOfMemory) => Ok(watched(&rt, rt.alloc())?),
-        done => Ok(done?),
-    }
+fn a_watch_hands_out_each_change(rt: HostRuntime) -> Result<(), Fail> {
+    Ok(again(|| watched(&rt, rt.alloc()))?)
 }

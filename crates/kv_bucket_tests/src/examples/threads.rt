@@ -159,10 +159,7 @@ fn writer_and_readers<R: Threads + Wait + Sync>(
 
 #[test]
 fn a_writer_and_two_readers(rt: HostRuntime) -> Result<(), Fail> {
-    let handed = match writer_and_readers(&rt, rt.alloc()) {
-        Err(KvError::OutOfMemory) => writer_and_readers(&rt, rt.alloc())?,
-        done => done?,
-    };
+    let handed = again(|| writer_and_readers(&rt, rt.alloc()))?;
     assert_eq!(rt; handed, (3, 3));
     Ok(())
 }

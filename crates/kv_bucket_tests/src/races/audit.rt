@@ -2,6 +2,13 @@
 
 use super::*;
 
+const WORKERS: usize = 16;
+
+const WATCHES: usize = 32;
+
+// Each of the workers writes to each of the ten keys.
+const WRITES: u64 = 160;
+
 const KEYS: &[&str] = &[
     "a", "b", "a.b", "a.c", "a.b.c", "b.c", "c", "c.a", "c.b.a", "d",
 ];
@@ -47,18 +54,15 @@ fn push_watches(
     Ok(())
 }
 
-// The wrong body of this name would answer a version without the writes, and the watches saw more than it gives.
+// Refutes: race_last_is_empty, which would answer a version without the writes that the watches saw.
 #[test]
-fn race_last_is_empty(rt: HostRuntime) -> Result<(), Fail> {
-    run(&rt, rt.alloc(), Row::Audit)?;
+fn every_watch_saw_every_write(rt: HostRuntime) -> Result<(), Fail> {
+    again(|| audit(&rt, rt.alloc()))?;
     Ok(())
 }
 
-pub(super) fn audit<R: Threads + Wait + Abort + Sync>(
-    rt: &R,
-    alloc: Global,
-) -> Result<(), KvError> {
-    let scripts = scripts_of(alloc, 16, KEYS)?;
+fn audit<R: Threads + Wait + Abort + Sync>(rt: &R, alloc: Global) -> Result<(), KvError> {
+    let scripts = scripts_of(alloc, WORKERS, KEYS)?;
     audit_over(rt, alloc, &scripts)
 }
 
@@ -68,6 +72,6 @@ fn audit_over<R: Threads + Wait + Abort + Sync>(
     scripts: &[Vec<Request>],
 ) -> Result<(), KvError> {
     let watches = all_watches(alloc)?;
-    equal(rt, watches.len(), 32);
-    race_beside(rt, alloc, scripts, &watches, &NoGate, 160)
+    equal(rt, watches.len(), WATCHES);
+    race_beside(rt, alloc, scripts, &watches, &NoGate, WRITES)
 }

@@ -3,8 +3,8 @@
 use super::*;
 
 #[test]
-fn twenty_writes_of_four_workers(rt: HostRuntime) -> Result<(), Fail> {
-    run(&rt, rt.alloc(), Row::Twenty)?;
+fn twenty_writes_of_four_workers_come_in_order(rt: HostRuntime) -> Result<(), Fail> {
+    again(|| twenty(&rt, rt.alloc()))?;
     Ok(())
 }
 
@@ -36,10 +36,7 @@ fn twenty_scripts(alloc: Global) -> Result<Vec<Vec<Request>>, KvError> {
     Ok(scripts)
 }
 
-pub(super) fn twenty<R: Threads + Wait + Abort + Sync>(
-    rt: &R,
-    alloc: Global,
-) -> Result<(), KvError> {
+fn twenty<R: Threads + Wait + Abort + Sync>(rt: &R, alloc: Global) -> Result<(), KvError> {
     let scripts = twenty_scripts(alloc)?;
     twenty_watched(rt, alloc, &scripts)
 }

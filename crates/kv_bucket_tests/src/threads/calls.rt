@@ -2,7 +2,7 @@
 //! nothing there: neither its version, nor its watches, nor what each of them is given next.
 
 use super::*;
-use kv_bucket::{Keeper, Key, Request, Stopped};
+use kv_bucket::{Keeper, Request, Stopped};
 
 #[derive(Clone, Copy)]
 pub(super) enum Call {
@@ -25,25 +25,12 @@ pub(super) enum Step {
     Compact(u64),
 }
 
-pub(super) fn put_request(alloc: Global, key: &str) -> Result<Request, KvError> {
-    let key = Key::parse(alloc, key)?;
-    let value = Vec::from_slice(alloc, b"1")?;
-    Ok(Request::Put { key, value })
-}
-
-fn delete_request(alloc: Global, key: &str) -> Result<Request, KvError> {
-    let key = Key::parse(alloc, key)?;
-    Ok(Request::Delete { key, last: None })
-}
-
-fn put<N: LiveName, R: Wait>(
+fn write<N: LiveName, R: Wait>(
     rt: &R,
-    alloc: Global,
     live: &Live<N>,
-    key: &str,
+    request: Result<Request, KvError>,
 ) -> Result<u64, KvError> {
-    let request = put_request(alloc, key)?;
-    live.write(rt, &request)
+    live.write(rt, &request?)
 }
 
 fn keep<N: LiveName, R: Wait>(
@@ -81,8 +68,8 @@ fn step_once<N: LiveName, R: Wait + Abort>(
     step: Step,
 ) -> Answer {
     match step {
-        Step::Put(key) => number(keep(rt, keeper, put_request(alloc, key))),
-        Step::Delete(key) => number(keep(rt, keeper, delete_request(alloc, key))),
+        Step::Put(key) => number(keep(rt, keeper, put(alloc, key, "1"))),
+        Step::Delete(key) => number(keep(rt, keeper, delete(alloc, key, None))),
         Step::Seal => done(keeper.seal(rt)),
         Step::Watch => number(watch(alloc, keeper)),
         Step::Take(number) => take(rt, keeper, number),
@@ -98,7 +85,7 @@ fn call_once<N: LiveName, R: Wait + Abort>(
     call: Call,
 ) -> Answer {
     match call {
-        Call::Put(key) => number(put(rt, alloc, live, key)),
+        Call::Put(key) => number(write(rt, live, put(alloc, key, "1"))),
         Call::Seal => done(live.seal(rt)),
         Call::Compact(floor) => done(live.compact(rt, floor)),
         Call::Guarded(step) => guarded_once(rt, alloc, live, step),
@@ -133,10 +120,10 @@ fn step_made<N: LiveName, R: Wait + Abort>(
     keeper: &mut Keeper<N>,
     step: Step,
 ) -> Answer {
-    made(
-        rt,
+    let before = look_through(keeper);
+    again_on(
         keeper,
-        |keeper| look_through(keeper),
+        |keeper| tells_as_before(rt, keeper, &before),
         |keeper| step_once(rt, alloc, keeper, step),
     )
 }
@@ -158,11 +145,11 @@ fn call_made<N: LiveName, R: Wait + Abort>(
     live: &Live<N>,
     call: Call,
 ) -> Answer {
+    let before = look(rt, live);
     let mut live = live;
-    made(
-        rt,
+    again_on(
         &mut live,
-        |live| look(rt, *live),
+        |live| has_changed_nothing(rt, *live, &before),
         |live| call_once(rt, alloc, *live, call),
     )
 }

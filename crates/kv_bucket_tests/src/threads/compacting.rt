@@ -6,20 +6,25 @@ use kv_bucket::Keeper;
 const LAGGED: Answer = Answer::Refused(KvError::Lagged { floor: 2 });
 
 #[test]
-fn two_feeds_across_a_compaction(rt: HostRuntime) -> Result<(), Fail> {
-    run(&rt, rt.alloc(), Row::TwoFeeds)?;
+fn a_feed_that_lags_begins_anew(rt: HostRuntime) -> Result<(), Fail> {
+    play(&rt, rt.alloc(), &TwoFeeds)?;
     Ok(())
 }
 
-pub(super) fn two_feeds<N: LiveName, R: Wait + Abort>(
-    rt: &R,
-    alloc: Global,
-    live: &Live<N>,
-    readers: &mut Vec<Reader<N>>,
-) -> Result<(), KvError> {
-    calls(rt, alloc, live, ONE_PUT);
-    let mut other = feed_of_last(alloc, readers)?;
-    beside_another(rt, alloc, live, readers, &mut other)
+struct TwoFeeds;
+
+impl Scenario for TwoFeeds {
+    fn play<N: LiveName + Send + Sync, R: Threads + Wait + Clock + CpuClock + Abort + Sync>(
+        &self,
+        rt: &R,
+        alloc: Global,
+        live: &Live<N>,
+        readers: &mut Vec<Reader<N>>,
+    ) -> Result<(), KvError> {
+        calls(rt, alloc, live, ONE_PUT);
+        let mut other = feed_of_last(alloc, readers)?;
+        beside_another(rt, alloc, live, readers, &mut other)
+    }
 }
 
 fn beside_another<N: LiveName, R: Wait + Abort>(
@@ -83,27 +88,45 @@ const STAYS_BEHIND: &[(Move, Answer)] = &[
     (Move::Take, Answer::Marker),
     (Move::Take, Answer::Empty),
     (Move::Refresh, LAGGED),
-    (Move::Version, Answer::On(1, 0)),
+    (Move::Version, ON_FIRST),
 ];
 
 const BEGINS_ANEW: &[(Move, Answer)] = &[
     (Move::Take, Answer::Entry(3)),
     (Move::Take, Answer::Marker),
     (Move::Take, Answer::Empty),
-    (Move::Version, Answer::On(3, 2)),
+    (
+        Move::Version,
+        Answer::On {
+            revision: 3,
+            floor: 2,
+        },
+    ),
 ];
 
 // This feed owes an entry at the floor, and goes on once that is handed out.
 const GOES_ON: &[(Move, Answer)] = &[
     (Move::Refresh, LAGGED),
-    (Move::Version, Answer::On(3, 0)),
+    (
+        Move::Version,
+        Answer::On {
+            revision: 3,
+            floor: 0,
+        },
+    ),
     (Move::Take, Answer::Entry(1)),
     (Move::Take, Answer::Marker),
     (Move::Take, Answer::Entry(2)),
     (Move::Refresh, Answer::Done),
     (Move::Take, Answer::Entry(3)),
     (Move::Take, Answer::Empty),
-    (Move::Version, Answer::On(3, 2)),
+    (
+        Move::Version,
+        Answer::On {
+            revision: 3,
+            floor: 2,
+        },
+    ),
 ];
 
 fn stays_behind<N: LiveName, R: Abort>(rt: &R, feed: Feed<N>) -> Reader<N> {
@@ -123,8 +146,8 @@ fn begins_anew<N: LiveName, R: Abort>(
 }
 
 #[test]
-fn compactions_and_a_watch_under_the_lock(rt: HostRuntime) -> Result<(), Fail> {
-    run(&rt, rt.alloc(), Row::HeldWatch)?;
+fn a_watch_under_the_lock_refuses_a_compaction(rt: HostRuntime) -> Result<(), Fail> {
+    play(&rt, rt.alloc(), &HeldWatch)?;
     Ok(())
 }
 
@@ -146,15 +169,20 @@ const AROUND_A_WATCH: &[(Call, Answer)] = &[
     (Call::Compact(1), Answer::Refused(KvError::BadFloor)),
 ];
 
-pub(super) fn held_watch<N: LiveName, R: Wait + Abort>(
-    rt: &R,
-    alloc: Global,
-    live: &Live<N>,
-    readers: &mut Vec<Reader<N>>,
-) -> Result<(), KvError> {
-    calls(rt, alloc, live, AROUND_A_WATCH);
-    let mut reader = last(readers)?;
-    reads_from_the_floor(rt, &mut reader)
+struct HeldWatch;
+
+impl Scenario for HeldWatch {
+    fn play<N: LiveName + Send + Sync, R: Threads + Wait + Clock + CpuClock + Abort + Sync>(
+        &self,
+        rt: &R,
+        alloc: Global,
+        live: &Live<N>,
+        readers: &mut Vec<Reader<N>>,
+    ) -> Result<(), KvError> {
+        calls(rt, alloc, live, AROUND_A_WATCH);
+        let mut reader = last(readers)?;
+        reads_from_the_floor(rt, &mut reader)
+    }
 }
 
 fn reads_from_the_floor<N: LiveName, R: Abort>(

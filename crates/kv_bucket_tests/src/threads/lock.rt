@@ -1,23 +1,23 @@
-//! Rows on the lock. What is done on a guard has a guard of its own for each line.
+//! Calls on the lock. What is done on a guard has a guard of its own for each line.
 
 use super::*;
 
+// Calls on the live bucket, each with its answer.
 #[derive(Clone, Copy)]
-pub(super) enum Row {
-    InitialOfItsMoment,
-    InitialThroughWrite,
-    WatchNumbers,
-    WriteLimitAndSeal,
+struct Calls {
+    lines: &'static [(Call, Answer)],
 }
 
-impl Row {
-    pub(super) fn lines(self) -> &'static [(Call, Answer)] {
-        match self {
-            Row::InitialOfItsMoment => INITIAL_OF_ITS_MOMENT,
-            Row::InitialThroughWrite => INITIAL_THROUGH_WRITE,
-            Row::WatchNumbers => WATCH_NUMBERS,
-            Row::WriteLimitAndSeal => WRITE_LIMIT_AND_SEAL,
-        }
+impl Scenario for Calls {
+    fn play<N: LiveName + Send + Sync, R: Threads + Wait + Clock + CpuClock + Abort + Sync>(
+        &self,
+        rt: &R,
+        alloc: Global,
+        live: &Live<N>,
+        _readers: &mut Vec<Reader<N>>,
+    ) -> Result<(), KvError> {
+        calls(rt, alloc, live, self.lines);
+        Ok(())
     }
 }
 
@@ -35,10 +35,11 @@ const INITIAL_OF_ITS_MOMENT: &[(Call, Answer)] = &[
     (Call::Guarded(Step::Take(1)), Answer::Empty),
 ];
 
-// The wrong body of this name would lose a watch between two guards.
+// Refutes: lock_resets_watches, which would lose a watch between two guards.
 #[test]
-fn lock_resets_watches(rt: HostRuntime) -> Result<(), Fail> {
-    run(&rt, rt.alloc(), super::Row::Calls(Row::InitialOfItsMoment))?;
+fn a_watch_survives_the_guard(rt: HostRuntime) -> Result<(), Fail> {
+    let lines = INITIAL_OF_ITS_MOMENT;
+    play(&rt, rt.alloc(), &Calls { lines })?;
     Ok(())
 }
 
@@ -54,10 +55,11 @@ const INITIAL_THROUGH_WRITE: &[(Call, Answer)] = &[
     (Call::Guarded(Step::Take(1)), Answer::Empty),
 ];
 
-// The wrong body of this name would answer a number without a write.
+// Refutes: live_write_writes_nothing, which would answer a number without a write.
 #[test]
-fn live_write_writes_nothing(rt: HostRuntime) -> Result<(), Fail> {
-    run(&rt, rt.alloc(), super::Row::Calls(Row::InitialThroughWrite))?;
+fn a_live_write_is_stored(rt: HostRuntime) -> Result<(), Fail> {
+    let lines = INITIAL_THROUGH_WRITE;
+    play(&rt, rt.alloc(), &Calls { lines })?;
     Ok(())
 }
 
@@ -73,15 +75,35 @@ const WATCH_NUMBERS: &[(Call, Answer)] = &[
 ];
 
 #[test]
-fn watch_numbers_on_guards(rt: HostRuntime) -> Result<(), Fail> {
-    run(&rt, rt.alloc(), super::Row::Calls(Row::WatchNumbers))?;
+fn a_number_is_given_to_one_watch(rt: HostRuntime) -> Result<(), Fail> {
+    let lines = WATCH_NUMBERS;
+    play(&rt, rt.alloc(), &Calls { lines })?;
     Ok(())
 }
 
 #[test]
 fn the_sixty_fifth_watch_is_refused_until_one_is_stopped(rt: HostRuntime) -> Result<(), Fail> {
-    run(&rt, rt.alloc(), super::Row::SixtyFourWatches)?;
+    play(&rt, rt.alloc(), &SixtyFourWatches)?;
     Ok(())
+}
+
+struct SixtyFourWatches;
+
+impl Scenario for SixtyFourWatches {
+    fn play<N: LiveName + Send + Sync, R: Threads + Wait + Clock + CpuClock + Abort + Sync>(
+        &self,
+        rt: &R,
+        alloc: Global,
+        live: &Live<N>,
+        _readers: &mut Vec<Reader<N>>,
+    ) -> Result<(), KvError> {
+        for before in 0..64 {
+            let line = (Call::Guarded(Step::Watch), Answer::Number(before + 1));
+            calls(rt, alloc, live, &[line]);
+        }
+        calls(rt, alloc, live, BEYOND);
+        Ok(())
+    }
 }
 
 // A stopped watch makes room, and its number is not given again.
@@ -94,19 +116,25 @@ const BEYOND: &[(Call, Answer)] = &[
     (Call::Guarded(Step::Watch), Answer::Number(65)),
 ];
 
-pub(super) fn sixty_four_watches<N: LiveName, R: Wait + Abort>(
-    rt: &R,
-    alloc: Global,
-    live: &Live<N>,
-) {
-    for before in 0..64 {
-        let line = (Call::Guarded(Step::Watch), Answer::Number(before + 1));
-        calls(rt, alloc, live, &[line]);
+struct TwoWrites;
+
+impl Scenario for TwoWrites {
+    fn write_limit(&self) -> u64 {
+        2
     }
-    calls(rt, alloc, live, BEYOND);
+
+    fn play<N: LiveName + Send + Sync, R: Threads + Wait + Clock + CpuClock + Abort + Sync>(
+        &self,
+        rt: &R,
+        alloc: Global,
+        live: &Live<N>,
+        _readers: &mut Vec<Reader<N>>,
+    ) -> Result<(), KvError> {
+        calls(rt, alloc, live, WRITE_LIMIT_AND_SEAL);
+        Ok(())
+    }
 }
 
-// The limit of writes is two.
 const WRITE_LIMIT_AND_SEAL: &[(Call, Answer)] = &[
     (Call::Put("a"), Answer::Number(1)),
     (Call::Put("b"), Answer::Number(2)),
@@ -116,7 +144,7 @@ const WRITE_LIMIT_AND_SEAL: &[(Call, Answer)] = &[
 ];
 
 #[test]
-fn write_limit_and_seal_on_a_live_bucket(rt: HostRuntime) -> Result<(), Fail> {
-    run(&rt, rt.alloc(), super::Row::Calls(Row::WriteLimitAndSeal))?;
+fn a_live_bucket_refuses_writes_where_it_is_full_or_sealed(rt: HostRuntime) -> Result<(), Fail> {
+    play(&rt, rt.alloc(), &TwoWrites)?;
     Ok(())
 }

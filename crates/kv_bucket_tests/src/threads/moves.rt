@@ -1,7 +1,6 @@
 //! What is done with a feed, line by line. A refresh that is refused leaves its count and its next item.
 
 use super::*;
-use again::Sight;
 
 #[derive(Clone, Copy)]
 pub(super) enum Move {
@@ -40,16 +39,10 @@ fn open_again<N: LiveName>(reader: Reader<N>, filters: &Filters) -> Result<Feed<
 }
 
 // What can be seen of a feed: how many items it handed out, and which is the next one.
-#[derive(Drop)]
+#[derive(Clone, Copy, Debug, PartialEq, Eq)]
 pub(super) struct FeedSight {
     handed: u64,
     next: Answer,
-}
-
-impl Sight for FeedSight {
-    fn is_same(&self, other: &FeedSight) -> bool {
-        self.handed == other.handed && self.next == other.next
-    }
 }
 
 pub(super) fn look_at<N: LiveName>(feed: &Feed<N>) -> FeedSight {
@@ -57,6 +50,10 @@ pub(super) fn look_at<N: LiveName>(feed: &Feed<N>) -> FeedSight {
         handed: feed.handed(),
         next: brief_taken(Ok(feed.peek())),
     }
+}
+
+pub(super) fn looks_as<N: LiveName, R: Abort>(rt: &R, feed: &Feed<N>, before: FeedSight) {
+    equal(rt, look_at(feed), before);
 }
 
 // Takes the item that is next.
@@ -71,15 +68,15 @@ fn move_once<N: LiveName, R: Abort>(rt: &R, feed: &mut Feed<N>, step: Move) -> A
     match step {
         Move::Take => take(rt, feed),
         Move::Refresh => done(feed.refresh()),
-        Move::Version => on(feed.version()),
+        Move::Version => on_answered(feed.version()),
     }
 }
 
 fn move_made<N: LiveName, R: Abort>(rt: &R, feed: &mut Feed<N>, step: Move) -> Answer {
-    made(
-        rt,
+    let before = look_at(feed);
+    again_on(
         feed,
-        |feed| look_at(feed),
+        |feed| looks_as(rt, feed, before),
         |feed| move_once(rt, feed, step),
     )
 }

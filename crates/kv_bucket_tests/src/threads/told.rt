@@ -8,8 +8,7 @@ fn write_told<N: LiveName, R: Wait>(
     alloc: Global,
     live: &Live<N>,
 ) -> Result<(u64, Receipt<N>), KvError> {
-    let request = put_request(alloc, "a")?;
-    live.write_told(rt, &request)
+    live.write_told(rt, &put(alloc, "a", "1")?)
 }
 
 fn told_again<N: LiveName, R: Wait + Abort>(
@@ -17,11 +16,11 @@ fn told_again<N: LiveName, R: Wait + Abort>(
     alloc: Global,
     live: &Live<N>,
 ) -> Result<(u64, Receipt<N>), KvError> {
+    let before = look(rt, live);
     let mut live = live;
-    made(
-        rt,
+    again_on(
         &mut live,
-        |live| look(rt, *live),
+        |live| has_changed_nothing(rt, *live, &before),
         |live| write_told(rt, alloc, *live),
     )
 }
@@ -50,19 +49,24 @@ fn told_write<N: LiveName + Send + Sync, R: Threads + Wait + Abort + Sync>(
 }
 
 #[test]
-fn told_write_is_handed_out(rt: HostRuntime) -> Result<(), Fail> {
-    run(&rt, rt.alloc(), Row::ToldWrite)?;
+fn a_told_write_is_handed_out(rt: HostRuntime) -> Result<(), Fail> {
+    play(&rt, rt.alloc(), &ToldWrite)?;
     Ok(())
 }
 
-pub(super) fn handed_out<N: LiveName + Send + Sync, R: Threads + Wait + Abort + Sync>(
-    rt: &R,
-    alloc: Global,
-    live: &Live<N>,
-    readers: &mut Vec<Reader<N>>,
-) -> Result<(), KvError> {
-    let mut reader = last(readers)?;
-    told_beside(rt, alloc, live, readers, &mut reader)
+struct ToldWrite;
+
+impl Scenario for ToldWrite {
+    fn play<N: LiveName + Send + Sync, R: Threads + Wait + Clock + CpuClock + Abort + Sync>(
+        &self,
+        rt: &R,
+        alloc: Global,
+        live: &Live<N>,
+        readers: &mut Vec<Reader<N>>,
+    ) -> Result<(), KvError> {
+        let mut reader = last(readers)?;
+        told_beside(rt, alloc, live, readers, &mut reader)
+    }
 }
 
 fn told_beside<N: LiveName + Send + Sync, R: Threads + Wait + Abort + Sync>(
@@ -110,27 +114,32 @@ fn learns<N: LiveName, R: Abort>(
     revision: u64,
 ) {
     reader.learn(receipt);
-    reads(rt, reader, Answer::On(revision, 0));
+    reads(rt, reader, Answer::On { revision, floor: 0 });
 }
 
 #[test]
 fn a_write_told_on_a_guard_is_seen_by_who_learns_it(rt: HostRuntime) -> Result<(), Fail> {
-    run(&rt, rt.alloc(), Row::ToldOnAGuard)?;
+    play(&rt, rt.alloc(), &ToldOnAGuard)?;
     Ok(())
 }
 
-pub(super) fn on_a_guard<N: LiveName, R: Wait + Abort>(
-    rt: &R,
-    alloc: Global,
-    live: &Live<N>,
-    readers: &mut Vec<Reader<N>>,
-) -> Result<(), KvError> {
-    let receipt = told_under_the_lock(rt, alloc, live)?;
-    seen_once_learned(rt, readers, &receipt)?;
-    mark_is_learned(rt, readers, &receipt)?;
-    calls(rt, alloc, live, SEAL);
-    equal(rt, refusal_of_told(rt, alloc, live), Some(KvError::Sealed));
-    Ok(())
+struct ToldOnAGuard;
+
+impl Scenario for ToldOnAGuard {
+    fn play<N: LiveName + Send + Sync, R: Threads + Wait + Clock + CpuClock + Abort + Sync>(
+        &self,
+        rt: &R,
+        alloc: Global,
+        live: &Live<N>,
+        readers: &mut Vec<Reader<N>>,
+    ) -> Result<(), KvError> {
+        let receipt = told_under_the_lock(rt, alloc, live)?;
+        seen_once_learned(rt, readers, &receipt)?;
+        mark_is_learned(rt, readers, &receipt)?;
+        calls(rt, alloc, live, SEAL);
+        equal(rt, refusal_of_told(rt, alloc, live), Some(KvError::Sealed));
+        Ok(())
+    }
 }
 
 fn seen_once_learned<N: LiveName, R: Abort>(
@@ -153,7 +162,7 @@ fn mark_is_learned<N: LiveName, R: Abort>(
 ) -> Result<(), KvError> {
     let mut reader = last(readers)?;
     reader.learn_mark(receipt.mark());
-    reads(rt, &mut reader, Answer::On(2, 0));
+    reads(rt, &mut reader, ON_SECOND);
     equal(rt, reader.has_seen(receipt), true);
     Ok(())
 }
@@ -202,10 +211,10 @@ fn told_made<N: LiveName, R: Wait + Abort>(
     alloc: Global,
     keeper: &mut Keeper<N>,
 ) -> Result<(u64, Receipt<N>), KvError> {
-    made(
-        rt,
+    let before = look_through(keeper);
+    again_on(
         keeper,
-        |keeper| look_through(keeper),
+        |keeper| tells_as_before(rt, keeper, &before),
         |keeper| told_once(rt, alloc, keeper),
     )
 }
@@ -215,24 +224,28 @@ fn told_once<N: LiveName, R: Wait>(
     alloc: Global,
     keeper: &mut Keeper<N>,
 ) -> Result<(u64, Receipt<N>), KvError> {
-    let request = put_request(alloc, "a")?;
-    keeper.write_told(rt, &request)
+    keeper.write_told(rt, &put(alloc, "a", "1")?)
 }
 
 #[test]
-fn readers_that_look_in_turn(rt: HostRuntime) -> Result<(), Fail> {
-    run(&rt, rt.alloc(), Row::LooksInTurn)?;
+fn readers_tell_what_the_other_has_seen(rt: HostRuntime) -> Result<(), Fail> {
+    play(&rt, rt.alloc(), &LooksInTurn)?;
     Ok(())
 }
 
-pub(super) fn looks_in_turn<N: LiveName, R: Wait + Abort>(
-    rt: &R,
-    alloc: Global,
-    live: &Live<N>,
-    readers: &mut Vec<Reader<N>>,
-) -> Result<(), KvError> {
-    let mut first = last(readers)?;
-    look_beside(rt, alloc, live, readers, &mut first)
+struct LooksInTurn;
+
+impl Scenario for LooksInTurn {
+    fn play<N: LiveName + Send + Sync, R: Threads + Wait + Clock + CpuClock + Abort + Sync>(
+        &self,
+        rt: &R,
+        alloc: Global,
+        live: &Live<N>,
+        readers: &mut Vec<Reader<N>>,
+    ) -> Result<(), KvError> {
+        let mut first = last(readers)?;
+        look_beside(rt, alloc, live, readers, &mut first)
+    }
 }
 
 fn look_beside<N: LiveName, R: Wait + Abort>(
@@ -272,18 +285,46 @@ fn learns_both<N: LiveName, R: Abort>(
     learns(rt, reader, other, 2);
 }
 
-// Whether each of two readers has seen all that the other has, and the first what was told.
+// Of two readers whether each has seen all that the other has, and whether the first has seen what was told.
+#[derive(Clone, Copy, Debug, PartialEq, Eq)]
+struct Known {
+    first_has_all: bool,
+    second_has_all: bool,
+    told: bool,
+}
+
 fn compare<N: LiveName, R: Abort>(
     rt: &R,
     first: &Reader<N>,
     second: &Reader<N>,
     receipt: &Receipt<N>,
-    expected: (bool, bool, bool),
+    known: Known,
 ) {
-    let ahead = first.has_seen_all_of(second);
-    let level = second.has_seen_all_of(first);
-    equal(rt, (ahead, level, first.has_seen(receipt)), expected);
+    let found = Known {
+        first_has_all: first.has_seen_all_of(second),
+        second_has_all: second.has_seen_all_of(first),
+        told: first.has_seen(receipt),
+    };
+    equal(rt, found, known);
 }
+
+const NOBODY_LOOKED: Known = Known {
+    first_has_all: true,
+    second_has_all: true,
+    told: false,
+};
+
+const FIRST_LOOKED: Known = Known {
+    first_has_all: true,
+    second_has_all: false,
+    told: true,
+};
+
+const BOTH_LOOKED: Known = Known {
+    first_has_all: true,
+    second_has_all: true,
+    told: true,
+};
 
 // A reader has seen a told write once it has entered behind it.
 fn look_in_turn<N: LiveName, R: Abort>(
@@ -292,9 +333,9 @@ fn look_in_turn<N: LiveName, R: Abort>(
     second: &mut Reader<N>,
     receipt: &Receipt<N>,
 ) {
-    compare(rt, first, second, receipt, (true, true, false));
-    reads(rt, first, Answer::On(1, 0));
-    compare(rt, first, second, receipt, (true, false, true));
-    reads(rt, second, Answer::On(1, 0));
-    compare(rt, first, second, receipt, (true, true, true));
+    compare(rt, first, second, receipt, NOBODY_LOOKED);
+    reads(rt, first, ON_FIRST);
+    compare(rt, first, second, receipt, FIRST_LOOKED);
+    reads(rt, second, ON_FIRST);
+    compare(rt, first, second, receipt, BOTH_LOOKED);
 }

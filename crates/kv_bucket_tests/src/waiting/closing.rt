@@ -3,8 +3,9 @@
 ghost use Rattle.std.specs.Prelude.{◌≡◌};
 
 use crate::equal::equal;
-use crate::waiting::following::{follow_to_the_end, put, watch_all};
+use crate::waiting::following::{follow_to_the_end, watch_all, write};
 use kv_bucket::{Config, Feed, KvError, Live, LiveName, Opened, Woken};
+use kv_test_tools::again;
 use std::alloc::Global;
 use std::marker::Brand;
 use std::process::Abort;
@@ -21,7 +22,7 @@ fn fall_behind<N: LiveName, R: Wait>(
     live: &Live<N>,
 ) -> Result<Feed<N>, KvError> {
     for _ in 0..WRITES {
-        put(rt, alloc, live)?;
+        write(rt, alloc, live)?;
     }
     watch_all(rt, alloc, live)
 }
@@ -68,9 +69,6 @@ fn run_once<R: Wait + Abort>(rt: &R, alloc: Global) -> Result<(), KvError> {
 
 #[test]
 fn a_follower_behind_a_close_is_handed_everything(rt: HostRuntime) -> Result<(), Fail> {
-    match run_once(&rt, rt.alloc()) {
-        Err(KvError::OutOfMemory) => run_once(&rt, rt.alloc())?,
-        done => done?,
-    }
+    again(|| run_once(&rt, rt.alloc()))?;
     Ok(())
 }

@@ -33,9 +33,6 @@ fn two_writers(rt: &impl Abort, alloc: Global) -> Result<(), KvError> {
 }
 
 #[test]
-fn compare_and_set(rt: HostRuntime) -> Result<(), Fail> {
-    match two_writers(&rt, rt.alloc()) {
-        Err(KvError::OutOfMemory) => Ok(two_writers(&rt, rt.alloc())?),
-        done => Ok(done?),
-    }
+fn a_late_writer_is_refused(rt: HostRuntime) -> Result<(), Fail> {
+    Ok(again(|| two_writers(&rt, rt.alloc()))?)
 }

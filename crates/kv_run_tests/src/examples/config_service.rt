@@ -54,8 +54,5 @@ fn config_service(rt: &impl Abort, alloc: Global) -> Result<(), KvError> {
 
 #[test]
 fn a_config_service(rt: HostRuntime) -> Result<(), Fail> {
-    match config_service(&rt, rt.alloc()) {
-        Err(KvError::OutOfMemory) => Ok(config_service(&rt, rt.alloc())?),
-        done => Ok(done?),
-    }
+    Ok(again(|| config_service(&rt, rt.alloc()))?)
 }

@@ -36,17 +36,11 @@ fn removed(rt: &impl Abort, alloc: Global) -> Result<(), KvError> {
 }
 
 #[test]
-fn held_snapshot(rt: HostRuntime) -> Result<(), Fail> {
-    match held_map(&rt, rt.alloc()) {
-        Err(KvError::OutOfMemory) => Ok(held_map(&rt, rt.alloc())?),
-        done => Ok(done?),
-    }
+fn a_held_snapshot_stays(rt: HostRuntime) -> Result<(), Fail> {
+    Ok(again(|| held_map(&rt, rt.alloc()))?)
 }
 
 #[test]
-fn removed_key(rt: HostRuntime) -> Result<(), Fail> {
-    match removed(&rt, rt.alloc()) {
-        Err(KvError::OutOfMemory) => Ok(removed(&rt, rt.alloc())?),
-        done => Ok(done?),
-    }
+fn a_removed_key_is_gone(rt: HostRuntime) -> Result<(), Fail> {
+    Ok(again(|| removed(&rt, rt.alloc()))?)
 }

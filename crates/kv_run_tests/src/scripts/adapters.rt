@@ -5,7 +5,7 @@ use super::*;
 use kv_run::{Input, Output};
 
 #[test]
-fn a_reader_that_fails_and_goes_on(rt: HostRuntime) -> Result<(), Fail> {
+fn a_reader_counts_its_calls_and_failures(rt: HostRuntime) -> Result<(), Fail> {
     let mut drip = Drip {
         bytes: b"ab",
         most: 1,
@@ -30,7 +30,7 @@ fn a_reader_that_fails_and_goes_on(rt: HostRuntime) -> Result<(), Fail> {
 }
 
 #[test]
-fn a_writer_that_fails(rt: HostRuntime) -> Result<(), Fail> {
+fn a_writer_counts_its_failures(rt: HostRuntime) -> Result<(), Fail> {
     let mut narrow = Narrow {
         bytes: paper(rt.alloc())?,
         most: 2,
@@ -48,7 +48,7 @@ fn a_writer_that_fails(rt: HostRuntime) -> Result<(), Fail> {
 }
 
 #[test]
-fn a_writer_that_takes_nothing(rt: HostRuntime) -> Result<(), Fail> {
+fn a_writer_that_takes_nothing_fails(rt: HostRuntime) -> Result<(), Fail> {
     let mut narrow = Narrow {
         bytes: paper(rt.alloc())?,
         most: 0,

@@ -41,10 +41,7 @@ fn script_once(
 }
 
 fn script(alloc: Global, begin: &[u8], count: usize, end: &[u8]) -> Result<Vec<u8>, AllocError> {
-    match script_once(alloc, begin, count, end) {
-        Err(AllocError) => script_once(alloc, begin, count, end),
-        script => script,
-    }
+    again(|| script_once(alloc, begin, count, end))
 }
 
 // Runs a script to its end, and tells whether this text was written.
@@ -65,14 +62,11 @@ fn gives_once(alloc: Global, config: &Config, script: &[u8], text: &[u8]) -> Res
 
 fn gives(alloc: Global, script: &[u8], text: &str) -> Result<bool, KvError> {
     let config = named(alloc)?;
-    match gives_once(alloc, &config, script, text.as_bytes()) {
-        Err(KvError::OutOfMemory) => gives_once(alloc, &config, script, text.as_bytes()),
-        result => result,
-    }
+    again(|| gives_once(alloc, &config, script, text.as_bytes()))
 }
 
 #[test]
-fn ends_of_lines(rt: HostRuntime) -> Result<(), Fail> {
+fn a_line_ends_by_lf_or_at_the_end_of_input(rt: HostRuntime) -> Result<(), Fail> {
     for (begin, count, end, text) in SCRIPTS {
         let script = script(rt.alloc(), begin, *count, end)?;
         equal(&rt, gives(rt.alloc(), &script, text), Ok(true));

@@ -65,7 +65,7 @@ fn text_of_lines(lines: usize) -> &'static [u8] {
 }
 
 #[test]
-fn one_byte_a_call(rt: HostRuntime) -> Result<(), Fail> {
+fn one_byte_a_call_gives_the_text(rt: HostRuntime) -> Result<(), Fail> {
     let given = Given {
         read_most: 1,
         write_most: 1,
@@ -99,7 +99,7 @@ fn reader_fails_at(alloc: Global, call: usize) -> Result<bool, KvError> {
 }
 
 #[test]
-fn reader_fails_at_each_call(rt: HostRuntime) -> Result<(), Fail> {
+fn a_reader_that_fails_ends_behind_whole_lines(rt: HostRuntime) -> Result<(), Fail> {
     for call in 1..SCRIPT.len() + 2 {
         assert!(rt; reader_fails_at(rt.alloc(), call)?);
     }
@@ -122,7 +122,7 @@ fn writer_fails_at(alloc: Global, call: usize) -> Result<bool, KvError> {
 }
 
 #[test]
-fn writer_fails_at_each_call(rt: HostRuntime) -> Result<(), Fail> {
+fn a_writer_that_fails_has_the_bytes_before(rt: HostRuntime) -> Result<(), Fail> {
     for call in 1..TEXT.len() + 1 {
         assert!(rt; writer_fails_at(rt.alloc(), call)?);
     }
@@ -149,7 +149,7 @@ fn calls_end_at(
 }
 
 #[test]
-fn bounds_on_read_calls(rt: HostRuntime) -> Result<(), Fail> {
+fn a_bound_on_read_calls_ends_the_run(rt: HostRuntime) -> Result<(), Fail> {
     calls_suffice(&rt, rt.alloc(), Given { calls: 6, ..SEAL })?;
     for (calls, text) in [(5, SEAL.text), (4, b""), (0, b"")] {
         calls_end_at(&rt, rt.alloc(), Given { calls, ..SEAL }, text)?;
@@ -163,7 +163,7 @@ fn bounds_on_read_calls(rt: HostRuntime) -> Result<(), Fail> {
 }
 
 #[test]
-fn reader_fails_in_the_second_line(rt: HostRuntime) -> Result<(), Fail> {
+fn a_reader_that_fails_in_a_line_answers_those_before(rt: HostRuntime) -> Result<(), Fail> {
     let given = Given {
         script: b"put a MQ==\nput b",
         read_fails_at: 2,
@@ -175,7 +175,7 @@ fn reader_fails_in_the_second_line(rt: HostRuntime) -> Result<(), Fail> {
 }
 
 #[test]
-fn last_line_without_its_end(rt: HostRuntime) -> Result<(), Fail> {
+fn a_last_line_without_its_end_is_answered(rt: HostRuntime) -> Result<(), Fail> {
     let given = Given {
         script: b"put a MQ==\nget a",
         ..FIRST
@@ -185,7 +185,7 @@ fn last_line_without_its_end(rt: HostRuntime) -> Result<(), Fail> {
 }
 
 #[test]
-fn writer_fails_after_four_bytes(rt: HostRuntime) -> Result<(), Fail> {
+fn a_writer_that_fails_has_four_bytes(rt: HostRuntime) -> Result<(), Fail> {
     let given = Given {
         write_most: 4,
         write_calls: 1,
@@ -202,7 +202,7 @@ fn writer_fails_after_four_bytes(rt: HostRuntime) -> Result<(), Fail> {
 }
 
 #[test]
-fn writer_takes_nothing(rt: HostRuntime) -> Result<(), Fail> {
+fn a_writer_that_takes_nothing_ends_the_run(rt: HostRuntime) -> Result<(), Fail> {
     let given = Given {
         write_most: 0,
         ..FIRST

@@ -79,14 +79,11 @@ fn gives_once(
 
 fn gives(alloc: Global, by: By, script: &[u8], text: &[u8]) -> Result<bool, KvError> {
     let config = named(alloc)?;
-    match gives_once(alloc, by, &config, script, text) {
-        Err(KvError::OutOfMemory) => gives_once(alloc, by, &config, script, text),
-        result => result,
-    }
+    again(|| gives_once(alloc, by, &config, script, text))
 }
 
 #[test]
-fn a_put_and_a_get_by_each_call(rt: HostRuntime) {
+fn each_call_answers_a_put_and_a_get(rt: HostRuntime) {
     for (by, script, text) in RUNS {
         let given = gives(rt.alloc(), *by, script.as_bytes(), text.as_bytes());
         equal(&rt, given, Ok(true));

@@ -72,11 +72,7 @@ fn are_answered_once(alloc: Global) -> Result<bool, KvError> {
 }
 
 #[test]
-fn one_bucket_in_both_forms(rt: HostRuntime) -> Result<(), Fail> {
-    let are_answered = match are_answered_once(rt.alloc()) {
-        Err(KvError::OutOfMemory) => are_answered_once(rt.alloc())?,
-        answered => answered?,
-    };
-    assert!(rt; are_answered);
+fn one_bucket_answers_in_both_forms(rt: HostRuntime) -> Result<(), Fail> {
+    equal(&rt, again(|| are_answered_once(rt.alloc()))?, true);
     Ok(())
 }

@@ -14,10 +14,7 @@ fn words_once(alloc: Global, arguments: &[&str]) -> Result<Vec<String>, AllocErr
 }
 
 fn words(alloc: Global, arguments: &[&str]) -> Result<Vec<String>, AllocError> {
-    match words_once(alloc, arguments) {
-        Err(AllocError) => words_once(alloc, arguments),
-        words => words,
-    }
+    again(|| words_once(alloc, arguments))
 }
 
 // What the program came to.
@@ -166,7 +163,7 @@ const SCRIPTS: &[Row] = &[
 ];
 
 #[test]
-fn scripts(rt: HostRuntime) -> Result<(), Fail> {
+fn the_program_answers_scripts(rt: HostRuntime) -> Result<(), Fail> {
     for (arguments, script, text) in SCRIPTS {
         assert!(rt; gives(&rt, rt.alloc(), arguments, script, text)?);
     }
@@ -254,7 +251,7 @@ const RACES: &[Row] = &[
 ];
 
 #[test]
-fn races(rt: HostRuntime) -> Result<(), Fail> {
+fn the_program_answers_races(rt: HostRuntime) -> Result<(), Fail> {
     for (arguments, script, text) in RACES {
         assert!(rt; gives(&rt, rt.alloc(), arguments, script, text)?);
     }
@@ -300,7 +297,7 @@ fn begins(text: &[u8], begin: &str) -> bool {
 }
 
 #[test]
-fn arguments_that_run_nothing(rt: HostRuntime) -> Result<(), Fail> {
+fn these_arguments_run_nothing(rt: HostRuntime) -> Result<(), Fail> {
     for (arguments, status, text, faults) in ALONE {
         let done = run(&rt, rt.alloc(), arguments, "put a -\n", "")?;
         equal(&rt, done.status, *status);

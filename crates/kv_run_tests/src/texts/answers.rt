@@ -1,12 +1,12 @@
 //! Answers without entries, by the texts of the script's rules and of worked rows.
-//!
-//! A request for memory that is refused is made again: a second refusal in a row does not come.
+
 use kv_keys::KvError;
 use kv_model::Status;
 use kv_script::{
     append_compacted, append_empty, append_marker, append_place, append_refusal, append_revision,
     append_sealed, append_status, append_stopped, append_told, append_watch, append_worker_refusal,
 };
+use kv_test_tools::again;
 use std::alloc::{AllocError, Global};
 use std::process::Abort;
 use std::test::Fail;
@@ -20,12 +20,12 @@ enum Answer {
     Watch(u64),
     Marker(u64),
     Empty(u64),
-    Stopped(u64, u64),
-    Status(Status, u64),
+    Stopped { watch: u64, handed: u64 },
+    Status { status: Status, watches: u64 },
     Place(u32),
-    Told(u64, u64),
+    Told { worker: u64, revision: u64 },
     Refusal(KvError),
-    WorkerRefusal(u64, KvError),
+    WorkerRefusal { worker: u64, error: KvError },
 }
 
 const STATUS: Status = Status {
@@ -49,14 +49,26 @@ const ANSWERS: &[(Answer, &str)] = &[
     (Answer::Watch(1), "{\"watch\":1}\n"),
     (Answer::Marker(1), "{\"marker\":true,\"watch\":1}\n"),
     (Answer::Empty(2), "{\"empty\":true,\"watch\":2}\n"),
-    (Answer::Stopped(1, 5), "{\"handed\":5,\"stopped\":1}\n"),
     (
-        Answer::Status(STATUS, 3),
+        Answer::Stopped {
+            watch: 1,
+            handed: 5,
+        },
+        "{\"handed\":5,\"stopped\":1}\n",
+    ),
+    (
+        Answer::Status {
+            status: STATUS,
+            watches: 3,
+        },
         "{\"bucket\":\"kv\",\"history\":1,\"last\":7,\"sealed\":false,\"stored\":7,\"values\":4,\"watches\":3}\n",
     ),
     (Answer::Place(0x0c9dc5), "{\"place\":\"000c9dc5\"}\n"),
     (
-        Answer::Told(2, 4294967295),
+        Answer::Told {
+            worker: 2,
+            revision: 4_294_967_295,
+        },
         "{\"revision\":4294967295,\"worker\":2}\n",
     ),
     (
@@ -80,19 +92,31 @@ const ANSWERS: &[(Answer, &str)] = &[
         "{\"code\":21,\"error\":\"Lagged\",\"floor\":9}\n",
     ),
     (
-        Answer::WorkerRefusal(1, KvError::Sealed),
+        Answer::WorkerRefusal {
+            worker: 1,
+            error: KvError::Sealed,
+        },
         "{\"code\":8,\"error\":\"Sealed\",\"worker\":1}\n",
     ),
     (
-        Answer::WorkerRefusal(2, LAST),
+        Answer::WorkerRefusal {
+            worker: 2,
+            error: LAST,
+        },
         "{\"code\":11,\"error\":\"WrongLastRevision\",\"last\":0,\"worker\":2}\n",
     ),
     (
-        Answer::WorkerRefusal(3, BEHIND),
+        Answer::WorkerRefusal {
+            worker: 3,
+            error: BEHIND,
+        },
         "{\"code\":20,\"error\":\"WatchBehind\",\"watch\":4,\"worker\":3}\n",
     ),
     (
-        Answer::WorkerRefusal(4, LAGGED),
+        Answer::WorkerRefusal {
+            worker: 4,
+            error: LAGGED,
+        },
         "{\"code\":21,\"error\":\"Lagged\",\"floor\":9,\"worker\":4}\n",
     ),
 ];
@@ -105,21 +129,18 @@ fn append(alloc: Global, out: &mut Vec<u8>, answer: Answer) -> Result<(), AllocE
         Answer::Watch(watch) => append_watch(alloc, out, watch),
         Answer::Marker(watch) => append_marker(alloc, out, watch),
         Answer::Empty(watch) => append_empty(alloc, out, watch),
-        Answer::Stopped(watch, handed) => append_stopped(alloc, out, watch, handed),
-        Answer::Status(status, watches) => append_status(alloc, out, "kv", status, watches),
+        Answer::Stopped { watch, handed } => append_stopped(alloc, out, watch, handed),
+        Answer::Status { status, watches } => append_status(alloc, out, "kv", status, watches),
         Answer::Place(place) => append_place(alloc, out, place),
-        Answer::Told(worker, revision) => append_told(alloc, out, worker, revision),
+        Answer::Told { worker, revision } => append_told(alloc, out, worker, revision),
         Answer::Refusal(error) => append_refusal(alloc, out, error),
-        Answer::WorkerRefusal(worker, error) => append_worker_refusal(alloc, out, worker, error),
+        Answer::WorkerRefusal { worker, error } => append_worker_refusal(alloc, out, worker, error),
     }
 }
 
 // Appended once more where memory was refused: nothing was appended then.
 fn appended(alloc: Global, out: &mut Vec<u8>, answer: Answer) -> Result<(), AllocError> {
-    match append(alloc, out, answer) {
-        Err(AllocError) => append(alloc, out, answer),
-        Ok(()) => Ok(()),
-    }
+    again(|| append(alloc, out, answer))
 }
 
 fn has_text<R: Abort>(rt: &R, alloc: Global, answer: Answer, text: &str) -> Result<(), AllocError> {
@@ -137,7 +158,7 @@ fn have_texts<R: Abort>(rt: &R, alloc: Global, rows: &[(Answer, &str)]) -> Resul
 }
 
 #[test]
-fn answers_without_entries(rt: HostRuntime) -> Result<(), Fail> {
+fn answers_have_these_texts(rt: HostRuntime) -> Result<(), Fail> {
     have_texts(&rt, rt.alloc(), ANSWERS)?;
     Ok(())
 }

@@ -1,133 +1,146 @@
 //! Answers with entries and keys, by the texts of the script's rules and of worked rows.
-//!
-//! A request for memory that is refused is made again: a second refusal in a row does not come.
+
 use kv_keys::{Key, KvError};
 use kv_model::{Op, Write};
 use kv_script::{Form, append_entry, append_history, append_keys, append_taken_entry};
+use kv_test_tools::again;
 use std::alloc::{AllocError, Global};
 use std::process::Abort;
 use std::test::Fail;
 
-// An entry of the key `a.b` that a watch hands out: the form, the watch, the operation, the revision, the size and the
-// value, if it is shown; and the text.
-type Taken = (Form, u64, Op, u64, u64, Option<&'static [u8]>, &'static str);
+// An entry of the key `a.b` that a watch hands out.
+#[derive(Clone, Copy)]
+struct Taken {
+    form: Form,
+    watch: u64,
+    op: Op,
+    revision: u64,
+    size: u64,
+    // If it is shown.
+    value: Option<&'static [u8]>,
+}
 
-const TAKEN: &[Taken] = &[
+const IN_BASE64: Taken = Taken {
+    form: Form::Base64,
+    watch: 1,
+    op: Op::Put,
+    revision: 7,
+    size: 0,
+    value: None,
+};
+
+const IN_TEXT: Taken = Taken {
+    form: Form::Text,
+    ..IN_BASE64
+};
+
+const TAKEN: &[(Taken, &str)] = &[
     (
-        Form::Base64,
-        1,
-        Op::Put,
-        2,
-        1,
-        Some(b"2"),
+        Taken {
+            revision: 2,
+            size: 1,
+            value: Some(b"2"),
+            ..IN_BASE64
+        },
         "{\"key\":\"a.b\",\"op\":\"PUT\",\"revision\":2,\"size\":1,\"value\":\"Mg==\",\"watch\":1}\n",
     ),
     (
-        Form::Base64,
-        1,
-        Op::Put,
-        3,
-        0,
-        Some(b""),
+        Taken {
+            revision: 3,
+            value: Some(b""),
+            ..IN_BASE64
+        },
         "{\"key\":\"a.b\",\"op\":\"PUT\",\"revision\":3,\"size\":0,\"value\":\"\",\"watch\":1}\n",
     ),
     (
-        Form::Base64,
-        2,
-        Op::Put,
-        4,
-        3,
-        None,
+        Taken {
+            watch: 2,
+            revision: 4,
+            size: 3,
+            ..IN_BASE64
+        },
         "{\"key\":\"a.b\",\"op\":\"PUT\",\"revision\":4,\"size\":3,\"watch\":2}\n",
     ),
     (
-        Form::Base64,
-        2,
-        Op::Delete,
-        5,
-        0,
-        None,
+        Taken {
+            watch: 2,
+            op: Op::Delete,
+            revision: 5,
+            ..IN_BASE64
+        },
         "{\"key\":\"a.b\",\"op\":\"DEL\",\"revision\":5,\"size\":0,\"watch\":2}\n",
     ),
     (
-        Form::Base64,
-        2,
-        Op::Purge,
-        6,
-        0,
-        None,
+        Taken {
+            watch: 2,
+            op: Op::Purge,
+            revision: 6,
+            ..IN_BASE64
+        },
         "{\"key\":\"a.b\",\"op\":\"PURGE\",\"revision\":6,\"size\":0,\"watch\":2}\n",
     ),
     (
-        Form::Text,
-        1,
-        Op::Put,
-        7,
-        10,
-        Some(b"hello, you"),
+        Taken {
+            size: 10,
+            value: Some(b"hello, you"),
+            ..IN_TEXT
+        },
         "{\"key\":\"a.b\",\"op\":\"PUT\",\"revision\":7,\"size\":10,\"value\":\"hello, you\",\"watch\":1}\n",
     ),
     (
-        Form::Text,
-        1,
-        Op::Put,
-        7,
-        0,
-        Some(b""),
+        Taken {
+            value: Some(b""),
+            ..IN_TEXT
+        },
         "{\"key\":\"a.b\",\"op\":\"PUT\",\"revision\":7,\"size\":0,\"value\":\"\",\"watch\":1}\n",
     ),
     (
-        Form::Text,
-        1,
-        Op::Put,
-        7,
-        5,
-        Some(b"\"\\\n\x01\x7f"),
+        Taken {
+            size: 5,
+            value: Some(b"\"\\\n\x01\x7f"),
+            ..IN_TEXT
+        },
         "{\"key\":\"a.b\",\"op\":\"PUT\",\"revision\":7,\"size\":5,\"value\":\"\\\"\\\\\\n\\u0001\u{7f}\",\"watch\":1}\n",
     ),
     (
-        Form::Text,
-        1,
-        Op::Put,
-        7,
-        6,
-        Some(b"\xc3\xa9\xf0\x9f\x98\x80"),
+        Taken {
+            size: 6,
+            value: Some(b"\xc3\xa9\xf0\x9f\x98\x80"),
+            ..IN_TEXT
+        },
         "{\"key\":\"a.b\",\"op\":\"PUT\",\"revision\":7,\"size\":6,\"value\":\"\u{e9}\u{1f600}\",\"watch\":1}\n",
     ),
     (
-        Form::Text,
-        1,
-        Op::Put,
-        7,
-        2,
-        Some(b"\xff\x00"),
+        Taken {
+            size: 2,
+            value: Some(b"\xff\x00"),
+            ..IN_TEXT
+        },
         "{\"base64\":\"/wA=\",\"key\":\"a.b\",\"op\":\"PUT\",\"revision\":7,\"size\":2,\"watch\":1}\n",
     ),
     (
-        Form::Text,
-        1,
-        Op::Put,
-        7,
-        2,
-        Some(b"a\xc3"),
+        Taken {
+            size: 2,
+            value: Some(b"a\xc3"),
+            ..IN_TEXT
+        },
         "{\"base64\":\"YcM=\",\"key\":\"a.b\",\"op\":\"PUT\",\"revision\":7,\"size\":2,\"watch\":1}\n",
     ),
     (
-        Form::Text,
-        2,
-        Op::Put,
-        7,
-        3,
-        None,
+        Taken {
+            watch: 2,
+            size: 3,
+            ..IN_TEXT
+        },
         "{\"key\":\"a.b\",\"op\":\"PUT\",\"revision\":7,\"size\":3,\"watch\":2}\n",
     ),
     (
-        Form::Text,
-        2,
-        Op::Delete,
-        8,
-        0,
-        None,
+        Taken {
+            watch: 2,
+            op: Op::Delete,
+            revision: 8,
+            ..IN_TEXT
+        },
         "{\"key\":\"a.b\",\"op\":\"DEL\",\"revision\":8,\"size\":0,\"watch\":2}\n",
     ),
 ];
@@ -143,32 +156,52 @@ const READ_IN_TEXT: &str = "{\"entries\":[]}\n\
 const KEYS: &str = "{\"keys\":[]}\n{\"keys\":[\"a.b\",\"zinke\"]}\n";
 
 fn key(alloc: Global, text: &str) -> Result<Key, KvError> {
-    match Key::parse(alloc, text) {
-        Err(KvError::OutOfMemory) => Key::parse(alloc, text),
-        parsed => parsed,
-    }
+    again(|| Key::parse(alloc, text))
+}
+
+fn put_once(alloc: Global, value: &[u8], revision: u64) -> Result<Write, KvError> {
+    let key = Key::parse(alloc, "a.b")?;
+    Write::new(alloc, key, Op::Put, value, revision)
 }
 
 fn put(alloc: Global, value: &[u8], revision: u64) -> Result<Write, KvError> {
-    match Write::new(alloc, key(alloc, "a.b")?, Op::Put, value, revision) {
-        Err(KvError::OutOfMemory) => {
-            Write::new(alloc, key(alloc, "a.b")?, Op::Put, value, revision)
-        }
-        write => write,
-    }
+    again(|| put_once(alloc, value, revision))
 }
 
-fn taken_once(alloc: Global, out: &mut Vec<u8>, key: &Key, taken: Taken) -> Result<(), AllocError> {
-    let (form, watch, op, revision, size, value, _) = taken;
-    append_taken_entry(alloc, form, out, watch, key, op, revision, size, value)
+fn append_taken(
+    alloc: Global,
+    out: &mut Vec<u8>,
+    key: &Key,
+    taken: Taken,
+) -> Result<(), AllocError> {
+    append_taken_entry(
+        alloc,
+        taken.form,
+        out,
+        taken.watch,
+        key,
+        taken.op,
+        taken.revision,
+        taken.size,
+        taken.value,
+    )
 }
 
-fn has_text<R: Abort>(rt: &R, alloc: Global, key: &Key, taken: Taken) -> Result<(), AllocError> {
+// Appended once more where memory was refused: nothing was appended then.
+fn appended(alloc: Global, out: &mut Vec<u8>, key: &Key, taken: Taken) -> Result<(), AllocError> {
+    again(|| append_taken(alloc, out, key, taken))
+}
+
+fn has_text<R: Abort>(
+    rt: &R,
+    alloc: Global,
+    key: &Key,
+    taken: Taken,
+    text: &str,
+) -> Result<(), AllocError> {
     let mut out = Vec::new(alloc);
-    if taken_once(alloc, &mut out, key, taken).is_err() {
-        taken_once(alloc, &mut out, key, taken)?;
-    }
-    assert!(rt; out.as_slice() == taken.6.as_bytes(), "{}", taken.6);
+    appended(alloc, &mut out, key, taken)?;
+    assert!(rt; out.as_slice() == text.as_bytes(), "{text}");
     Ok(())
 }
 
@@ -176,26 +209,23 @@ fn have_texts<R: Abort>(
     rt: &R,
     alloc: Global,
     key: &Key,
-    rows: &[Taken],
+    rows: &[(Taken, &str)],
 ) -> Result<(), AllocError> {
-    for taken in rows {
-        has_text(rt, alloc, key, *taken)?;
+    for (taken, text) in rows {
+        has_text(rt, alloc, key, *taken, text)?;
     }
     Ok(())
 }
 
 #[test]
-fn taken_entries(rt: HostRuntime) -> Result<(), Fail> {
+fn entries_of_takes_have_these_texts(rt: HostRuntime) -> Result<(), Fail> {
     let key = key(rt.alloc(), "a.b")?;
     have_texts(&rt, rt.alloc(), &key, TAKEN)?;
     Ok(())
 }
 
 fn entry(alloc: Global, form: Form, out: &mut Vec<u8>, write: &Write) -> Result<(), AllocError> {
-    match append_entry(alloc, form, out, write) {
-        Err(AllocError) => append_entry(alloc, form, out, write),
-        Ok(()) => Ok(()),
-    }
+    again(|| append_entry(alloc, form, out, write))
 }
 
 fn history(
@@ -204,10 +234,7 @@ fn history(
     out: &mut Vec<u8>,
     writes: &[&Write],
 ) -> Result<(), AllocError> {
-    match append_history(alloc, form, out, writes) {
-        Err(AllocError) => append_history(alloc, form, out, writes),
-        Ok(()) => Ok(()),
-    }
+    again(|| append_history(alloc, form, out, writes))
 }
 
 // No history, the first of two entries, and the history of both.
@@ -243,7 +270,7 @@ fn reads_in_both<R: Abort>(
 }
 
 #[test]
-fn entries_of_reads(rt: HostRuntime) -> Result<(), Fail> {
+fn entries_of_reads_have_these_texts(rt: HostRuntime) -> Result<(), Fail> {
     let first = put(rt.alloc(), b"a b", 1)?;
     let second = put(rt.alloc(), b"\xfe", 2)?;
     reads_in_both(&rt, rt.alloc(), &first, &second)?;
@@ -251,14 +278,11 @@ fn entries_of_reads(rt: HostRuntime) -> Result<(), Fail> {
 }
 
 fn keys(alloc: Global, out: &mut Vec<u8>, keys: &[&Key]) -> Result<(), AllocError> {
-    match append_keys(alloc, out, keys) {
-        Err(AllocError) => append_keys(alloc, out, keys),
-        Ok(()) => Ok(()),
-    }
+    again(|| append_keys(alloc, out, keys))
 }
 
 #[test]
-fn keys_that_match(rt: HostRuntime) -> Result<(), Fail> {
+fn keys_have_this_text(rt: HostRuntime) -> Result<(), Fail> {
     let alloc = rt.alloc();
     let mut out = Vec::new(alloc);
     let first = key(alloc, "a.b")?;

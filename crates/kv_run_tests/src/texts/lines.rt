@@ -1,9 +1,9 @@
 //! Lines by texts from outside: the rules of the script's grammar, and worked rows of scripts.
-//!
-//! A request for memory that is refused is made again: a second refusal in a row does not come.
+
 use kv_keys::KvError;
 use kv_model::{Options, Request, Start};
 use kv_script::{Command, Form, is_skipped, parse};
+use kv_test_tools::again;
 use std::alloc::{AllocError, Global};
 use std::process::Abort;
 use std::test::Fail;
@@ -113,10 +113,7 @@ const WATCHES: &[(&str, Start, bool, bool)] = &[
 ];
 
 pub(crate) fn parsed(alloc: Global, form: Form, line: &[u8]) -> Result<Command, KvError> {
-    match parse(alloc, form, line) {
-        Err(KvError::OutOfMemory) => parse(alloc, form, line),
-        parsed => parsed,
-    }
+    again(|| parse(alloc, form, line))
 }
 
 // The name of a write, its key, its value and its revision, if it has one.
@@ -178,13 +175,13 @@ fn all_ask<R: Abort>(rt: &R, alloc: Global, rows: &[(Form, &str, Asked)]) -> Res
 }
 
 #[test]
-fn commands(rt: HostRuntime) -> Result<(), Fail> {
+fn lines_ask_for_these_commands(rt: HostRuntime) -> Result<(), Fail> {
     all_ask(&rt, rt.alloc(), COMMANDS)?;
     Ok(())
 }
 
 #[test]
-fn options(rt: HostRuntime) -> Result<(), Fail> {
+fn watches_have_these_options(rt: HostRuntime) -> Result<(), Fail> {
     for (line, start, ignore_deletes, headers_only) in WATCHES {
         let options = Options {
             start: *start,
@@ -207,10 +204,7 @@ fn long_line_once(alloc: Global, begin: &[u8]) -> Result<Vec<u8>, AllocError> {
 }
 
 fn long_line(alloc: Global, begin: &[u8]) -> Result<Vec<u8>, AllocError> {
-    match long_line_once(alloc, begin) {
-        Err(AllocError) => long_line_once(alloc, begin),
-        line => line,
-    }
+    again(|| long_line_once(alloc, begin))
 }
 
 // How many bytes the value has that a long line puts, or why the line is refused.
@@ -222,14 +216,14 @@ fn long_value(alloc: Global, begin: &[u8]) -> Result<usize, KvError> {
 
 // A line has 1,400,000 bytes at most.
 #[test]
-fn lengths_of_lines(rt: HostRuntime) {
+fn a_line_has_at_most_1_400_000_bytes(rt: HostRuntime) {
     let alloc = rt.alloc();
     assert!(rt; long_value(alloc, b"put abc ") == Ok(1_049_994));
     assert!(rt; long_value(alloc, b"put abcd ") == Err(KvError::BadCommand));
 }
 
 #[test]
-fn skipped_lines(rt: HostRuntime) {
+fn empty_lines_and_comments_are_skipped(rt: HostRuntime) {
     for line in ["", "#", "# put a -"] {
         holds(&rt, line, is_skipped(line.as_bytes()));
     }

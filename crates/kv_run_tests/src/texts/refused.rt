@@ -1,4 +1,5 @@
 //! Lines that are refused, and by what, in both forms of values.
+
 use crate::texts::lines::{holds, parsed};
 use kv_keys::KvError;
 use kv_script::Form;
@@ -138,7 +139,7 @@ fn refuse<R: Abort>(rt: &R, alloc: Global, form: Form, lines: &[&str], error: Kv
 }
 
 #[test]
-fn refused_lines(rt: HostRuntime) {
+fn lines_are_refused_by_these_faults(rt: HostRuntime) {
     refuse(
         &rt,
         rt.alloc(),
@@ -178,7 +179,7 @@ fn refused_lines(rt: HostRuntime) {
 }
 
 #[test]
-fn lines_that_are_no_text(rt: HostRuntime) {
+fn a_line_that_is_no_text_is_no_command(rt: HostRuntime) {
     let alloc = rt.alloc();
     assert!(rt; refusal(alloc, Form::Base64, b"get \xff") == Some(KvError::BadCommand));
     assert!(rt; refusal(alloc, Form::Text, b"put k \xff") == Some(KvError::BadCommand));

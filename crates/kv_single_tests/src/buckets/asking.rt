@@ -38,7 +38,7 @@ fn done(done: Result<(), KvError>, answer: Answer) -> Answer {
 fn compact(rt: &impl Abort, bucket: &mut Bucket, floor: u64) -> Answer {
     let may = done(bucket.may_compact(floor), Answer::Compacted(floor));
     let answer = done(bucket.compact(floor), Answer::Compacted(floor));
-    if !lacks_memory(answer) {
+    if answer.refusal() != Some(KvError::OutOfMemory) {
         equal(rt, answer, may);
     }
     answer
@@ -108,11 +108,7 @@ fn ask_once(rt: &impl Abort, alloc: Global, bucket: &mut Bucket, ask: Ask) -> An
 }
 
 fn ask(rt: &impl Abort, alloc: Global, bucket: &mut Bucket, ask: Ask) -> Answer {
-    let answer = ask_once(rt, alloc, bucket, ask);
-    if lacks_memory(answer) {
-        return ask_once(rt, alloc, bucket, ask);
-    }
-    answer
+    again(|| ask_once(rt, alloc, bucket, ask))
 }
 
 fn ask_beside(
@@ -122,14 +118,11 @@ fn ask_beside(
     twin: &Bucket,
     ask: Ask,
 ) -> Answer {
-    let answer = ask_once(rt, alloc, bucket, ask);
-    if is_refused(answer) {
-        look_alike(rt, bucket, twin);
-    }
-    if lacks_memory(answer) {
-        return ask_once(rt, alloc, bucket, ask);
-    }
-    answer
+    again_on(
+        bucket,
+        |bucket| look_alike(rt, bucket, twin),
+        |bucket| ask_once(rt, alloc, bucket, ask),
+    )
 }
 
 // Each row is asked of the bucket and then of its twin.

@@ -4,12 +4,6 @@ use super::*;
 
 const LARGEST_VALUE: usize = 1_048_576;
 
-fn put(alloc: Global, key: &str, value: &str) -> Result<Request, KvError> {
-    let key = Key::parse(alloc, key)?;
-    let value = Vec::from_slice(alloc, value.as_bytes())?;
-    Ok(Request::Put { key, value })
-}
-
 fn longest_key(alloc: Global) -> Result<Key, KvError> {
     let mut text = String::new(alloc);
     for _ in 0..255 {
@@ -33,25 +27,14 @@ fn create(alloc: Global, key: &str) -> Result<Request, KvError> {
     })
 }
 
-fn delete(alloc: Global, key: &str) -> Result<Request, KvError> {
-    let key = Key::parse(alloc, key)?;
-    Ok(Request::Delete { key, last: None })
-}
-
-fn purge(alloc: Global, key: &str, last: u64) -> Result<Request, KvError> {
-    let key = Key::parse(alloc, key)?;
-    let last = Some(last);
-    Ok(Request::Purge { key, last })
-}
-
 // The request of a write. Other asks are none.
 pub(super) fn request(alloc: Global, ask: Ask) -> Result<Option<Request>, KvError> {
     match ask {
         Ask::Put(key, value) => Ok(Some(put(alloc, key, value)?)),
         Ask::PutLongest => Ok(Some(put_longest(alloc)?)),
         Ask::Create(key) => Ok(Some(create(alloc, key)?)),
-        Ask::Delete(key) => Ok(Some(delete(alloc, key)?)),
-        Ask::Purge(key, last) => Ok(Some(purge(alloc, key, last)?)),
+        Ask::Delete(key) => Ok(Some(delete(alloc, key, None)?)),
+        Ask::Purge(key, last) => Ok(Some(purge(alloc, key, Some(last))?)),
         _ => Ok(None),
     }
 }

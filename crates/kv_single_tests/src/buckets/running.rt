@@ -12,10 +12,7 @@ fn calls_once(alloc: Global, rows: &[Row]) -> Result<Vec<Call>, KvError> {
 }
 
 fn calls(alloc: Global, rows: &[Row]) -> Result<Vec<Call>, KvError> {
-    match calls_once(alloc, rows) {
-        Err(KvError::OutOfMemory) => calls_once(alloc, rows),
-        calls => calls,
-    }
+    again(|| calls_once(alloc, rows))
 }
 
 fn brief(reply: &Reply) -> Answer {
@@ -43,7 +40,7 @@ fn looks_asked(
     bucket: &Bucket,
     rows: &[Row],
 ) -> Result<(), KvError> {
-    let mut other = open(alloc, "kv", limits)?;
+    let mut other = open(alloc, limits)?;
     asking::ask_each(rt, alloc, &mut other, rows);
     look_alike(rt, bucket, &other);
     Ok(())

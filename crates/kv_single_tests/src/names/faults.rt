@@ -125,30 +125,82 @@ const KINDS: &[(&str, Kind)] = &[
 ];
 
 #[test]
-fn kinds_of_texts(rt: HostRuntime) {
+fn texts_are_keys_filters_or_lists(rt: HostRuntime) {
     for (text, kind) in KINDS {
         is_of_kind(&rt, rt.alloc(), text, *kind);
     }
 }
 
-// A text by its start, a part, how often that comes, and its end. 255 bytes bound each filter of a list, and not the
-// text of the list; it has 16 filters at most.
-const LENGTHS: &[(&str, &str, u64, &str, Kind)] = &[
-    ("", "a", 255, "", KEY),
-    ("", "a", 256, "", NOTHING),
-    ("", "a.", 127, ">", PATTERN),
-    ("", "aa", 127, ".>", NOTHING),
-    ("", "a", 255, ",b", [0, 0, 2]),
-    ("", "a", 256, ",b", NOTHING),
-    ("b,", "a", 256, "", NOTHING),
-    ("", "a,", 15, ">", [0, 0, 16]),
-    ("", "a,", 16, ">", NOTHING),
+const A: Repeated = Repeated {
+    start: "",
+    part: "a",
+    count: 255,
+    end: "",
+};
+
+// 255 bytes bound each filter of a list, and not the text of the list; it has 16 filters at most.
+const LENGTHS: &[(Repeated, Kind)] = &[
+    (A, KEY),
+    (Repeated { count: 256, ..A }, NOTHING),
+    (
+        Repeated {
+            part: "a.",
+            count: 127,
+            end: ">",
+            ..A
+        },
+        PATTERN,
+    ),
+    (
+        Repeated {
+            part: "aa",
+            count: 127,
+            end: ".>",
+            ..A
+        },
+        NOTHING,
+    ),
+    (Repeated { end: ",b", ..A }, [0, 0, 2]),
+    (
+        Repeated {
+            count: 256,
+            end: ",b",
+            ..A
+        },
+        NOTHING,
+    ),
+    (
+        Repeated {
+            start: "b,",
+            count: 256,
+            ..A
+        },
+        NOTHING,
+    ),
+    (
+        Repeated {
+            part: "a,",
+            count: 15,
+            end: ">",
+            ..A
+        },
+        [0, 0, 16],
+    ),
+    (
+        Repeated {
+            part: "a,",
+            count: 16,
+            end: ">",
+            ..A
+        },
+        NOTHING,
+    ),
 ];
 
 #[test]
-fn lengths(rt: HostRuntime) -> Result<(), Fail> {
-    for (start, part, count, end, kind) in LENGTHS {
-        let text = repeated(rt.alloc(), start, part, *count, end)?;
+fn a_filter_has_255_bytes_and_a_list_16_filters(rt: HostRuntime) -> Result<(), Fail> {
+    for (repeated, kind) in LENGTHS {
+        let text = text_of(rt.alloc(), *repeated)?;
         is_of_kind(&rt, rt.alloc(), text.as_str(), *kind);
     }
     Ok(())
@@ -182,7 +234,7 @@ const NAMES: &[(&str, bool)] = &[
 ];
 
 #[test]
-fn names_of_buckets(rt: HostRuntime) {
+fn these_texts_name_buckets(rt: HostRuntime) {
     for (text, answer) in NAMES {
         assert!(rt; is_name(text) == *answer, "{text}");
     }

@@ -21,7 +21,7 @@ fn has_places(rt: &impl Abort, key: Key, text: &str, hash: u32) {
 
 // The empty text has a hash too; it is no key.
 #[test]
-fn hashes(rt: HostRuntime) -> Result<(), Fail> {
+fn places_are_the_published_hashes(rt: HostRuntime) -> Result<(), Fail> {
     equal(&rt, fnv32(b""), 0x811c9dc5);
     for (text, hash) in HASHES {
         has_places(&rt, made(rt.alloc(), text)?, text, *hash);

@@ -2,11 +2,8 @@
 
 use super::*;
 
-fn text_of(alloc: Global, error: KvError) -> Result<String, AllocError> {
-    match error.to_string(alloc) {
-        Err(AllocError) => error.to_string(alloc),
-        text => text,
-    }
+fn shown(alloc: Global, error: KvError) -> Result<String, AllocError> {
+    again(|| error.to_string(alloc))
 }
 
 fn has_code_and_name(
@@ -18,7 +15,7 @@ fn has_code_and_name(
 ) -> Result<(), AllocError> {
     equal(rt, error.code(), code);
     equal(rt, error.name(), name);
-    let text = text_of(alloc, error)?;
+    let text = shown(alloc, error)?;
     equal(rt, text.as_str(), name);
     Ok(())
 }
@@ -52,7 +49,7 @@ const REFUSALS: &[(KvError, u64, &str)] = &[
 ];
 
 #[test]
-fn codes_and_names(rt: HostRuntime) -> Result<(), Fail> {
+fn each_refusal_has_its_code_and_name(rt: HostRuntime) -> Result<(), Fail> {
     for (error, code, name) in REFUSALS {
         has_code_and_name(&rt, rt.alloc(), *error, *code, name)?;
     }

@@ -35,13 +35,12 @@ fn keys_are_ordered_by_bytes(rt: HostRuntime) -> Result<(), Fail> {
 
 // A copy, made again after a refusal, which leaves the text.
 fn copy_of<T: Parsed>(rt: &impl Abort, alloc: Global, from: &T, text: &str) -> Result<T, KvError> {
-    match from.copied(alloc) {
-        Err(KvError::OutOfMemory) => {
-            equal(rt, from.text(), text);
-            from.copied(alloc)
-        }
-        copy => copy,
-    }
+    let mut from = from;
+    again_on(
+        &mut from,
+        |from| equal(rt, from.text(), text),
+        |from| from.copied(alloc),
+    )
 }
 
 fn is_copied<T: Parsed>(rt: &impl Abort, alloc: Global, text: &str) -> Result<(), KvError> {
@@ -53,7 +52,7 @@ fn is_copied<T: Parsed>(rt: &impl Abort, alloc: Global, text: &str) -> Result<()
 }
 
 #[test]
-fn copies(rt: HostRuntime) -> Result<(), Fail> {
+fn a_copy_has_the_same_text(rt: HostRuntime) -> Result<(), Fail> {
     is_copied::<Key>(&rt, rt.alloc(), "a.b")?;
     is_copied::<Key>(&rt, rt.alloc(), "services.billing.port.v1")?;
     is_copied::<Key>(&rt, rt.alloc(), "services.billing.port.v12")?;
@@ -62,18 +61,18 @@ fn copies(rt: HostRuntime) -> Result<(), Fail> {
     Ok(())
 }
 
+// The list of one filter. A refusal leaves the filter.
 fn list_of_one(rt: &impl Abort, alloc: Global, from: &Filter) -> Result<Filters, KvError> {
-    match Filters::one(alloc, from) {
-        Err(KvError::OutOfMemory) => {
-            equal(rt, from.as_str(), "a.*");
-            Filters::one(alloc, from)
-        }
-        list => list,
-    }
+    let mut from = from;
+    again_on(
+        &mut from,
+        |from| equal(rt, from.as_str(), "a.*"),
+        |from| Filters::one(alloc, from),
+    )
 }
 
 #[test]
-fn lists_of_one_filter(rt: HostRuntime) -> Result<(), Fail> {
+fn a_list_of_one_filter_has_its_text(rt: HostRuntime) -> Result<(), Fail> {
     let pattern: Filter = made(rt.alloc(), "a.*")?;
     let one = list_of_one(&rt, rt.alloc(), &pattern)?;
     equal(&rt, one.as_str(), "a.*");

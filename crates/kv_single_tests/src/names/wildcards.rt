@@ -60,7 +60,7 @@ const MATCHES: &[(&str, &str, bool)] = &[
 ];
 
 #[test]
-fn wildcards(rt: HostRuntime) -> Result<(), Fail> {
+fn filters_match_whole_tokens(rt: HostRuntime) -> Result<(), Fail> {
     for (pattern, text, answer) in MATCHES {
         answers(&rt, rt.alloc(), pattern, text, *answer)?;
     }
@@ -69,17 +69,38 @@ fn wildcards(rt: HostRuntime) -> Result<(), Fail> {
 
 // As many tokens as 255 bytes have room for, where a search that goes back would take long: so many stars before an
 // end, and so many tokens before a last one.
-const MANY: &[(u64, &str, u64, bool)] = &[
-    (127, ">", 127, true),
-    (127, ">", 126, false),
-    (127, "b", 127, false),
+const MANY: &[(Repeated, Repeated, bool)] = &[
+    (STARS, TOKENS, true),
+    (
+        STARS,
+        Repeated {
+            count: 126,
+            ..TOKENS
+        },
+        false,
+    ),
+    (Repeated { end: "b", ..STARS }, TOKENS, false),
 ];
 
+const STARS: Repeated = Repeated {
+    start: "",
+    part: "*.",
+    count: 127,
+    end: ">",
+};
+
+const TOKENS: Repeated = Repeated {
+    start: "",
+    part: "a.",
+    count: 127,
+    end: "a",
+};
+
 #[test]
-fn many_tokens(rt: HostRuntime) -> Result<(), Fail> {
-    for (stars, end, tokens, answer) in MANY {
-        let pattern = repeated(rt.alloc(), "", "*.", *stars, end)?;
-        let text = repeated(rt.alloc(), "", "a.", *tokens, "a")?;
+fn filters_of_many_tokens_match(rt: HostRuntime) -> Result<(), Fail> {
+    for (pattern, text, answer) in MANY {
+        let pattern = text_of(rt.alloc(), *pattern)?;
+        let text = text_of(rt.alloc(), *text)?;
         answers(&rt, rt.alloc(), pattern.as_str(), text.as_str(), *answer)?;
     }
     Ok(())

@@ -17,34 +17,28 @@ const PUTS: [(&str, u32); 8] = [
     ("zinke", 81),
 ];
 
-fn put_in_both(
-    alloc: Global,
-    keys: &mut Numbers<Key>,
-    shorts: &mut Numbers<Short>,
-    text: &str,
-    value: u32,
-) -> Result<(), KvError> {
+#[derive(Drop)]
+struct Both {
+    keys: Numbers<Key>,
+    shorts: Numbers<Short>,
+}
+
+fn put_in_both(alloc: Global, both: &mut Both, text: &str, value: u32) -> Result<(), KvError> {
     let key = Key::named(alloc, text)?;
     let short = Short::named(alloc, text)?;
-    if keys.len() < MANY && shorts.len() < MANY {
+    if both.keys.len() < MANY && both.shorts.len() < MANY {
         let of_key = NewPair::Owned((key, value));
         let of_short = NewPair::Shared(Arc::new(alloc, (short, value))?);
-        put_both(alloc, keys, of_key, shorts, of_short)
+        put_both(alloc, &mut both.keys, of_key, &mut both.shorts, of_short)
     } else {
         Err(KvError::JournalFull)
     }
 }
 
 // Both tries are those of so many of the puts, built apart.
-fn have(
-    rt: &impl Abort,
-    alloc: Global,
-    keys: &Numbers<Key>,
-    shorts: &Numbers<Short>,
-    puts: &[(&str, u32)],
-) -> Result<(), KvError> {
-    are_same(rt, keys, &built(alloc, puts)?);
-    are_same(rt, shorts, &built(alloc, puts)?);
+fn have(rt: &impl Abort, alloc: Global, both: &Both, puts: &[(&str, u32)]) -> Result<(), KvError> {
+    are_same(rt, &both.keys, &built(alloc, puts)?);
+    are_same(rt, &both.shorts, &built(alloc, puts)?);
     Ok(())
 }
 
@@ -52,65 +46,57 @@ fn have(
 fn put_next(
     rt: &impl Abort,
     alloc: Global,
-    keys: &mut Numbers<Key>,
-    shorts: &mut Numbers<Short>,
+    both: &mut Both,
     before: &[(&str, u32)],
     next: (&str, u32),
 ) -> Result<(), KvError> {
-    match put_in_both(alloc, keys, shorts, next.0, next.1) {
-        Err(KvError::OutOfMemory) => {
-            have(rt, alloc, keys, shorts, before)?;
-            put_in_both(alloc, keys, shorts, next.0, next.1)
-        }
-        done => done,
-    }
+    again_on(
+        both,
+        |both| equal(rt, have(rt, alloc, both, before), Ok(())),
+        |both| put_in_both(alloc, both, next.0, next.1),
+    )
 }
 
-fn put_each(
-    rt: &impl Abort,
-    alloc: Global,
-    keys: &mut Numbers<Key>,
-    shorts: &mut Numbers<Short>,
-) -> Result<(), KvError> {
+fn put_each(rt: &impl Abort, alloc: Global, both: &mut Both) -> Result<(), KvError> {
     for at in 0..PUTS.len() {
-        put_next(rt, alloc, keys, shorts, &PUTS[..at], PUTS[at])?;
+        put_next(rt, alloc, both, &PUTS[..at], PUTS[at])?;
     }
-    have(rt, alloc, keys, shorts, &PUTS)
+    have(rt, alloc, both, &PUTS)
 }
 
 #[test]
-fn both_or_neither(rt: HostRuntime) -> Result<(), Fail> {
-    let mut keys: Numbers<Key> = Trie::new();
-    let mut shorts: Numbers<Short> = Trie::new();
-    put_each(&rt, rt.alloc(), &mut keys, &mut shorts)?;
+fn both_tries_change_or_neither(rt: HostRuntime) -> Result<(), Fail> {
+    let mut both = Both {
+        keys: Trie::new(),
+        shorts: Trie::new(),
+    };
+    put_each(&rt, rt.alloc(), &mut both)?;
     Ok(())
 }
 
-fn snapshots(
-    keys: &Numbers<Key>,
-    shorts: &Numbers<Short>,
-) -> Result<(Numbers<Key>, Numbers<Short>), KvError> {
-    let held = keys.snapshot()?;
-    Ok((held, shorts.snapshot()?))
+fn built_both(alloc: Global, puts: &[(&str, u32)]) -> Result<Both, KvError> {
+    let keys = built(alloc, puts)?;
+    let shorts = built(alloc, puts)?;
+    Ok(Both { keys, shorts })
+}
+
+fn snapshots(both: &Both) -> Result<Both, KvError> {
+    let keys = both.keys.snapshot()?;
+    let shorts = both.shorts.snapshot()?;
+    Ok(Both { keys, shorts })
 }
 
 // Snapshots of both keep what they have.
-fn put_beside(
-    rt: &impl Abort,
-    alloc: Global,
-    keys: &mut Numbers<Key>,
-    shorts: &mut Numbers<Short>,
-) -> Result<(), KvError> {
-    let (held_keys, held_shorts) = snapshots(keys, shorts)?;
-    put_next(rt, alloc, keys, shorts, &PUTS[..6], PUTS[6])?;
-    have(rt, alloc, &held_keys, &held_shorts, &PUTS[..6])
+fn put_beside(rt: &impl Abort, alloc: Global, both: &mut Both) -> Result<(), KvError> {
+    let held = snapshots(both)?;
+    put_next(rt, alloc, both, &PUTS[..6], PUTS[6])?;
+    have(rt, alloc, &held, &PUTS[..6])
 }
 
 #[test]
-fn both_beside_snapshots(rt: HostRuntime) -> Result<(), Fail> {
-    let mut keys = built(rt.alloc(), &PUTS[..6])?;
-    let mut shorts = built(rt.alloc(), &PUTS[..6])?;
-    put_beside(&rt, rt.alloc(), &mut keys, &mut shorts)?;
-    have(&rt, rt.alloc(), &keys, &shorts, &PUTS[..7])?;
+fn snapshots_of_both_tries_stay(rt: HostRuntime) -> Result<(), Fail> {
+    let mut both = built_both(rt.alloc(), &PUTS[..6])?;
+    put_beside(&rt, rt.alloc(), &mut both)?;
+    have(&rt, rt.alloc(), &both, &PUTS[..7])?;
     Ok(())
 }

@@ -22,13 +22,12 @@ fn made<K: Named>(
     twin: &Numbers<K>,
     step: Step,
 ) -> Result<Numbers<K>, KvError> {
-    match made_once(alloc, trie, step) {
-        Err(KvError::OutOfMemory) => {
-            are_same(rt, trie, twin);
-            made_once(alloc, trie, step)
-        }
-        made => made,
-    }
+    let mut trie = trie;
+    again_on(
+        &mut trie,
+        |trie| are_same(rt, *trie, twin),
+        |trie| made_once(alloc, *trie, step),
+    )
 }
 
 fn done_once<K: Named>(alloc: Global, here: &mut Numbers<K>, step: Step) -> Result<(), KvError> {
@@ -46,20 +45,15 @@ fn done<K: Named>(
     twin: &Numbers<K>,
     step: Step,
 ) -> Result<(), KvError> {
-    match done_once(alloc, here, step) {
-        Err(KvError::OutOfMemory) => {
-            are_same(rt, here, twin);
-            done_once(alloc, here, step)
-        }
-        done => done,
-    }
+    again_on(
+        here,
+        |here| are_same(rt, here, twin),
+        |here| done_once(alloc, here, step),
+    )
 }
 
 pub(super) fn hold<K: Named>(trie: &Numbers<K>) -> Result<Numbers<K>, KvError> {
-    match trie.snapshot() {
-        Ok(held) => Ok(held),
-        Err(_) => trie.snapshot(),
-    }
+    again(|| trie.snapshot())
 }
 
 // Does the step beside a snapshot, which stays as the former trie is.
@@ -87,10 +81,7 @@ fn value_of<K: Named>(
     trie: &Numbers<K>,
     text: &str,
 ) -> Result<Option<u32>, KvError> {
-    match value(alloc, trie, text) {
-        Err(KvError::OutOfMemory) => value(alloc, trie, text),
-        value => value,
-    }
+    again(|| value(alloc, trie, text))
 }
 
 fn has_done<K: Named>(

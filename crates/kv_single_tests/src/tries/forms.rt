@@ -97,7 +97,7 @@ const ONE_PLACE: &[Part] = &[
 ];
 
 #[test]
-fn forms_by_places(rt: HostRuntime) -> Result<(), Fail> {
+fn a_trie_has_the_form_of_its_places(rt: HostRuntime) -> Result<(), Fail> {
     let alloc = rt.alloc();
     is_of(&rt, alloc, &[], &[])?;
     is_of(&rt, alloc, &[("a", 1)], &[Part::Leaf("a")])?;
@@ -128,13 +128,12 @@ fn removed(
     text: &str,
     parts: &[Part],
 ) -> Result<Trie<Key, u32>, KvError> {
-    match removed_once(alloc, trie, text) {
-        Err(KvError::OutOfMemory) => {
-            assert!(rt; has_form(trie, parts));
-            removed_once(alloc, trie, text)
-        }
-        removed => removed,
-    }
+    let mut trie = trie;
+    again_on(
+        &mut trie,
+        |trie| equal(rt, has_form(*trie, parts), true),
+        |trie| removed_once(alloc, *trie, text),
+    )
 }
 
 // Where one of two keys of one place goes, the seven branches above them go too, and what is left is a leaf.

@@ -17,6 +17,14 @@ const TEN: [(&str, u32); 10] = [
     ("k9", 9),
 ];
 
+// The trie is that of these pairs, built apart.
+fn is_built(rt: &impl Abort, alloc: Global, trie: &Numbers<Short>, pairs: &[(&str, u32)]) {
+    match built(alloc, pairs) {
+        Ok(other) => are_same(rt, trie, &other),
+        Err(error) => equal(rt, Some(error), None),
+    }
+}
+
 // The trie of these pairs with the next one. A refusal leaves the trie as it was.
 fn insert_next(
     rt: &impl Abort,
@@ -25,13 +33,12 @@ fn insert_next(
     before: &[(&str, u32)],
     next: (&str, u32),
 ) -> Result<Numbers<Short>, KvError> {
-    match inserted(alloc, trie, next.0, next.1) {
-        Err(KvError::OutOfMemory) => {
-            are_same(rt, trie, &built(alloc, before)?);
-            inserted(alloc, trie, next.0, next.1)
-        }
-        made => made,
-    }
+    let mut trie = trie;
+    again_on(
+        &mut trie,
+        |trie| is_built(rt, alloc, *trie, before),
+        |trie| inserted(alloc, *trie, next.0, next.1),
+    )
 }
 
 fn removed(alloc: Global, trie: &Numbers<Short>, text: &str) -> Result<Numbers<Short>, KvError> {
@@ -47,13 +54,12 @@ fn remove_last(
     before: &[(&str, u32)],
     last: &str,
 ) -> Result<Numbers<Short>, KvError> {
-    match removed(alloc, trie, last) {
-        Err(KvError::OutOfMemory) => {
-            are_same(rt, trie, &built(alloc, before)?);
-            removed(alloc, trie, last)
-        }
-        made => made,
-    }
+    let mut trie = trie;
+    again_on(
+        &mut trie,
+        |trie| is_built(rt, alloc, *trie, before),
+        |trie| removed(alloc, *trie, last),
+    )
 }
 
 fn ten(rt: &impl Abort, alloc: Global) -> Result<Numbers<Short>, KvError> {
@@ -78,7 +84,7 @@ fn without_nine(
 
 // A snapshot of ten keys stays as it is while nine are removed, and what is left has the form of one key alone.
 #[test]
-fn nine_removals_beside_a_snapshot(rt: HostRuntime) -> Result<(), Fail> {
+fn a_snapshot_stays_beside_nine_removals(rt: HostRuntime) -> Result<(), Fail> {
     let all = ten(&rt, rt.alloc())?;
     let held = hold(&all)?;
     let rest = without_nine(&rt, rt.alloc(), all)?;
@@ -90,18 +96,12 @@ fn nine_removals_beside_a_snapshot(rt: HostRuntime) -> Result<(), Fail> {
 
 // The three digits of a number, as a text.
 fn digits(alloc: Global, number: u32) -> Result<String, AllocError> {
-    match format!(in alloc; "{number:03}") {
-        Ok(text) => Ok(text),
-        Err(_) => format!(in alloc; "{number:03}"),
-    }
+    again(|| format!(in alloc; "{number:03}"))
 }
 
 // A list with room for each of a thousand, and one more.
 fn roomy<T: Drop>(alloc: Global) -> Result<Vec<T>, AllocError> {
-    match Vec::with_capacity(alloc, 1001) {
-        Ok(list) => Ok(list),
-        Err(_) => Vec::with_capacity(alloc, 1001),
-    }
+    again(|| Vec::with_capacity(alloc, 1001))
 }
 
 // The texts `000` to `999`.
@@ -127,13 +127,11 @@ fn put_next(
     text: &str,
     count: u64,
 ) -> Result<(), KvError> {
-    match put(alloc, trie, text, 1) {
-        Err(KvError::OutOfMemory) => {
-            has(rt, trie, count);
-            put(alloc, trie, text, 1)
-        }
-        done => done,
-    }
+    again_on(
+        trie,
+        |trie| has(rt, trie, count),
+        |trie| put(alloc, trie, text, 1),
+    )
 }
 
 fn discard(alloc: Global, trie: &mut Numbers<Short>, text: &str) -> Result<(), KvError> {
@@ -149,13 +147,11 @@ fn discard_next(
     text: &str,
     count: u64,
 ) -> Result<(), KvError> {
-    match discard(alloc, trie, text) {
-        Err(KvError::OutOfMemory) => {
-            has(rt, trie, count);
-            discard(alloc, trie, text)
-        }
-        done => done,
-    }
+    again_on(
+        trie,
+        |trie| has(rt, trie, count),
+        |trie| discard(alloc, trie, text),
+    )
 }
 
 fn keep(kept: &mut Vec<Numbers<Short>>, trie: &Numbers<Short>) -> Result<(), KvError> {
@@ -225,7 +221,7 @@ fn put_and_discarded(
 }
 
 #[test]
-fn thousand_keys_of_one_place(rt: HostRuntime) -> Result<(), Fail> {
+fn a_thousand_keys_of_one_place_come_and_go(rt: HostRuntime) -> Result<(), Fail> {
     let texts = thousand_texts(rt.alloc())?;
     let mut kept = roomy(rt.alloc())?;
     put_and_discarded(&rt, rt.alloc(), &texts, &mut kept)?;

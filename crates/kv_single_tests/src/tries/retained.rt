@@ -36,13 +36,12 @@ fn kept<K: Named>(
     twin: &Numbers<K>,
     limit: u32,
 ) -> Result<Numbers<K>, KvError> {
-    match kept_once(alloc, trie, limit) {
-        Err(KvError::OutOfMemory) => {
-            are_same(rt, trie, twin);
-            kept_once(alloc, trie, limit)
-        }
-        kept => kept,
-    }
+    let mut trie = trie;
+    again_on(
+        &mut trie,
+        |trie| are_same(rt, *trie, twin),
+        |trie| kept_once(alloc, *trie, limit),
+    )
 }
 
 // The names with the values below the limit. A name's value is at its place, or 0 where there are fewer values.
@@ -116,7 +115,7 @@ const WORKED_VALUES: &[([u32; 4], &[u32])] = &[
 ];
 
 #[test]
-fn worked_keys(rt: HostRuntime) -> Result<(), Fail> {
+fn retained_of_worked_keys(rt: HostRuntime) -> Result<(), Fail> {
     for (values, limits) in WORKED_VALUES {
         all_limits::<Key>(&rt, rt.alloc(), WORKED, values, limits)?;
     }
@@ -135,13 +134,13 @@ const NUMBERS: &[u32] = &[
 const LIMITS: &[u32] = &[0, 1, 2, 3, 10, 50, 90, 99, 100];
 
 #[test]
-fn hundred_keys(rt: HostRuntime) -> Result<(), Fail> {
+fn retained_of_a_hundred_keys(rt: HostRuntime) -> Result<(), Fail> {
     all_limits::<Key>(&rt, rt.alloc(), HUNDRED, NUMBERS, LIMITS)?;
     Ok(())
 }
 
 #[test]
-fn hundred_keys_of_one_place(rt: HostRuntime) -> Result<(), Fail> {
+fn retained_of_a_hundred_keys_of_one_place(rt: HostRuntime) -> Result<(), Fail> {
     all_limits::<Short>(&rt, rt.alloc(), HUNDRED, NUMBERS, LIMITS)?;
     Ok(())
 }
@@ -170,32 +169,46 @@ fn shared_children(trie: &Numbers<Key>) -> u64 {
 }
 
 fn kept_again(alloc: Global, trie: &Numbers<Key>, limit: u32) -> Result<Numbers<Key>, KvError> {
-    match kept_once(alloc, trie, limit) {
-        Err(KvError::OutOfMemory) => kept_once(alloc, trie, limit),
-        kept => kept,
-    }
+    again(|| kept_once(alloc, trie, limit))
 }
 
-// So many children of the root are shared with what stays below the limit, and so many of its own with others.
+// How many children of the root are shared, and how many of the root of what stays below the limit.
+#[derive(Clone, Copy)]
+struct Shared {
+    of_all: u64,
+    of_the_rest: u64,
+}
+
 fn shares(
     rt: &impl Abort,
     alloc: Global,
     all: &Numbers<Key>,
     limit: u32,
-    wanted: (u64, u64),
+    wanted: Shared,
 ) -> Result<(), KvError> {
     let rest = kept_again(alloc, all, limit)?;
-    equal(rt, (shared_children(all), shared_children(&rest)), wanted);
+    equal(rt, shared_children(all), wanted.of_all);
+    equal(rt, shared_children(&rest), wanted.of_the_rest);
     Ok(())
 }
+
+const WITHOUT_ZINKE: Shared = Shared {
+    of_all: 2,
+    of_the_rest: 3,
+};
+
+const WITH_EACH: Shared = Shared {
+    of_all: 0,
+    of_the_rest: 0,
+};
 
 // Where only `zinke` goes the pairs of the others are those of before, and that of `altarage` stands at the root; where
 // nothing goes the root is the one of before, and so are its children, which nobody else has.
 #[test]
-fn parts_are_shared(rt: HostRuntime) -> Result<(), Fail> {
+fn what_is_retained_shares_its_parts(rt: HostRuntime) -> Result<(), Fail> {
     let all = made(rt.alloc(), WORKED, &[0, 1, 2, 3], 4)?;
     equal(&rt, shared_children(&all), 0);
-    shares(&rt, rt.alloc(), &all, 3, (2, 3))?;
-    shares(&rt, rt.alloc(), &all, 4, (0, 0))?;
+    shares(&rt, rt.alloc(), &all, 3, WITHOUT_ZINKE)?;
+    shares(&rt, rt.alloc(), &all, 4, WITH_EACH)?;
     Ok(())
 }

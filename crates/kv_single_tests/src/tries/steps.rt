@@ -59,14 +59,14 @@ fn run_twice<K: Named>(rt: &impl Abort, alloc: Global, rows: &[Row]) -> Result<(
 
 // Keys of places of their own, but for two.
 #[test]
-fn twelve_keys(rt: HostRuntime) -> Result<(), Fail> {
+fn twelve_keys_come_and_go(rt: HostRuntime) -> Result<(), Fail> {
     run_twice::<Key>(&rt, rt.alloc(), TWELVE)?;
     Ok(())
 }
 
 // Keys of equal length have one place.
 #[test]
-fn twelve_short_keys(rt: HostRuntime) -> Result<(), Fail> {
+fn twelve_keys_of_few_places_come_and_go(rt: HostRuntime) -> Result<(), Fail> {
     run_twice::<Short>(&rt, rt.alloc(), TWELVE)?;
     Ok(())
 }
@@ -124,14 +124,14 @@ fn put_and_removed<K: Named>(
 }
 
 #[test]
-fn hundred_keys(rt: HostRuntime) -> Result<(), Fail> {
+fn a_hundred_keys_come_and_go(rt: HostRuntime) -> Result<(), Fail> {
     let mut trie: Numbers<Key> = Trie::new();
     put_and_removed(&rt, rt.alloc(), &mut trie, HUNDRED)?;
     Ok(())
 }
 
 #[test]
-fn hundred_keys_of_one_place(rt: HostRuntime) -> Result<(), Fail> {
+fn a_hundred_keys_of_one_place_come_and_go(rt: HostRuntime) -> Result<(), Fail> {
     let mut trie: Numbers<Short> = Trie::new();
     put_and_removed(&rt, rt.alloc(), &mut trie, HUNDRED)?;
     Ok(())

@@ -52,7 +52,7 @@ fn shows_five<K: Named>(rt: &impl Abort, alloc: Global) -> Result<(), KvError> {
 }
 
 #[test]
-fn each_pair_once(rt: HostRuntime) -> Result<(), Fail> {
+fn a_walk_shows_each_pair_once(rt: HostRuntime) -> Result<(), Fail> {
     shows_five::<Key>(&rt, rt.alloc())?;
     shows_five::<Short>(&rt, rt.alloc())?;
     Ok(())

@@ -6,13 +6,12 @@ use facts::are_told;
 // The version that is made of another by a put, a delete or a seal. A refusal leaves that one as it is.
 fn made(rt: &impl Abort, alloc: Global, version: &Version, ask: Ask) -> Result<Version, KvError> {
     let before = version.status();
-    match driving::made_once(alloc, version, "a", ask) {
-        Err(KvError::OutOfMemory) => {
-            equal(rt, version.status(), before);
-            driving::made_once(alloc, version, "a", ask)
-        }
-        made => made,
-    }
+    let mut version = version;
+    again_on(
+        &mut version,
+        |version| equal(rt, version.status(), before),
+        |version| driving::made_once(alloc, *version, "a", ask),
+    )
 }
 
 const NOTHING: Status = Status {
@@ -125,7 +124,7 @@ fn with_a_put(rt: &impl Abort, alloc: Global, empty: &Version) -> Result<(), KvE
 }
 
 #[test]
-fn a_history_all_of_whose_versions_are_kept(rt: HostRuntime) -> Result<(), Fail> {
+fn each_version_tells_its_own_beside_later_ones(rt: HostRuntime) -> Result<(), Fail> {
     let empty = driving::empty(rt.alloc(), keeping(1))?;
     with_a_put(&rt, rt.alloc(), &empty)?;
     Ok(())

@@ -10,7 +10,6 @@ const COMPACTED: &[Row] = &[
     ("a", Ask::Put("3"), Ok(3)),
     ("b", Ask::Delete(None), Ok(4)),
     ("c", Ask::Put("4"), Ok(5)),
-    ("", Ask::Compact(0), Err(KvError::BadFloor)),
     ("", Ask::Compact(6), Err(KvError::BadFloor)),
     ("", Ask::Compact(4), Ok(5)),
     ("", Ask::Compact(3), Err(KvError::BadFloor)),
@@ -37,23 +36,8 @@ const REST: &[Fact] = &[
 ];
 
 #[test]
-fn compaction(rt: HostRuntime) -> Result<(), Fail> {
+fn what_a_compacted_version_tells(rt: HostRuntime) -> Result<(), Fail> {
     holds(&rt, rt.alloc(), keeping(2), COMPACTED, REST)?;
-    Ok(())
-}
-
-const FREED: &[Row] = &[
-    ("a", Ask::Put(""), Ok(1)),
-    ("a", Ask::Put(""), Ok(2)),
-    ("a", Ask::Put(""), Err(KvError::JournalFull)),
-    ("", Ask::Compact(2), Ok(2)),
-    ("a", Ask::Put(""), Ok(3)),
-    ("a", Ask::Put(""), Err(KvError::JournalFull)),
-];
-
-#[test]
-fn compaction_frees_the_journal(rt: HostRuntime) -> Result<(), Fail> {
-    holds(&rt, rt.alloc(), (1, 3, 2, 100), FREED, &[])?;
     Ok(())
 }
 

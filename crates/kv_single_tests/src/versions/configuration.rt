@@ -1,8 +1,9 @@
-//! Which configurations are refused.
+//! Which configurations are refused: by `check`, by a version and by a bucket.
 
 use super::*;
+use kv_single::Bucket;
 
-// The bucket's name, its limits, and what both `check` and `Version::empty` answer.
+// The bucket's name, its limits, and what `Config::check`, `Version::empty` and `Bucket::open` answer.
 type Asked = (&'static str, Limits, Result<(), KvError>);
 
 // A bucket that is made has the name.
@@ -25,16 +26,20 @@ fn answer_once(rt: &impl Abort, alloc: Global, name: &str, limits: Limits) -> Re
     answer
 }
 
+fn opened(alloc: Global, name: &str, limits: Limits) -> Result<(), KvError> {
+    let config = limited(alloc, name, limits)?;
+    Bucket::open(alloc, &config)?;
+    Ok(())
+}
+
 fn answer(rt: &impl Abort, alloc: Global, name: &str, limits: Limits) -> Result<(), KvError> {
-    match answer_once(rt, alloc, name, limits) {
-        Err(KvError::OutOfMemory) => answer_once(rt, alloc, name, limits),
-        answer => answer,
-    }
+    again(|| answer_once(rt, alloc, name, limits))
 }
 
 fn answers(rt: &impl Abort, alloc: Global, rows: &[Asked]) {
     for (name, limits, wanted) in rows {
         equal(rt, answer(rt, alloc, name, *limits), *wanted);
+        equal(rt, again(|| opened(alloc, name, *limits)), *wanted);
     }
 }
 
@@ -42,34 +47,95 @@ const LONGEST: &str = "0123456789-abcdefghijklmnopqrstuvwxyz_ABCDEFGHIJKLMNOPQRS
 
 const LONGER: &str = "0123456789-abcdefghijklmnopqrstuvwxyz_ABCDEFGHIJKLMNOPQRSTUVWXYZ0";
 
+const SMALLEST: Limits = Limits {
+    history: 1,
+    value_limit: 0,
+    write_limit: 1,
+    revision_limit: 1,
+};
+
+const LARGEST: Limits = Limits {
+    history: 64,
+    ..DEFAULTS
+};
+
+const NO_HISTORY: Limits = Limits {
+    history: 0,
+    ..SMALLEST
+};
+
 const NAMES: &[Asked] = &[
-    (LONGEST, (1, 0, 1, 1), Ok(())),
-    (LONGER, (1, 0, 1, 1), Err(KvError::BadBucket)),
-    ("my.bucket", (1, 0, 1, 1), Err(KvError::BadBucket)),
-    ("", (1, 0, 1, 1), Err(KvError::BadBucket)),
+    (LONGEST, SMALLEST, Ok(())),
+    (LONGER, SMALLEST, Err(KvError::BadBucket)),
+    ("my.bucket", SMALLEST, Err(KvError::BadBucket)),
+    ("", SMALLEST, Err(KvError::BadBucket)),
     // the name comes before the numbers
-    ("my.bucket", (0, 0, 1, 1), Err(KvError::BadBucket)),
+    ("my.bucket", NO_HISTORY, Err(KvError::BadBucket)),
 ];
 
 #[test]
-fn bucket_names(rt: HostRuntime) {
+fn a_bucket_has_a_name_of_at_most_64_characters(rt: HostRuntime) {
     equal(&rt, LONGEST.len(), 64);
     answers(&rt, rt.alloc(), NAMES);
 }
 
+const BAD_CONFIG: Result<(), KvError> = Err(KvError::BadConfig);
+
 const NUMBERS: &[Asked] = &[
-    ("kv", (1, 0, 1, 1), Ok(())),
-    ("kv", (64, 1_048_576, 1_000_000, 4_294_967_295), Ok(())),
-    ("kv", (0, 0, 1, 1), Err(KvError::BadConfig)),
-    ("kv", (1, 0, 0, 1), Err(KvError::BadConfig)),
-    ("kv", (1, 0, 1, 0), Err(KvError::BadConfig)),
-    ("kv", (65, 0, 1, 1), Err(KvError::BadConfig)),
-    ("kv", (1, 1_048_577, 1, 1), Err(KvError::BadConfig)),
-    ("kv", (1, 0, 1_000_001, 1), Err(KvError::BadConfig)),
-    ("kv", (1, 0, 1, 4_294_967_296), Err(KvError::BadConfig)),
+    ("kv", SMALLEST, Ok(())),
+    ("kv", LARGEST, Ok(())),
+    ("kv", NO_HISTORY, BAD_CONFIG),
+    (
+        "kv",
+        Limits {
+            write_limit: 0,
+            ..SMALLEST
+        },
+        BAD_CONFIG,
+    ),
+    (
+        "kv",
+        Limits {
+            revision_limit: 0,
+            ..SMALLEST
+        },
+        BAD_CONFIG,
+    ),
+    (
+        "kv",
+        Limits {
+            history: 65,
+            ..SMALLEST
+        },
+        BAD_CONFIG,
+    ),
+    (
+        "kv",
+        Limits {
+            value_limit: 1_048_577,
+            ..SMALLEST
+        },
+        BAD_CONFIG,
+    ),
+    (
+        "kv",
+        Limits {
+            write_limit: 1_000_001,
+            ..SMALLEST
+        },
+        BAD_CONFIG,
+    ),
+    (
+        "kv",
+        Limits {
+            revision_limit: 4_294_967_296,
+            ..SMALLEST
+        },
+        BAD_CONFIG,
+    ),
 ];
 
 #[test]
-fn numbers_at_and_beyond_their_limits(rt: HostRuntime) {
+fn numbers_beyond_their_limits_are_refused(rt: HostRuntime) {
     answers(&rt, rt.alloc(), NUMBERS);
 }

@@ -10,10 +10,7 @@ fn empty_once(alloc: Global, limits: Limits) -> Result<Version, KvError> {
 }
 
 pub(super) fn empty(alloc: Global, limits: Limits) -> Result<Version, KvError> {
-    match empty_once(alloc, limits) {
-        Err(KvError::OutOfMemory) => empty_once(alloc, limits),
-        version => version,
-    }
+    again(|| empty_once(alloc, limits))
 }
 
 pub(super) fn made_once(
@@ -37,16 +34,12 @@ fn made(
     twin: &Version,
     row: Row,
 ) -> Result<Version, KvError> {
-    match made_once(alloc, version, row.0, row.1) {
-        Ok(next) => Ok(next),
-        Err(error) => {
-            tell_the_same(rt, version, twin);
-            match error {
-                KvError::OutOfMemory => made_once(alloc, version, row.0, row.1),
-                _ => Err(error),
-            }
-        }
-    }
+    let mut version = version;
+    again_on(
+        &mut version,
+        |version| tell_the_same(rt, *version, twin),
+        |version| made_once(alloc, *version, row.0, row.1),
+    )
 }
 
 // The version behind a row, which is this one where the row is refused.
@@ -88,16 +81,11 @@ fn done(
     twin: &Version,
     row: Row,
 ) -> Result<(), KvError> {
-    match done_once(alloc, here, row.0, row.1) {
-        Ok(()) => Ok(()),
-        Err(error) => {
-            tell_the_same(rt, here, twin);
-            match error {
-                KvError::OutOfMemory => done_once(alloc, here, row.0, row.1),
-                _ => Err(error),
-            }
-        }
-    }
+    again_on(
+        here,
+        |here| tell_the_same(rt, here, twin),
+        |here| done_once(alloc, here, row.0, row.1),
+    )
 }
 
 // And so it goes from the former version to the next one.

@@ -213,10 +213,7 @@ fn is_told_once(
 }
 
 fn is_told(rt: &impl Abort, alloc: Global, version: &Version, fact: Fact) -> Result<(), KvError> {
-    match is_told_once(rt, alloc, version, fact) {
-        Err(KvError::OutOfMemory) => is_told_once(rt, alloc, version, fact),
-        told => told,
-    }
+    again(|| is_told_once(rt, alloc, version, fact))
 }
 
 pub(super) fn are_told(

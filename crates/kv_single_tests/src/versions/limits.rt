@@ -2,35 +2,17 @@
 
 use super::*;
 
-const VALUES: &[Row] = &[
-    ("a", Ask::Put("abc"), Ok(1)),
-    ("a", Ask::Put("abcd"), Err(KvError::ValueTooLarge)),
-    ("k", Ask::Create("abcd"), Err(KvError::ValueTooLarge)),
-    ("a", Ask::Update("abcd", 1), Err(KvError::ValueTooLarge)),
-    ("b", Ask::Put(""), Ok(2)),
-];
-
-#[test]
-fn value_limit(rt: HostRuntime) -> Result<(), Fail> {
-    holds(&rt, rt.alloc(), (1, 3, 100, 100), VALUES, &[])?;
-    Ok(())
-}
-
-const REVISIONS: &[Row] = &[
-    ("a", Ask::Put(""), Ok(1)),
-    ("b", Ask::Put(""), Err(KvError::JournalFull)),
-    ("a", Ask::Delete(None), Err(KvError::JournalFull)),
-];
-
-#[test]
-fn revision_limit(rt: HostRuntime) -> Result<(), Fail> {
-    holds(&rt, rt.alloc(), (1, 3, 100, 1), REVISIONS, &[])?;
-    Ok(())
-}
+// Values of three bytes, and two writes.
+const SMALL: Limits = Limits {
+    value_limit: 3,
+    write_limit: 2,
+    ..DEFAULTS
+};
 
 // Where there is more than one reason against a request it is refused by the first.
 const FULL: &[Row] = &[
     ("a", Ask::Put("abc"), Ok(1)),
+    ("a", Ask::Update("abcd", 1), Err(KvError::ValueTooLarge)),
     ("b", Ask::Put(""), Ok(2)),
     ("k", Ask::Put(""), Err(KvError::JournalFull)),
     ("n", Ask::Delete(None), Err(KvError::JournalFull)),
@@ -56,9 +38,9 @@ const SEALED: Status = Status {
 };
 
 #[test]
-fn a_full_journal_and_then_a_seal(rt: HostRuntime) -> Result<(), Fail> {
+fn a_write_is_refused_for_the_first_reason(rt: HostRuntime) -> Result<(), Fail> {
     let facts = [Fact::Numbers(SEALED, 0)];
-    holds(&rt, rt.alloc(), (1, 3, 2, 100), FULL, &facts)?;
+    holds(&rt, rt.alloc(), SMALL, FULL, &facts)?;
     Ok(())
 }
 
@@ -68,7 +50,7 @@ const LARGE: &[Row] = &[
 ];
 
 #[test]
-fn largest_value(rt: HostRuntime) -> Result<(), Fail> {
+fn a_value_has_at_most_a_mebibyte(rt: HostRuntime) -> Result<(), Fail> {
     holds(&rt, rt.alloc(), keeping(1), LARGE, &[])?;
     Ok(())
 }

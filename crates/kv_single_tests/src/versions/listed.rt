@@ -2,28 +2,6 @@
 
 use super::*;
 
-const NESTED: &[Row] = &[
-    ("a", Ask::Put(""), Ok(1)),
-    ("a.b", Ask::Put(""), Ok(2)),
-    ("a.b.c", Ask::Put(""), Ok(3)),
-];
-
-const MATCHED: &[Fact] = &[
-    Fact::Keys("a.>", "a.b a.b.c "),
-    Fact::Keys("a.*", "a.b "),
-    Fact::Keys("*", "a "),
-    Fact::Keys("*.b.>", "a.b.c "),
-    Fact::Keys(">", "a a.b a.b.c "),
-    Fact::Keys("a.b", "a.b "),
-    Fact::Keys("b", ""),
-];
-
-#[test]
-fn wildcards(rt: HostRuntime) -> Result<(), Fail> {
-    holds(&rt, rt.alloc(), keeping(1), NESTED, MATCHED)?;
-    Ok(())
-}
-
 const REPEATED: &[Row] = &[
     ("c", Ask::Put(""), Ok(1)),
     ("a", Ask::Put(""), Ok(2)),
@@ -41,48 +19,6 @@ const IN_ORDER: &[Fact] = &[
 #[test]
 fn keys_come_by_their_latest_revisions(rt: HostRuntime) -> Result<(), Fail> {
     holds(&rt, rt.alloc(), keeping(5), REPEATED, IN_ORDER)?;
-    Ok(())
-}
-
-const PURGED: &[Row] = &[
-    ("k", Ask::Put(""), Ok(1)),
-    ("k", Ask::Put(""), Ok(2)),
-    ("k", Ask::Purge(None), Ok(3)),
-    ("k", Ask::Put(""), Ok(4)),
-];
-
-const BEGINS_WITH_THE_PURGE: &[Fact] = &[
-    Fact::Entries("k", &[(Op::Purge, 3), (Op::Put, 4)]),
-    Fact::Entries("other", &[]),
-];
-
-#[test]
-fn purge_keeps_its_marker(rt: HostRuntime) -> Result<(), Fail> {
-    let facts = BEGINS_WITH_THE_PURGE;
-    holds(&rt, rt.alloc(), keeping(64), PURGED, facts)?;
-    Ok(())
-}
-
-// Two keys of one place.
-const COLLIDING: &[Row] = &[
-    ("altarage", Ask::Put(""), Ok(1)),
-    ("zinke", Ask::Put(""), Ok(2)),
-    ("altarage", Ask::Delete(None), Ok(3)),
-    ("altarage", Ask::Purge(None), Ok(4)),
-    ("zinke", Ask::Put(""), Ok(5)),
-];
-
-const TOLD_APART: &[Fact] = &[
-    Fact::Entries("altarage", &[(Op::Purge, 4)]),
-    Fact::Entries("zinke", &[(Op::Put, 2), (Op::Put, 5)]),
-    Fact::Keys(">", "zinke "),
-    Fact::Selected("zinke", Start::Latest, &[5]),
-    Fact::Selected("zinke,altarage", Start::Latest, &[4, 5]),
-];
-
-#[test]
-fn places_that_collide(rt: HostRuntime) -> Result<(), Fail> {
-    holds(&rt, rt.alloc(), keeping(2), COLLIDING, TOLD_APART)?;
     Ok(())
 }
 
@@ -120,13 +56,13 @@ const SELECTED: &[Fact] = &[
 ];
 
 #[test]
-fn selections(rt: HostRuntime) -> Result<(), Fail> {
+fn revisions_are_selected_by_filters(rt: HostRuntime) -> Result<(), Fail> {
     holds(&rt, rt.alloc(), keeping(2), THREE, SELECTED)?;
     Ok(())
 }
 
 #[test]
-fn nothing_is_there(rt: HostRuntime) -> Result<(), Fail> {
+fn an_empty_version_selects_nothing(rt: HostRuntime) -> Result<(), Fail> {
     let facts = [
         Fact::Selected("a,b", Start::Latest, &[]),
         Fact::Selected("a,>", Start::Latest, &[]),

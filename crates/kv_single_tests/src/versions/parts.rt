@@ -53,11 +53,8 @@ fn named_once(rt: &impl Abort, alloc: Global) -> Result<(), KvError> {
 }
 
 #[test]
-fn configuration_with_the_defaults(rt: HostRuntime) -> Result<(), Fail> {
-    match named_once(&rt, rt.alloc()) {
-        Err(KvError::OutOfMemory) => named_once(&rt, rt.alloc())?,
-        named => named?,
-    }
+fn a_named_configuration_has_the_defaults(rt: HostRuntime) -> Result<(), Fail> {
+    again(|| named_once(&rt, rt.alloc()))?;
     Ok(())
 }
 
@@ -84,10 +81,7 @@ fn asks(
     op: Op,
     value: &[u8],
 ) -> Result<(), KvError> {
-    match asks_once(rt, alloc, text, ask, op, value) {
-        Err(KvError::OutOfMemory) => asks_once(rt, alloc, text, ask, op, value),
-        asked => asked,
-    }
+    again(|| asks_once(rt, alloc, text, ask, op, value))
 }
 
 #[test]
@@ -97,17 +91,11 @@ fn what_a_request_asks_for(rt: HostRuntime) -> Result<(), Fail> {
     Ok(())
 }
 
-const OPS: &[(Op, bool, bool)] = &[
-    (Op::Put, true, false),
-    (Op::Delete, false, false),
-    (Op::Purge, false, true),
-];
-
 #[test]
 fn what_an_op_does(rt: HostRuntime) {
-    for (op, is_put, is_purge) in OPS {
-        equal(&rt, op.is_put(), *is_put);
-        equal(&rt, op.is_purge(), *is_purge);
+    for op in [Op::Put, Op::Delete, Op::Purge] {
+        equal(&rt, op.is_put(), op == Op::Put);
+        equal(&rt, op.is_purge(), op == Op::Purge);
     }
 }
 
@@ -127,7 +115,7 @@ const PLACES: &[(u32, u32)] = &[
 ];
 
 #[test]
-fn revisions_as_keys(rt: HostRuntime) {
+fn a_revision_has_its_place(rt: HostRuntime) {
     for (number, place) in PLACES {
         let rev = Rev::new(*number);
         equal(&rt, rev.number(), *number);
@@ -186,10 +174,7 @@ fn all_want(rt: &impl Abort, alloc: Global) -> Result<(), KvError> {
 }
 
 #[test]
-fn wanted_by_filters(rt: HostRuntime) -> Result<(), Fail> {
-    match all_want(&rt, rt.alloc()) {
-        Err(KvError::OutOfMemory) => all_want(&rt, rt.alloc())?,
-        want => want?,
-    }
+fn filters_name_the_keys_that_they_want(rt: HostRuntime) -> Result<(), Fail> {
+    again(|| all_want(&rt, rt.alloc()))?;
     Ok(())
 }

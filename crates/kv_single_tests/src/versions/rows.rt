@@ -2,64 +2,27 @@
 
 use super::*;
 
-const CREATES: &[Row] = &[
-    ("a", Ask::Put("1"), Ok(1)),
-    ("a", Ask::Create("2"), Err(KvError::KeyExists)),
-    ("a", Ask::Delete(None), Ok(2)),
-    ("a", Ask::Create("3"), Ok(3)),
-    ("a", Ask::Purge(None), Ok(4)),
-    ("a", Ask::Create("4"), Ok(5)),
-];
+const LAST_IS_ONE: Result<u64, KvError> = Err(KvError::WrongLastRevision { last: 1 });
 
-#[test]
-fn create_after_marker(rt: HostRuntime) -> Result<(), Fail> {
-    let facts = [Fact::Value("a", None, Some(b"4"))];
-    holds(&rt, rt.alloc(), keeping(1), CREATES, &facts)?;
-    Ok(())
-}
-
-const UPDATES: &[Row] = &[
-    (
-        "k",
-        Ask::Update("", u64::MAX),
-        Err(KvError::WrongLastRevision { last: 0 }),
-    ),
+// The revision that a write names is the last one of its key.
+const NAMED: &[Row] = &[
     ("k", Ask::Put("1"), Ok(1)),
+    ("k", Ask::Update("", u64::MAX), LAST_IS_ONE),
+    ("k", Ask::Purge(Some(u64::MAX)), LAST_IS_ONE),
+    ("k", Ask::Delete(Some(0)), LAST_IS_ONE),
+    ("n", Ask::Update("2", 0), Ok(2)),
+    ("k", Ask::Delete(Some(1)), Ok(3)),
+    ("n", Ask::Purge(Some(2)), Ok(4)),
     (
         "k",
-        Ask::Update("", u64::MAX),
-        Err(KvError::WrongLastRevision { last: 1 }),
-    ),
-    (
-        "k",
-        Ask::Purge(Some(u64::MAX)),
-        Err(KvError::WrongLastRevision { last: 1 }),
-    ),
-    ("k", Ask::Delete(None), Ok(2)),
-    (
-        "k",
-        Ask::Update("1", 0),
-        Err(KvError::WrongLastRevision { last: 2 }),
-    ),
-    ("k", Ask::Update("1", 2), Ok(3)),
-    ("n", Ask::Update("2", 0), Ok(4)),
-    (
-        "k",
-        Ask::Delete(Some(1)),
+        Ask::Update("3", 1),
         Err(KvError::WrongLastRevision { last: 3 }),
     ),
-    ("k", Ask::Delete(Some(3)), Ok(5)),
-    ("n", Ask::Purge(Some(4)), Ok(6)),
-    (
-        "k",
-        Ask::Update("3", 3),
-        Err(KvError::WrongLastRevision { last: 5 }),
-    ),
 ];
 
 #[test]
-fn compare_and_set(rt: HostRuntime) -> Result<(), Fail> {
-    holds(&rt, rt.alloc(), keeping(1), UPDATES, &[])?;
+fn a_write_names_the_last_revision(rt: HostRuntime) -> Result<(), Fail> {
+    holds(&rt, rt.alloc(), keeping(1), NAMED, &[])?;
     Ok(())
 }
 
@@ -88,31 +51,8 @@ const MARKED: &[Fact] = &[
 ];
 
 #[test]
-fn markers_of_keys_that_never_were(rt: HostRuntime) -> Result<(), Fail> {
+fn a_key_that_never_was_has_a_marker(rt: HostRuntime) -> Result<(), Fail> {
     holds(&rt, rt.alloc(), keeping(1), MARKERS, MARKED)?;
-    Ok(())
-}
-
-const PUTS: &[Row] = &[
-    ("k", Ask::Put("1"), Ok(1)),
-    ("k", Ask::Put("2"), Ok(2)),
-    ("k", Ask::Put("3"), Ok(3)),
-    ("k", Ask::Delete(None), Ok(4)),
-    ("n", Ask::Put("5"), Ok(5)),
-];
-
-// Of the revisions of `k`, from 2 to 5, the third alone has a value that is retained.
-const THIRD: &[Fact] = &[
-    Fact::Value("k", None, None),
-    Fact::Value("k", Some(2), None),
-    Fact::Value("k", Some(3), Some(b"3")),
-    Fact::Value("k", Some(4), None),
-    Fact::Value("k", Some(5), None),
-];
-
-#[test]
-fn get_at_a_revision(rt: HostRuntime) -> Result<(), Fail> {
-    holds(&rt, rt.alloc(), keeping(2), PUTS, THIRD)?;
     Ok(())
 }
 
@@ -135,10 +75,19 @@ const PLACES: &[Row] = &[
     ("c", Ask::Put(""), Ok(9)),
 ];
 
+// The second revision is of the other key.
+const TOLD_APART: &[Fact] = &[
+    Fact::Value("altarage", None, Some(b"one")),
+    Fact::Value("altarage", Some(2), None),
+    Fact::Entries("altarage", &[(Op::Put, 1)]),
+    Fact::Entries("zinke", &[(Op::Purge, 7), (Op::Put, 8)]),
+    Fact::Selected("zinke", Start::Latest, &[8]),
+    Fact::Selected("zinke,altarage", Start::Latest, &[1, 8]),
+];
+
 #[test]
-fn keys_that_share_a_place(rt: HostRuntime) -> Result<(), Fail> {
-    let facts = [Fact::Value("altarage", None, Some(b"one"))];
-    holds(&rt, rt.alloc(), keeping(2), PLACES, &facts)?;
+fn keys_that_share_a_place_are_told_apart(rt: HostRuntime) -> Result<(), Fail> {
+    holds(&rt, rt.alloc(), keeping(2), PLACES, TOLD_APART)?;
     Ok(())
 }
 
@@ -182,7 +131,7 @@ const LONG: &[Fact] = &[
 ];
 
 #[test]
-fn short_and_long(rt: HostRuntime) -> Result<(), Fail> {
+fn keys_and_values_of_24_bytes_and_of_25(rt: HostRuntime) -> Result<(), Fail> {
     holds(&rt, rt.alloc(), keeping(6), LENGTHS, LONG)?;
     Ok(())
 }

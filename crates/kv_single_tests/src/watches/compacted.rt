@@ -3,10 +3,7 @@
 use super::*;
 
 fn compact(alloc: Global, version: &Version, floor: u64) -> Result<Version, KvError> {
-    match version.compact(alloc, floor) {
-        Err(KvError::OutOfMemory) => version.compact(alloc, floor),
-        compacted => compacted,
-    }
+    again(|| version.compact(alloc, floor))
 }
 
 fn gives(rt: &impl Abort, cursor: &mut Cursor, base: &Version, now: &Version, item: Option<u64>) {

@@ -20,7 +20,7 @@ fn options_of(row: Row) -> Options {
     Options {
         start: row.start,
         ignore_deletes: row.ignore_deletes,
-        headers_only: false,
+        ..LATEST
     }
 }
 
@@ -71,10 +71,7 @@ fn listed(
     filters: &Filters,
     row: Row,
 ) -> Result<Vec<Event>, KvError> {
-    match listed_once(alloc, now, base, filters, row) {
-        Err(KvError::OutOfMemory) => listed_once(alloc, now, base, filters, row),
-        events => events,
-    }
+    again(|| listed_once(alloc, now, base, filters, row))
 }
 
 fn lists(

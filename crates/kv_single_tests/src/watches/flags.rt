@@ -4,22 +4,74 @@ use super::*;
 
 const CLASH: Result<Start, KvError> = Err(KvError::OptionsClash);
 
-// Whether the flag of the history is there, that of updates, and from which revision; and the start.
-const FLAGS: &[(bool, bool, Option<u64>, Result<Start, KvError>)] = &[
-    (false, false, None, Ok(Start::Latest)),
-    (true, false, None, Ok(Start::History)),
-    (false, true, None, Ok(Start::Updates)),
-    (false, false, Some(7), Ok(Start::From(7))),
-    (true, true, None, CLASH),
-    (true, false, Some(7), CLASH),
-    (false, true, Some(7), CLASH),
-    (true, true, Some(7), CLASH),
+#[derive(Clone, Copy)]
+struct Flags {
+    history: bool,
+    updates: bool,
+    from: Option<u64>,
+}
+
+const NO_FLAG: Flags = Flags {
+    history: false,
+    updates: false,
+    from: None,
+};
+
+const HISTORY: Flags = Flags {
+    history: true,
+    ..NO_FLAG
+};
+
+const UPDATES: Flags = Flags {
+    updates: true,
+    ..NO_FLAG
+};
+
+const FROM_SEVEN: Flags = Flags {
+    from: Some(7),
+    ..NO_FLAG
+};
+
+const FLAGS: &[(Flags, Result<Start, KvError>)] = &[
+    (NO_FLAG, Ok(Start::Latest)),
+    (HISTORY, Ok(Start::History)),
+    (UPDATES, Ok(Start::Updates)),
+    (FROM_SEVEN, Ok(Start::From(7))),
+    (
+        Flags {
+            updates: true,
+            ..HISTORY
+        },
+        CLASH,
+    ),
+    (
+        Flags {
+            history: true,
+            ..FROM_SEVEN
+        },
+        CLASH,
+    ),
+    (
+        Flags {
+            updates: true,
+            ..FROM_SEVEN
+        },
+        CLASH,
+    ),
+    (
+        Flags {
+            history: true,
+            updates: true,
+            ..FROM_SEVEN
+        },
+        CLASH,
+    ),
 ];
 
 #[test]
-fn flags_make_options(rt: HostRuntime) {
-    for (history, updates, from, start) in FLAGS {
-        let options = Options::of_flags(*history, *updates, *from, true, false);
+fn flags_name_one_start_or_clash(rt: HostRuntime) {
+    for (flags, start) in FLAGS {
+        let options = Options::of_flags(flags.history, flags.updates, flags.from, true, false);
         let wanted = start.map(|start| Options {
             start,
             ignore_deletes: true,

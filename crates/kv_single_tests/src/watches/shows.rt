@@ -4,9 +4,8 @@ use super::*;
 use kv_watch::Shown;
 
 const HEADERS: Options = Options {
-    start: Start::Latest,
-    ignore_deletes: false,
     headers_only: true,
+    ..LATEST
 };
 
 // The parts of an entry.
@@ -113,13 +112,13 @@ fn shows_each(
 }
 
 #[test]
-fn entries(rt: HostRuntime) -> Result<(), Fail> {
+fn an_entry_is_shown_with_its_value(rt: HostRuntime) -> Result<(), Fail> {
     shows_each(&rt, rt.alloc(), LATEST, Some(b"abc"))?;
     Ok(())
 }
 
 #[test]
-fn headers_only(rt: HostRuntime) -> Result<(), Fail> {
+fn an_entry_is_shown_without_its_value(rt: HostRuntime) -> Result<(), Fail> {
     shows_each(&rt, rt.alloc(), HEADERS, None)?;
     Ok(())
 }
@@ -132,7 +131,7 @@ fn first_has_parts(rt: &impl Abort, version: &Version, parts: Parts<'_>) {
 }
 
 #[test]
-fn shown_by_itself(rt: HostRuntime) -> Result<(), Fail> {
+fn a_write_is_shown_by_itself(rt: HostRuntime) -> Result<(), Fail> {
     let version = written(rt.alloc(), &[Deed::Put("b", "")])?;
     let parts = Parts {
         key: "b",
@@ -207,7 +206,7 @@ fn looks(rt: &impl Abort, alloc: Global) -> Result<(), KvError> {
 }
 
 #[test]
-fn looks_next(rt: HostRuntime) -> Result<(), Fail> {
+fn a_watch_looks_next_behind_what_it_passed(rt: HostRuntime) -> Result<(), Fail> {
     looks(&rt, rt.alloc())?;
     Ok(())
 }
