@@ -2,7 +2,7 @@
 use Rattle.std.proofs.Common.{◌≡◌, ℕ, ◌+◌, ◌≤◌, ◌<◌, ◌⊎◌, ⊎_elim, Bool, true, false, ◌||◌, nat_lt, List, Option, Some, None, Result, Ok, Err, inl, inr, length, get_or, refl, ap, sym, subst, ◌∙◌, arith}
 use Rattle.std.specs.List.{slice_get}
 use Rattle.std.specs.Prelude.{IfOk}
-use Rattle.std.specs.Option.{option_len, option_map}
+use Rattle.std.specs.Option.{option_len}
 use Rattle.std.proofs.lemmas.Option.{slice_get_past, slice_get_cases}
 use Rattle.kv_model.specs.Acceptance.{IsLawful}
 use Rattle.kv_model.specs.Acts.{Act, IsPrefix, floor_of, writes_of}
@@ -13,9 +13,8 @@ use Rattle.std.proofs.lemmas.Bool.{lt-ltb, ltb-false}
 use Rattle.kv_single.proofs.Least.{not_less}
 use Rattle.kv_model.specs.declared.options.Options.{Options}
 use Rattle.kv_model.specs.Given.{Item, given, is_behind}
-use Rattle.kv_model.specs.further.Events.{event_of}
-use Rattle.kv_model.specs.declared.event.Event.{Event}
-use Rattle.kv_watch.specs.Following.{Following, InReach, given_to}
+use Rattle.kv_watch.specs.Following.{Following}
+use Rattle.kv_watch.specs.Watching.{Watching, HasHanded, MovesOn, all_given, item_behind}
 use Rattle.kv_watch.proofs.Reaching.{in_reach_later}
 use Rattle.kv_keys.specs.declared.error.KvError.TheVariants.{Lagged}
 use Rattle.kv_bucket.specs.inside.Fed.{IsFed, TellsLag, TellsLagOf, IsNotShown, acts_on, feeding_of}
@@ -25,19 +24,20 @@ use Rattle.kv_publish.specs.Publications.{Published}
 use Rattle.kv_publish.proofs.Prefixes.{prefix_self, prefix_trans}
 
 -- a feed that goes on to what its reader has seen by now
-pub fed_later : (config : Configuration) (before after : Known) (base now next : Published) (cursor : Following) → IsFed config before base now cursor → IsPrefix before.seen after.seen
+pub fed_later : (config : Configuration) (before after : Known) (began : List Act) (now next : Published) (watch : Watching) → IsFed config before began now watch → IsPrefix before.seen after.seen
     → acts_on next ≡ after.seen → next.version.config ≡ config → StandsFor after.seen next.version
-    → lags config.history next.version.floor (feeding_of before base now cursor) ≡ false → IsFed config after base next cursor
-fed_later config before after base now next cursor fed grows seen same stands ahead =
+    → lags config.history next.version.floor (feeding_of before began now watch.cursor) ≡ false → IsFed config after began next watch
+fed_later config before after began now next watch fed grows seen same stands ahead =
+    let cursor = watch.cursor in
     let config_now : now.version.config ≡ config = fed.reach.place.same_config ∙ fed.same_config in
-    let parts = neither (nat_lt (length (writes_of (acts_on now))) next.version.floor) (is_behind next.version.floor cursor.handed config.history (acts_on base) (acts_on now) cursor.filters cursor.options) ahead in
-    let later = in_reach_later cursor.handed (acts_on base) (acts_on now) after.seen base.version now.version next.version cursor fed.reach.place stands (same ∙ sym config_now)
+    let parts = neither (nat_lt (length (writes_of (acts_on now))) next.version.floor) (is_behind next.version.floor cursor.handed config.history began (acts_on now) cursor.filters cursor.options) ahead in
+    let later = in_reach_later cursor.handed began (acts_on now) after.seen watch.opening now.version next.version cursor fed.reach.place stands (same ∙ sym config_now)
     (prefix_trans (acts_on now) before.seen after.seen fed.seen grows)
     (ltb-false (length (writes_of (acts_on now))) next.version.floor parts.0)
-    (ap (λ (c : Configuration). is_behind next.version.floor cursor.handed c.history (acts_on base) (acts_on now) cursor.filters cursor.options) fed.same_config ∙ parts.1) in record {
+    (ap (λ (c : Configuration). is_behind next.version.floor cursor.handed c.history began (acts_on now) cursor.filters cursor.options) fed.same_config ∙ parts.1) in record {
       same_config = fed.same_config;
       seen = subst (λ (acts : List Act). IsPrefix acts after.seen) (sym seen) (prefix_self after.seen);
-      reach = subst (λ (acts : List Act). InReach (acts_on base) acts cursor.handed base.version next.version cursor) (sym seen) later;
+      reach = subst (λ (acts : List Act). HasHanded began acts cursor.handed next.version watch) (sym seen) later;
     }
   where
     neither : (a b : Bool) → (a || b) ≡ false → (a ≡ false) × (b ≡ false)
@@ -45,8 +45,8 @@ fed_later config before after base now next cursor fed grows seen same stands ah
     neither false b e = (refl, e)
 
 -- a feed whose reader has seen more
-pub fed_seen : (config : Configuration) (before after : Known) (base now : Published) (cursor : Following) → IsFed config before base now cursor → IsPrefix before.seen after.seen → IsFed config after base now cursor
-fed_seen config before after base now cursor fed grows = record {
+pub fed_seen : (config : Configuration) (before after : Known) (began : List Act) (now : Published) (watch : Watching) → IsFed config before began now watch → IsPrefix before.seen after.seen → IsFed config after began now watch
+fed_seen config before after began now watch fed grows = record {
   same_config = fed.same_config;
   seen = prefix_trans (acts_on now) before.seen after.seen fed.seen grows;
   reach = fed.reach;
@@ -61,18 +61,18 @@ lags_near h floor feed behind l e =
     let within : nat_lt (length (writes_of feed.acts)) floor ≡ false = not_less (length (writes_of feed.acts)) floor l in
     e ∙ sym (ap (λ b. b || is_behind floor feed.handed h feed.began feed.acts feed.filters feed.options) within)
 
-pub refreshed : (before after : Known) (base now next : Published) (cursor : Following) → HasSeenMore before after → IsPrefix (acts_on now) before.seen → acts_on next ≡ after.seen
-    → IsPrefix before.told after.seen → IsRefreshed (feeding_of before base now cursor) (feeding_of after base next cursor)
-refreshed before after base now next cursor more low seen told = record {
+pub refreshed : (before after : Known) (began : List Act) (now next : Published) (cursor : Following) → HasSeenMore before after → IsPrefix (acts_on now) before.seen → acts_on next ≡ after.seen
+    → IsPrefix before.told after.seen → IsRefreshed (feeding_of before began now cursor) (feeding_of after began next cursor)
+refreshed before after began now next cursor more low seen told = record {
   reader = more;
   grows = subst (IsPrefix (acts_on now)) (sym seen) (prefix_trans (acts_on now) before.seen after.seen low more.0);
   told = subst (IsPrefix before.told) (sym seen) told;
-  same = ap (λ (acts : List Act). let f : Feeding = record { reader = after; began = acts_on base; acts = acts; filters = cursor.filters; options = cursor.options; handed = cursor.handed } in f) seen;
+  same = ap (λ (acts : List Act). let f : Feeding = record { reader = after; began = began; acts = acts; filters = cursor.filters; options = cursor.options; handed = cursor.handed } in f) seen;
 }
 
 -- what a feed went on to is lawful
-pub lawful_fed : (config : Configuration) (reader : Known) (base now : Published) (cursor : Following) → IsFed config reader base now cursor → IsLawful config (acts_on now)
-lawful_fed config reader base now cursor fed =
+pub lawful_fed : (config : Configuration) (reader : Known) (began : List Act) (now : Published) (watch : Watching) → IsFed config reader began now watch → IsLawful config (acts_on now)
+lawful_fed config reader began now watch fed =
     let same : now.version.config ≡ config = fed.reach.place.same_config ∙ fed.same_config in
     subst (λ (c : Configuration). IsLawful c (acts_on now)) same fed.reach.place.now_stands.lawful
 
@@ -93,83 +93,54 @@ counted feed n None e =
     let same : n ≡ feed.handed = omega arith in ap (λ (k : ℕ). let f : Feeding = record feed { handed = k } in f) same
 counted feed n (Some item) e = ap (λ (k : ℕ). let f : Feeding = record feed { handed = k } in f) e
 
--- a take: what was lent is the next item, there is none exactly where all was handed out, and the feed counts it
-pub took : (config : Configuration) (reader : Known) (base now : Published) (old new : Following) (item : Option Item) → IsFed config reader base now old
-    → new.filters ≡ old.filters → new.options ≡ old.options
-    → item ≡ slice_get (given base.version.config.history (acts_on base) (acts_on now) old.filters old.options) old.handed
-    → new.handed ≡ old.handed + option_len item
-    → (item ≡ next_of config.history (feeding_of reader base now old))
-    × ((item ≡ None → old.handed ≡ length (given_by config.history (feeding_of reader base now old))) × (old.handed ≡ length (given_by config.history (feeding_of reader base now old)) → item ≡ None))
-    × (feeding_of reader base now new ≡ after_item (feeding_of reader base now old) item)
-took config reader base now old new item fed filters options is_next counts =
-    let feed = feeding_of reader base now old in
-    let all = given base.version.config.history (acts_on base) (acts_on now) old.filters old.options in
-    let same_all : all ≡ given_by config.history feed = ap (λ (c : Configuration). given c.history (acts_on base) (acts_on now) old.filters old.options) fed.same_config in
-    let value : item ≡ next_of config.history feed = is_next ∙ ap (λ (xs : List Item). slice_get xs old.handed) same_all in
-    let within : old.handed ≤ length (given_by config.history feed) = subst (λ (xs : List Item). old.handed ≤ length xs) same_all fed.reach.place.taken in
-    let stop = ends (given_by config.history feed) old.handed within in
-    let moved : feeding_of reader base now new ≡ record feed { handed = new.handed } =
-    ap (λ (fs : List (List ℕ)). let f : Feeding = record { reader = reader; began = acts_on base; acts = acts_on now; filters = fs; options = new.options; handed = new.handed } in f) filters
-    ∙ ap (λ (o : Options). let f : Feeding = record { reader = reader; began = acts_on base; acts = acts_on now; filters = old.filters; options = o; handed = new.handed } in f) options in (
-      value,
-      (λ none. stop.0 (sym value ∙ none), λ end. value ∙ stop.1 end),
-      moved ∙ counted feed new.handed item counts,
-    )
+-- the watch and the feed are given the same
+same_given : (config : Configuration) (reader : Known) (began : List Act) (now : Published) (watch : Watching) → IsFed config reader began now watch
+    → all_given began (acts_on now) watch ≡ given_by config.history (feeding_of reader began now watch.cursor)
+same_given config reader began now watch fed = ap (λ (c : Configuration). given c.history began (acts_on now) watch.cursor.filters watch.cursor.options) fed.same_config
 
--- a feed that shows no next item has handed out all
-no_event : (item : Option Item) → None ≡ option_map event_of item → item ≡ None
-no_event None e = refl
-no_event (Some x) e = cc
+-- and have the same next item; there is none exactly where all was handed out
+pub shows : (config : Configuration) (reader : Known) (began : List Act) (now : Published) (watch : Watching) → IsFed config reader began now watch
+    → (item_behind began (acts_on now) watch.cursor.handed watch ≡ next_of config.history (feeding_of reader began now watch.cursor))
+    × ((next_of config.history (feeding_of reader began now watch.cursor) ≡ None → watch.cursor.handed ≡ length (given_by config.history (feeding_of reader began now watch.cursor)))
+    × (watch.cursor.handed ≡ length (given_by config.history (feeding_of reader began now watch.cursor)) → next_of config.history (feeding_of reader began now watch.cursor) ≡ None))
+shows config reader began now watch fed =
+    let same = same_given config reader began now watch fed in
+    let within : watch.cursor.handed ≤ length (given_by config.history (feeding_of reader began now watch.cursor)) = subst (λ (xs : List Item). watch.cursor.handed ≤ length xs) same fed.reach.place.taken in
+    (ap (λ (xs : List Item). slice_get xs watch.cursor.handed) same, ends (given_by config.history (feeding_of reader began now watch.cursor)) watch.cursor.handed within)
 
-pub all_handed : (config : Configuration) (reader : Known) (base now : Published) (cursor : Following) → IsFed config reader base now cursor
-    → None ≡ option_map event_of (next_of config.history (feeding_of reader base now cursor)) → cursor.handed ≡ length (given_by config.history (feeding_of reader base now cursor))
-all_handed config reader base now cursor fed e =
-    let feed = feeding_of reader base now cursor in
-    let within : cursor.handed ≤ length (given_by config.history feed) =
-    subst (λ (xs : List Item). cursor.handed ≤ length xs) (ap (λ (c : Configuration). given c.history (acts_on base) (acts_on now) cursor.filters cursor.options) fed.same_config) fed.reach.place.taken in
-    (ends (given_by config.history feed) cursor.handed within).0 (no_event (next_of config.history feed) e)
-
--- a pass behind the item that was shown
-shown_len : (item : Option Item) → option_len (option_map event_of item) ≡ option_len item
-shown_len None = refl
-shown_len (Some x) = refl
-
-pub passed : (config : Configuration) (reader : Known) (base now : Published) (old new : Following) (peeked : Option Event) (version : Stored) → IsFed config reader base now old → new.filters ≡ old.filters → new.options ≡ old.options → version ≡ now.version
-    → peeked ≡ option_map event_of (next_of config.history (feeding_of reader base now old))
-    → ((n : ℕ) (began acts : List Act) (opening : Stored) → InReach began acts n opening version old → peeked ≡ option_map event_of (slice_get (given_to opening.config.history began acts old) n) → InReach began acts (n + option_len peeked) opening version new)
-    → IsFed config reader base now new × (feeding_of reader base now new ≡ after_item (feeding_of reader base now old) (next_of config.history (feeding_of reader base now old)))
-passed config reader base now old new peeked version fed filters options same shown step =
-    let began = acts_on base in
+-- its watch moved on behind the next item, and so did the feed
+pub moved : (config : Configuration) (reader : Known) (began : List Act) (now : Published) (old new : Watching) (version : Stored) → IsFed config reader began now old → version ≡ now.version → MovesOn version old new
+    → IsFed config reader began now new × (feeding_of reader began now new.cursor ≡ after_item (feeding_of reader began now old.cursor) (next_of config.history (feeding_of reader began now old.cursor)))
+moved config reader began now old new version fed same moves =
     let acts = acts_on now in
-    let feed = feeding_of reader base now old in
+    let n = old.cursor.handed in
+    let feed = feeding_of reader began now old.cursor in
     let item = next_of config.history feed in
-    let there : InReach began acts old.handed base.version version old = subst (λ (v : Stored). InReach began acts old.handed base.version v old) (sym same) fed.reach in
-    let next : peeked ≡ option_map event_of (slice_get (given_to base.version.config.history began acts old) old.handed) =
-    shown ∙ ap (λ (c : Configuration). option_map event_of (slice_get (given_to c.history began acts old) old.handed)) (sym fed.same_config) in
-    let further = step old.handed began acts base.version there next in
-    let counts : new.handed ≡ old.handed + option_len peeked = further.place.handed in
-    let reach : InReach began acts new.handed base.version now.version new =
-    subst (λ (v : Stored). InReach began acts new.handed base.version v new) same (subst (λ (n : ℕ). InReach began acts n base.version version new) (sym counts) further) in
-    let all : new.handed ≡ old.handed + option_len item = counts ∙ (ap (λ (p : Option Event). old.handed + option_len p) shown ∙ ap (λ (n : ℕ). old.handed + n) (shown_len item)) in
-    let moved : feeding_of reader base now new ≡ record feed { handed = new.handed } =
-    ap (λ (fs : List (List ℕ)). let f : Feeding = record { reader = reader; began = began; acts = acts; filters = fs; options = new.options; handed = new.handed } in f) filters
-    ∙ ap (λ (o : Options). let f : Feeding = record { reader = reader; began = began; acts = acts; filters = old.filters; options = o; handed = new.handed } in f) options in (
-      record { same_config = fed.same_config; seen = fed.seen; reach = reach },
-      moved ∙ counted feed new.handed item all,
+    let at : HasHanded began acts n version old = subst (λ (v : Stored). HasHanded began acts n v old) (sym same) fed.reach in
+    let there : item_behind began acts n old ≡ item = (shows config reader began now old fed).0 in
+    let further : HasHanded began acts (n + option_len item) now.version new =
+    subst (λ (v : Stored). HasHanded began acts (n + option_len item) v new) same (subst (λ (i : Option Item). HasHanded began acts (n + option_len i) version new) there (moves.moves n began acts at)) in
+    let counts : new.cursor.handed ≡ n + option_len item = further.place.handed in
+    let reach : HasHanded began acts new.cursor.handed now.version new = subst (λ (k : ℕ). HasHanded began acts k now.version new) (sym counts) further in
+    let changed : feeding_of reader began now new.cursor ≡ record feed { handed = new.cursor.handed } =
+    ap (λ (fs : List (List ℕ)). let f : Feeding = record { reader = reader; began = began; acts = acts; filters = fs; options = new.cursor.options; handed = new.cursor.handed } in f) moves.filters
+    ∙ ap (λ (o : Options). let f : Feeding = record { reader = reader; began = began; acts = acts; filters = old.cursor.filters; options = o; handed = new.cursor.handed } in f) moves.options in (
+      record { same_config = ap (λ (v : Stored). v.config) moves.opening ∙ fed.same_config; seen = fed.seen; reach = reach },
+      changed ∙ counted feed new.cursor.handed item counts,
     )
 
 -- ---- what is handed over to a feed
 
-pub at_floor : (follower : Option (Published × Following)) (current : Published) (cursor : Following) (acts : List Act) (floor : ℕ) (behind answer : Bool) → follower ≡ Some (current, cursor) → floor ≡ floor_of acts → behind ≡ answer
-    → TellsLag current cursor floor behind → TellsLagOf follower (floor_of acts) answer
-at_floor follower current cursor acts floor behind answer some same is tells =
-    subst (λ (f : Option (Published × Following)). TellsLagOf f (floor_of acts) answer) (sym some)
-    (subst (λ (n : ℕ). TellsLag current cursor n answer) same (subst (λ (b : Bool). TellsLag current cursor floor b) is tells))
+pub at_floor : (follower : Option (Published × Watching)) (current : Published) (watch : Watching) (acts : List Act) (floor : ℕ) (behind answer : Bool) → follower ≡ Some (current, watch) → floor ≡ floor_of acts → behind ≡ answer
+    → TellsLag current watch floor behind → TellsLagOf follower (floor_of acts) answer
+at_floor follower current watch acts floor behind answer some same is tells =
+    subst (λ (f : Option (Published × Watching)). TellsLagOf f (floor_of acts) answer) (sym some)
+    (subst (λ (n : ℕ). TellsLag current watch n answer) same (subst (λ (b : Bool). TellsLag current watch floor b) is tells))
 
-pub none_behind : (follower : Option (Published × Following)) (floor : ℕ) → follower ≡ None → TellsLagOf follower floor false
-none_behind follower floor none = subst (λ (f : Option (Published × Following)). TellsLagOf f floor false) (sym none) refl
+pub none_behind : (follower : Option (Published × Watching)) (floor : ℕ) → follower ≡ None → TellsLagOf follower floor false
+none_behind follower floor none = subst (λ (f : Option (Published × Watching)). TellsLagOf f floor false) (sym none) refl
 
-pub told_behind : (follower : Option (Published × Following)) (acts : List Act) (floor : ℕ) → floor ≡ floor_of acts → TellsLagOf follower (floor_of acts) true → IsNotShown follower acts (Lagged floor)
+pub told_behind : (follower : Option (Published × Watching)) (acts : List Act) (floor : ℕ) → floor ≡ floor_of acts → TellsLagOf follower (floor_of acts) true → IsNotShown follower acts (Lagged floor)
 told_behind follower acts floor same tells = inr (inl (ap Lagged same, tells))
 
 pub whatever_is_ok : {T E : Type 0} (r : Result T E) (P : Type 0) → P → IfOk r (λ _. P)

@@ -9,11 +9,11 @@ use Rattle.kv_store.proofs.Sent.{version_send}
 use Rattle.kv_publish.proofs.Sent.{publication_send, publication_sync, side_send, side_sync, notifier_send, notifier_sync, buffer_send}
 use Rattle.kv_publish.proofs.journal.Journal.TheSendSync as journal
 use Rattle.kv_bucket.specs.contracts.receipt.Mark as Mark
-use Rattle.kv_watch.proofs.cursor.Cursor.TheSendSync as cursor
+use Rattle.kv_watch.proofs.Sent.{watch_send}
+use Rattle.kv_publish.proofs.prefix.RawPrefix.TheSendSync as raw_prefix
 use Rattle.kv_publish.specs.declared.protocol.LiveName as live_name
 use Rattle.kv_bucket.specs.contracts.cached.Cached as Cached
 use Rattle.kv_bucket.specs.contracts.feed.Feed as Feed
-use Rattle.kv_bucket.specs.contracts.feed.Held as Held
 use Rattle.kv_bucket.specs.contracts.progress.Progress as Progress
 use Rattle.kv_bucket.specs.contracts.publisher.Publisher as Publisher
 use Rattle.kv_bucket.specs.contracts.reader.Reader as Reader
@@ -25,10 +25,7 @@ use Rattle.kv_bucket.specs.contracts.keeper.Keeper as Keeper
 use Rattle.kv_bucket.specs.contracts.live.Live as Live
 
 bucket_send : IsSend Bucket.the_row
-bucket_send = let v = version_send in let c = cursor.the_send in search (sendable, crosses) depth 20
-
-held_send : IsSend (Held.the_field).row
-held_send = let h = publication_send in let v = version_send in search (sendable, crosses) depth 20
+bucket_send = let v = version_send in let w = watch_send in search (sendable, crosses) depth 20
 
 module _ (N : RattleType) (g : live_name.Ghosts N.Denot) (s : IsSend N) (y : IsSync N) where
   progress_send : IsSend (Progress.the_row N g)
@@ -44,7 +41,7 @@ module _ (N : RattleType) (g : live_name.Ghosts N.Denot) (s : IsSend N) (y : IsS
   cached_sync = let h = publication_sync in search (sendable, crosses) depth 20
 
   pub feed_send : IsSend (Feed.the_row N g)
-  feed_send = let h = held_send in let r = reader_send in let c = cursor.the_send in search sendable depth 20
+  feed_send = let h = publication_send in let r = reader_send in let w = watch_send in search (sendable, crosses, raw_prefix.the_send) depth 20
 
   pub mark_send : IsSend (Mark.the_row N g)
   mark_send = search (sendable, prefix.the_send) depth 20

@@ -2,15 +2,11 @@
 
 ghost use Rattle.std.specs.Prelude.{◌≡◌, ◌≤◌, ◌↔◌, false, List, [], ⊤, None, IfOk, IfErr, OnOk, MatchResult, is_some, length, take};
 ghost use Rattle.std.specs.Borrow.{sem, follows_so};
-ghost use Rattle.std.specs.Option.{option_map};
 ghost use mathlib.Core.Option.{none};
 ghost use Rattle.kv_keys.specs.declared.error.KvError.TheVariants.{OutOfMemory};
 ghost use Rattle.kv_model.specs.Acceptance.{IsLawful};
 ghost use Rattle.kv_model.specs.Acts.{Act, Write, IsPrefix, floor_of};
 ghost use Rattle.kv_store.specs.Standing.{StandsFor};
-ghost use Rattle.kv_watch.specs.Following.{InReach, IsOpening};
-ghost use Rattle.kv_model.specs.further.Events.{event_of};
-ghost use Rattle.kv_store.specs.Stored.{Stored};
 ghost use Rattle.kv_watch.specs.Taking.{item_taken};
 ghost use Rattle.kv_bucket.specs.inside.Fed.{acts_on, opened};
 ghost use Rattle.kv_bucket.specs.Feeding.{Feeding, HasSeenMore, HasLearned, IsRefreshed, IsNotRefreshed, IsStopped, lags, WentOn, HandsNext, given_by, next_of, after_item};
@@ -21,11 +17,10 @@ ghost use Rattle.kv_publish.specs.Publications.{IsOf};
 use crate::reader::Reader;
 use crate::receipt::{Mark, Receipt};
 use kv_keys::{Filters, KvError};
-use kv_model::{Event, Options, Stopped};
-use kv_publish::{LiveName, Publication, Woken};
+use kv_model::{Options, Stopped};
+use kv_publish::{LiveName, Publication, RawPrefix, Woken};
 use kv_store::Version;
-use kv_watch::{Cursor, Taken};
-use std::alloc::Global;
+use kv_watch::{Taken, Watch};
 use std::marker::Model;
 use std::mem;
 use std::rt::Clock;
@@ -37,34 +32,20 @@ use std::time::Duration;
 /// acts when it was opened, those that its version stands for, what it shows, and how many items it handed out.
 pub struct Feed<N: LiveName> {
     reader: Reader<N>,
-    held: Held,
-    cursor: Cursor,
+    // The acts of its beginning, as contracts see them. It has no bytes.
+    began: Snapshot<RawPrefix>,
+    current: Publication,
+    watch: Watch,
 }
 
+// Field by field: a derived drop makes each proof longer that owns a feed.
 impl<N: LiveName> Drop for Feed<N> {
     fn drop(self) {
         let Self {
             reader: _,
-            held: _,
-            cursor: _,
-        } = self;
-    }
-}
-
-// What a feed was opened on, as contracts see it and as long as initial entries are owed, and what it went on to: one
-// field, which `take` lends from.
-struct Held {
-    base: Snapshot<Publication>,
-    kept: Option<Version>,
-    current: Publication,
-}
-
-impl Drop for Held {
-    fn drop(self) {
-        let Self {
-            base: _,
-            kept: _,
+            began: _,
             current: _,
+            watch: _,
         } = self;
     }
 }
@@ -72,33 +53,12 @@ impl Drop for Held {
 impl<N: LiveName> Model for Feed<N> {
     ghost use Rattle.kv_bucket.specs.inside.Fed.{IsFed, feeding_of};
     ghost use Rattle.kv_bucket.specs.Feeding.{Feeding};
-    ghost use Rattle.kv_watch.specs.Following.{IsOpening};
 
     ghost Value = { Feeding };
 
-    ghost view = { λ f. feeding_of f.reader f.held.base.value f.held.current f.cursor };
+    ghost view = { λ f. feeding_of f.reader f.began.value.acts f.current f.watch.cursor };
 
-    ghost invariant = { λ f. IsFed N.opening.config f.reader f.held.base.value f.held.current f.cursor
-        × IsOpening f.held.kept f.held.base.value.version f.cursor };
-}
-
-// What a feed needs that begins on a publication: a cursor before the first item, and a snapshot as long as that needs it.
-fn beginning(
-    alloc: Global,
-    publication: &Publication,
-    filters: &Filters,
-    options: Options,
-) -> Result<(Option<Version>, Cursor), KvError>
-    ensures kept { IfOk result (λ p. IsOpening p.0 publication.now.version p.1) }
-    ensures shows { IfOk result (λ p. (p.1.filters ≡ filters.now) × (p.1.options ≡ options)) }
-    ensures place { IfOk result
-        (λ p. InReach (acts_on publication.now) (acts_on publication.now) 0 publication.now.version publication.now.version p.1) }
-    ensures err { IfErr result (λ e. e ≡ OutOfMemory) }
-{
-    let base = publication.version().snapshot()?;
-    let cursor = Cursor::open(alloc, publication.version(), filters, options)?;
-    let kept = cursor.keep(base);
-    Ok((kept, cursor))
+    ghost invariant = { λ f. IsFed N.opening.config f.reader f.began.value.acts f.current f.watch };
 }
 
 // A feed that begins on a publication.
@@ -113,15 +73,12 @@ fn begin<N: LiveName>(
     ensures ok { IfOk result (λ feed. feed ≡ opened reader (acts_on publication) filters.now options) }
     ensures err { IfErr result (λ e. (e.0 ≡ reader) × (e.1 ≡ OutOfMemory)) }
 {
-    match beginning(reader.alloc(), &publication, filters, options) {
-        Ok((kept, cursor)) => Ok(Feed {
+    match Watch::open(reader.alloc(), publication.version(), filters, options) {
+        Ok(watch) => Ok(Feed {
             reader,
-            held: Held {
-                base: Snapshot::of(&publication),
-                kept,
-                current: publication,
-            },
-            cursor,
+            began: Snapshot::of(publication.raw_prefix()),
+            current: publication,
+            watch,
         }),
         Err(refusal) => Err((reader, refusal)),
     }
@@ -188,8 +145,8 @@ impl<N: LiveName> Feed<N> {
     {
         let publication = self
             .reader
-            .publication_ahead(&self.held.current, &self.cursor)?;
-        let left = mem::replace(&mut self.held.current, publication);
+            .publication_ahead(&self.current, &self.watch)?;
+        let left = mem::replace(&mut self.current, publication);
         Ok(left.into_version())
     }
 
@@ -198,15 +155,14 @@ impl<N: LiveName> Feed<N> {
         ensures ok { IfOk result (λ v. StandsFor self.now.acts v × (v.config ≡ N.opening.config)) }
         ensures err { IfErr result (λ e. e ≡ OutOfMemory) }
     {
-        self.held.current.version().snapshot()
+        self.current.version().snapshot()
     }
 
     /// What `take` would hand out.
     pub fn peek(&self) -> Taken<'_>
         ensures { item_taken result ≡ next_of N.opening.config.history self.now }
     {
-        self.cursor
-            .peek(self.held.kept.as_ref(), self.held.current.version())
+        self.watch.peek(self.current.version())
     }
 
     /// Hands out the next item, lent from the feed's version. Where all was handed out it is `Empty`, and nothing
@@ -221,27 +177,22 @@ impl<N: LiveName> Feed<N> {
         ensures end { (item_taken result ≡ None) ↔ (self.old.handed
             ≡ length (given_by N.opening.config.history self.old)) }
     {
-        self.cursor.let_go(&mut self.held.kept);
-        let held = &self.held;
-        self.cursor
-            .take_settled(held.kept.as_ref(), held.current.version())
+        self.watch.take(self.current.version())
     }
 
-    /// Moves on behind the item that `peek` showed, as `take` does, and doesn't look it up again: so that what is shown
-    /// can be copied first, and want of memory loses no item.
-    pub fn pass(&mut self, peeked: Option<Event>)
-        requires next { peeked ≡ option_map event_of (next_of N.opening.config.history self.old) }
+    /// Moves on behind the next item, as `take` does, and lends nothing: so that what was peeked can be copied first, and
+    /// want of memory loses no item.
+    pub fn pass(&mut self)
         ensures after { self.new ≡ after_item self.old (next_of N.opening.config.history self.old) }
-        ensures once { peeked ≡ None → (told : List Act) (w : Write) → Owes self.old told w →
-            HasOnce self.old w (take self.old.handed (given_by N.opening.config.history self.old)) }
+        ensures once { next_of N.opening.config.history self.old ≡ None → (told : List Act) (w : Write) →
+            Owes self.old told w → HasOnce self.old w (take self.old.handed (given_by N.opening.config.history self.old)) }
     {
-        self.cursor.pass(peeked, self.held.current.version());
-        self.cursor.let_go(&mut self.held.kept);
+        self.watch.pass(self.current.version());
     }
 
     /// Sleeps until more is published than it went on to, or the bucket is closed, and says which. It takes no lock.
     pub fn wait<R: Wait>(&self, rt: &R) -> Woken {
-        self.reader.notifier().wait(rt, self.held.current.acts())
+        self.reader.notifier().wait(rt, self.current.acts())
     }
 
     /// The same, for no longer than the limit. It is `None` where the time was over first, or the clock couldn't be
@@ -249,7 +200,7 @@ impl<N: LiveName> Feed<N> {
     pub fn wait_timeout<R: Wait + Clock>(&self, rt: &R, limit: Duration) -> Option<Woken> {
         self.reader
             .notifier()
-            .wait_timeout(rt, self.held.current.acts(), limit)
+            .wait_timeout(rt, self.current.acts(), limit)
     }
 
     // Whether there is a next item. It notes how far it looked, so that what was looked at in vain is not looked at
@@ -258,7 +209,7 @@ impl<N: LiveName> Feed<N> {
         ensures same { self.new ≡ self.old }
         ensures found { result ≡ is_some (next_of N.opening.config.history self.old) }
     {
-        self.cursor.settle(self.held.current.version())
+        self.watch.settle(self.current.version())
     }
 
     // Goes on until there is a next item, or the bucket was closed and there will never be one.
@@ -300,7 +251,7 @@ impl<N: LiveName> Feed<N> {
         ensures seen { IsPrefix self.now.acts self.now.reader.seen }
         ensures lawful { IsLawful N.opening.config self.now.acts }
     {
-        self.cursor.handed()
+        self.watch.handed()
     }
 
     /// Ends the feed. Its reader comes back.
@@ -310,10 +261,11 @@ impl<N: LiveName> Feed<N> {
     {
         let Feed {
             reader,
-            held: _,
-            cursor,
+            began: _,
+            current: _,
+            watch,
         } = self;
-        let handed = cursor.handed();
+        let handed = watch.handed();
         (reader, Stopped { handed })
     }
 

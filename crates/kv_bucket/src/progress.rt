@@ -11,7 +11,7 @@ ghost use Rattle.kv_publish.specs.Publications.{IsOf};
 use crate::receipt::Mark;
 use kv_keys::KvError;
 use kv_publish::{LiveName, Prefix, Publication, RawPrefix};
-use kv_watch::Cursor;
+use kv_watch::Watch;
 use std::marker::Model;
 
 /// What a reader of the opening N has seen, what it was told, and how many acts the version stands for that it took in
@@ -61,7 +61,7 @@ impl<N: LiveName> Progress<N> {
     /// Takes in what is published: a copy, unless the follower, if any, lags behind it.
     pub fn take_in(
         &mut self,
-        follower: Option<(&Publication, &Cursor)>,
+        follower: Option<(&Publication, &Watch)>,
         publication: &Publication,
     ) -> Result<Publication, KvError>
         requires { IsOf N.opening publication.now }
@@ -165,7 +165,7 @@ impl<N: LiveName> Progress<N> {
 
 // A copy of the publication, unless this follower, if any, lags behind it.
 fn copy_for(
-    follower: Option<(&Publication, &Cursor)>,
+    follower: Option<(&Publication, &Watch)>,
     publication: &Publication,
 ) -> Result<Publication, KvError>
     ensures ok { IfOk result (λ s. (s.raw_prefix ≡ publication.now.raw_prefix)
@@ -176,22 +176,22 @@ fn copy_for(
     ensures err { IfErr result
         (IsNotShown (option_map (λ f. (f.0.now, f.1.now)) follower.entry) publication.now.raw_prefix.acts) }
 {
-    if let Some((current, cursor)) = follower {
+    if let Some((current, watch)) = follower {
         let floor = publication.version().floor();
-        if lags_behind(current, cursor, floor) {
+        if lags_behind(current, watch, floor) {
             return Err(KvError::Lagged { floor });
         }
     }
     publication.try_clone()
 }
 
-// Whether a feed with this cursor that is on this publication lags behind a version with the floor.
-fn lags_behind(current: &Publication, cursor: &Cursor, floor: u64) -> bool
-    ensures { TellsLag current.now cursor.now floor result }
+// Whether a feed with this watch that is on this publication lags behind a version with the floor.
+fn lags_behind(current: &Publication, watch: &Watch, floor: u64) -> bool
+    ensures { TellsLag current.now watch.now floor result }
 {
     let version = current.version();
     if version.revision() < floor {
         return true;
     }
-    cursor.behind(version, floor)
+    watch.behind(version, floor)
 }

@@ -15,7 +15,7 @@ use crate::receipt::{Mark, Receipt};
 use kv_keys::KvError;
 use kv_publish::{Gets, LiveName, Notifier, Prefix, Publication, PublishRule, Side, Woken};
 use kv_store::Version;
-use kv_watch::Cursor;
+use kv_watch::Watch;
 use left_right::reader::Reader as Slot;
 use std::alloc::Global;
 use std::marker::Model;
@@ -213,26 +213,26 @@ impl<N: LiveName> Reader<N> {
         self.look(None)
     }
 
-    /// What is published, for a feed that is on this publication with this cursor, unless it lags behind that.
+    /// What is published, for a feed that is on this publication with this watch, unless it lags behind that.
     pub(crate) fn publication_ahead(
         &mut self,
         current: &Publication,
-        cursor: &Cursor,
+        watch: &Watch,
     ) -> Result<Publication, KvError>
         ensures later { IsPrefix self.old.seen self.new.seen }
         ensures told { self.new.told ≡ self.old.told }
         ensures ok { IfOk result
             (λ s. (s.raw_prefix.acts ≡ self.new.seen) × IsOf N.opening s × IsPrefix self.old.told self.new.seen) }
         ensures stands { IfOk result (λ s. StandsFor self.new.seen s.version) }
-        ensures ahead { IfOk result (λ _. TellsLag current.now cursor.now (floor_of self.new.seen) false) }
-        ensures err { IfErr result (IsNotShown (Some (current.now, cursor.now)) self.new.seen) }
+        ensures ahead { IfOk result (λ _. TellsLag current.now watch.now (floor_of self.new.seen) false) }
+        ensures err { IfErr result (IsNotShown (Some (current.now, watch.now)) self.new.seen) }
     {
-        self.look(Some((current, cursor)))
+        self.look(Some((current, watch)))
     }
 
     // What is published, or what was published last where the store lets nobody enter any more, unless this follower
     // lags behind it.
-    fn look(&mut self, follower: Option<(&Publication, &Cursor)>) -> Result<Publication, KvError>
+    fn look(&mut self, follower: Option<(&Publication, &Watch)>) -> Result<Publication, KvError>
         ensures later { IsPrefix self.old.seen self.new.seen }
         ensures told { self.new.told ≡ self.old.told }
         ensures ok { IfOk result

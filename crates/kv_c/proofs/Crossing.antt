@@ -5,13 +5,13 @@ use Rattle.kv_store.proofs.Sent.{version_send}
 use Rattle.kv_single.specs.contracts.bucket.Bucket as Bucket
 use Rattle.kv_c.specs.contracts.content.Content as Content
 use Rattle.kv_c.specs.contracts.feed.Feed as Feed
-use Rattle.kv_watch.proofs.cursor.Cursor.TheSendSync as cursor
+use Rattle.kv_watch.proofs.Sent.{watch_send}
 
 bucket_send : IsSend Bucket.the_row
-bucket_send = let v = version_send in let c = cursor.the_send in search (sendable, crosses) depth 20
+bucket_send = let v = version_send in let w = watch_send in search (sendable, crosses) depth 20
 
 feed_send : IsSend Feed.the_row
-feed_send = let v = version_send in let c = cursor.the_send in search (sendable, crosses) depth 20
+feed_send = let v = version_send in let w = watch_send in search (sendable, crosses) depth 20
 
 pub content_send : IsSend Content.the_row
 content_send = let b = bucket_send in let v = version_send in let f = feed_send in search (sendable, crosses) depth 20

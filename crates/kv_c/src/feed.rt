@@ -7,31 +7,25 @@ ghost use Rattle.kv_c.specs.Feeding.{HandsNext, HasHanded, IsRefreshed, Opens, l
 ghost use Rattle.kv_keys.specs.declared.error.KvError.TheVariants.{Lagged, OutOfMemory};
 ghost use Rattle.kv_model.specs.Acts.{Act};
 ghost use Rattle.kv_model.specs.Answers.{answer_item};
-ghost use Rattle.kv_watch.specs.Following.{IsOpening};
 
 use crate::handing::{self, Item};
 use kv_single::{Filters, KvError, Options, Version};
-use kv_watch::Cursor;
+use kv_watch::Watch;
 use std::alloc::Global;
 use std::marker::Model;
-use std::snapshot::Snapshot;
 
-/// A watch: the version that it was opened on, as contracts see it and as long as initial entries are owed, the one
-/// that it has gone on to, and how far it has come.
+/// A watch, and the version that it has gone on to.
 pub struct Feed {
-    base: Snapshot<Version>,
-    kept: Option<Version>,
     present: Version,
-    cursor: Cursor,
+    watch: Watch,
 }
 
+// Field by field: a derived drop makes each proof longer that owns a feed.
 impl Drop for Feed {
     fn drop(self) {
         let Self {
-            base: _,
-            kept: _,
             present: _,
-            cursor: _,
+            watch: _,
         } = self;
     }
 }
@@ -41,18 +35,7 @@ impl Model for Feed {
 
     ghost Value = { Fed };
 
-    ghost view = { λ f. record { base = f.base.value; kept = f.kept; present = f.present; cursor = f.cursor } };
-}
-
-// What is kept of a version for a cursor that was opened on it, and the version itself. A function of its own, so that
-// nothing else is owned where a snapshot is refused.
-fn begun(version: &Version, cursor: &Cursor) -> Result<(Option<Version>, Version), KvError>
-    ensures ok { IfOk result (λ begun. IsOpening begun.0 version.now cursor.now × (begun.1 ≡ version.now)) }
-    ensures err { IfErr result (λ e. e ≡ OutOfMemory) }
-{
-    let base = version.snapshot()?;
-    let present = version.snapshot()?;
-    Ok((cursor.keep(base), present))
+    ghost view = { λ f. record { present = f.present; watch = f.watch } };
 }
 
 impl Feed {
@@ -66,14 +49,9 @@ impl Feed {
         ensures ok { IfOk result (λ feed. Opens version.now filters.now options feed) }
         ensures err { IfErr result (λ e. e ≡ OutOfMemory) }
     {
-        let cursor = Cursor::open(alloc, version, filters, options)?;
-        let (kept, present) = begun(version, &cursor)?;
-        Ok(Feed {
-            base: Snapshot::of(version),
-            kept,
-            present,
-            cursor,
-        })
+        let present = version.snapshot()?;
+        let watch = Watch::open(alloc, version, filters, options)?;
+        Ok(Feed { present, watch })
     }
 
     /// Whether a version has no fewer writes than the one that it has gone on to.
@@ -92,7 +70,7 @@ impl Feed {
         if self.present.revision() < floor {
             return true;
         }
-        self.cursor.behind(&self.present, floor)
+        self.watch.behind(&self.present, floor)
     }
 
     /// Goes on to a version, unless it lags behind that one's floor.
@@ -125,12 +103,10 @@ impl Feed {
         ensures room { ¬ (result ≡ 0) → (keys.new ≡ keys.old) × (values.new ≡ values.old) }
         ensures untold { ¬ (result ≡ 0) → ¬ (result ≡ 33) → item.new ≡ item.old }
     {
-        let taken = self.cursor.peek(self.kept.as_ref(), &self.present);
-        let event = taken.event();
+        let taken = self.watch.peek(&self.present);
         let done = handing::hand(&taken, keys, values, item);
         if done == 0 {
-            self.cursor.pass(event, &self.present);
-            self.cursor.let_go(&mut self.kept);
+            self.watch.pass(&self.present);
         }
         done
     }

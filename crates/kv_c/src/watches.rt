@@ -92,7 +92,6 @@ pub extern "C" fn kv_watch(
     done
 }
 
-#[tactic(auto, using(crate::proofs::Feeding::event_of_answer))]
 fn take_from(
     bucket: &mut Bucket,
     number: u64,
@@ -113,12 +112,12 @@ fn take_from(
     ensures room { ¬ (result ≡ 0) → (keys.new ≡ keys.old) × (values.new ≡ values.old) }
     ensures untold { ¬ (result ≡ 0) → ¬ (result ≡ 33) → item.new ≡ item.old }
 {
-    let (done, event) = match bucket.peek(number) {
-        Ok(taken) => (handing::hand(&taken, keys, values, item), taken.event()),
-        Err(refusal) => (refusal.code(), None),
+    let done = match bucket.peek(number) {
+        Ok(taken) => handing::hand(&taken, keys, values, item),
+        Err(refusal) => refusal.code(),
     };
     if done == 0 {
-        bucket.pass(number, event);
+        bucket.pass(number);
     }
     done
 }

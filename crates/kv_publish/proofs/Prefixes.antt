@@ -21,12 +21,12 @@ prefix_shorter (x ∷ xs) (y ∷ ys) (z ∷ zs) p q le =
     (rest.0, cc (heads, rest.1))
 
 -- a beginning as long as the whole is the whole
-pub prefix_journal : {A : Type 0} (xs ys : List A) → IsPrefix xs ys → length ys ≤ length xs → xs ≡ ys
-prefix_journal [] [] p le = refl
-prefix_journal [] (y ∷ ys) p le = absurd (omega arith)
-prefix_journal (x ∷ xs) [] p le = absurd (cc (p.1))
-prefix_journal (x ∷ xs) (y ∷ ys) p le =
-    let rest = prefix_journal xs ys (p.0, cc (p.1)) (omega arith) in cc (p.1, rest)
+pub prefix_whole : {A : Type 0} (xs ys : List A) → IsPrefix xs ys → length ys ≤ length xs → xs ≡ ys
+prefix_whole [] [] p le = refl
+prefix_whole [] (y ∷ ys) p le = absurd (omega arith)
+prefix_whole (x ∷ xs) [] p le = absurd (cc (p.1))
+prefix_whole (x ∷ xs) (y ∷ ys) p le =
+    let rest = prefix_whole xs ys (p.0, cc (p.1)) (omega arith) in cc (p.1, rest)
 
 pub prefix_length : {A : Type 0} (xs ys : List A) → IsPrefix xs ys → length xs ≤ length ys
 prefix_length xs ys p = omega (arith, sym (ap length p.1) ∙ length-append xs p.0)

@@ -4,7 +4,7 @@ use Rattle.std.proofs.lemmas.Bool.Decides.{nat_tests}
 use Rattle.kv_model.specs.Acts.{Act, IsPrefix}
 use Rattle.kv_publish.specs.declared.entry.Entry.{Entry}
 use Rattle.kv_publish.specs.Rules.{acts_in}
-use Rattle.kv_publish.proofs.Prefixes.{prefix_trans, prefix_journal}
+use Rattle.kv_publish.proofs.Prefixes.{prefix_trans, prefix_whole}
 
 pub acts_prefix : (xs ys : List Entry) → IsPrefix xs ys → IsPrefix (acts_in xs) (acts_in ys)
 acts_prefix [] ys p = (acts_in ys, refl)
@@ -27,7 +27,7 @@ seen_within prefix acts journal both now view seen more same =
     subst (IsPrefix prefix) (ap acts_in same ∙ view) (prefix_trans prefix (acts_in both) (acts_in now) seen (acts_prefix both now more))
 
 -- and all of it where it is as long
-pub seen_journal : (prefix acts : List Act) (journal : List Entry) (n m : ℕ) → acts_in journal ≡ acts → IsPrefix prefix acts → n ≡ length prefix → m ≡ length journal → nat_eq n m ≡ true → prefix ≡ acts
-seen_journal prefix acts journal n m view within long all is =
+pub seen_whole : (prefix acts : List Act) (journal : List Entry) (n m : ℕ) → acts_in journal ≡ acts → IsPrefix prefix acts → n ≡ length prefix → m ≡ length journal → nat_eq n m ≡ true → prefix ≡ acts
+seen_whole prefix acts journal n m view within long all is =
     let same : n ≡ m = grind (arith, nat_tests) in
-    prefix_journal prefix acts within (omega (arith, same, long, all, acts_length journal, ap length view))
+    prefix_whole prefix acts within (omega (arith, same, long, all, acts_length journal, ap length view))

@@ -1,4 +1,4 @@
-//! The log of what a bucket of threads publishes: the history of its acts, which exists in proofs alone, the two copies of
+//! What a bucket of threads publishes: the journal of its acts, which exists in proofs alone, the two copies of
 //! the last version, in which readers enter without a lock, and the notifier on which they sleep. It knows versions, and no
 //! bucket and no reader: those stand above it, in `kv_bucket`.
 #![tactic(auto)]

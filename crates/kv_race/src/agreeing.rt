@@ -6,12 +6,14 @@ ghost use Rattle.kv_race.specs.Telling.{HasLast, IsShown};
 
 use crate::ending::{Answers, Ended, hear_all};
 use crate::feeding::refresh;
+use crate::never::never;
 use crate::opening::open_feed;
 use kv_bucket::{Feed, LiveName, Reader};
 use kv_keys::{Filters, KvError};
 use kv_model::{Options, Start};
 use kv_store::Version;
 use std::alloc::Global;
+use std::sync::Wait;
 
 /// How a reader that nobody watches by is shown the last version.
 const LATEST: Options = Options {
@@ -41,17 +43,22 @@ fn all_agree<N: LiveName>(reader: &Reader<N>, ended: &[Ended<N>]) -> bool
 }
 
 // The version that a feed goes on to once it has taken in all receipts.
-fn last_shown<N: LiveName>(feed: &mut Feed<N>, answers: &[Answers<N>]) -> Result<Version, KvError>
+fn last_shown<N: LiveName, R: Wait>(
+    rt: &R,
+    feed: &mut Feed<N>,
+    answers: &[Answers<N>],
+) -> Result<Version, KvError>
     ensures ok { IfOk result (HasLast N.opening.config (map (λ some. some.items) answers.now) []) }
     ensures err { IfErr result IsUnread }
 {
     hear_all(feed, answers);
-    refresh(feed)?;
+    refresh(rt, feed)?;
     feed.version()
 }
 
-// The version that a reader shows once it has taken in all receipts.
-fn version_of<N: LiveName>(
+// The version that a reader shows once it has taken in all receipts. There is one where nobody watches.
+fn version_of<N: LiveName, R: Wait>(
+    rt: &R,
     alloc: Global,
     reader: Option<Reader<N>>,
     answers: &[Answers<N>],
@@ -60,16 +67,17 @@ fn version_of<N: LiveName>(
     ensures err { IfErr result IsUnread }
 {
     let Some(reader) = reader else {
-        return Err(KvError::NoReader);
+        return never(rt);
     };
     let filters = Filters::parse(alloc, ">")?;
     let mut feed = open_feed(reader, &filters, LATEST)?;
-    last_shown(&mut feed, answers)
+    last_shown(rt, &mut feed, answers)
 }
 
-/// The version that all watches have gone on to. They always agree on it. Where there are none it is the one that the
-/// spare reader shows.
-pub(crate) fn last_of<N: LiveName>(
+/// The version that all watches have gone on to. They always agree on it; where they did not, this would wait for ever.
+/// Where there are none it is the one that the spare reader shows.
+pub(crate) fn last_of<N: LiveName, R: Wait>(
+    rt: &R,
     alloc: Global,
     ended: &[Ended<N>],
     spare: Option<Reader<N>>,
@@ -82,12 +90,12 @@ pub(crate) fn last_of<N: LiveName>(
     ensures err { IfErr result IsUnread }
 {
     if ended.is_empty() {
-        return version_of(alloc, spare, answers);
+        return version_of(rt, alloc, spare, answers);
     }
     let first = &ended[0];
     if all_agree(&first.reader, ended) {
         first.last.snapshot()
     } else {
-        Err(KvError::NoReader)
+        never(rt)
     }
 }

@@ -13,6 +13,7 @@ use kv_bucket::{Feed, LiveName, Reader, Receipt, Reply};
 use kv_keys::KvError;
 use kv_store::Version;
 use std::alloc::Global;
+use std::sync::Wait;
 
 /// What a worker was answered, in order.
 pub(crate) type Answers<N> = Vec<Result<(u64, Receipt<N>), KvError>>;
@@ -59,7 +60,8 @@ pub(crate) struct Ended<N: LiveName> {
 }
 
 // Takes in all receipts, goes on once more, and hands out all that is left; the version is the one that it went on to.
-fn drain<N: LiveName>(
+fn drain<N: LiveName, R: Wait>(
+    rt: &R,
     alloc: Global,
     feed: &mut Feed<N>,
     seen: &mut Vec<Reply>,
@@ -71,13 +73,14 @@ fn drain<N: LiveName>(
 {
     hear_all(feed, answers);
     is_within(feed);
-    refresh(feed)?;
+    refresh(rt, feed)?;
     collect(alloc, feed, seen)?;
     feed.version()
 }
 
 /// Ends a watch: it takes in all receipts, goes on once more, and hands out all that is left.
-pub(crate) fn end_watch<N: LiveName>(
+pub(crate) fn end_watch<N: LiveName, R: Wait>(
+    rt: &R,
     alloc: Global,
     watched: Watched<N>,
     answers: &[Answers<N>],
@@ -89,7 +92,7 @@ pub(crate) fn end_watch<N: LiveName>(
     ensures err { IfErr result IsUnread }
 {
     let Watched { mut feed, mut seen } = watched;
-    let last = drain(alloc, &mut feed, &mut seen, answers)?;
+    let last = drain(rt, alloc, &mut feed, &mut seen, answers)?;
     let (reader, _) = feed.stop();
     Ok(Ended { reader, last, seen })
 }

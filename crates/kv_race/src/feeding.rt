@@ -10,6 +10,7 @@ ghost use Rattle.kv_bucket.specs.Feeding.{IsRefreshed, IsNotRefreshed, given_by}
 ghost use Rattle.kv_bucket.specs.Known.{IsUnread};
 ghost use Rattle.kv_race.specs.Watching.{reply_to};
 
+use crate::never::never;
 use crate::watcher::Follows;
 use kv_bucket::{Feed, LiveName, Reply, Seen, Taken};
 use kv_keys::KvError;
@@ -31,15 +32,15 @@ fn copy_of(alloc: Global, taken: &Taken<'_>) -> Result<Option<Reply>, KvError>
     }
 }
 
-/// Goes on to what is published. No race compacts, so that no feed of one lags behind: where one did, it would be as
-/// where nothing can be read.
-pub(crate) fn refresh<N: LiveName>(feed: &mut Feed<N>) -> Result<(), KvError>
+/// Goes on to what is published. No race compacts, so that no feed of one lags behind; where one did, this would wait for
+/// ever.
+pub(crate) fn refresh<N: LiveName, R: Wait>(rt: &R, feed: &mut Feed<N>) -> Result<(), KvError>
     ensures ok { IfOk result (λ _. IsRefreshed feed.old feed.new) }
     ensures refused { IfErr result (λ e. IsUnread e × IsNotRefreshed feed.old feed.new) }
 {
     match feed.refresh() {
         Ok(()) => Ok(()),
-        Err(KvError::Lagged { .. }) => Err(KvError::NoReader),
+        Err(KvError::Lagged { .. }) => never(rt),
         Err(error) => Err(error),
     }
 }
@@ -68,16 +69,15 @@ impl<N: LiveName> Follows for Feed<N> {
     #[tactic(auto, using(crate::proofs::Fed::went_on, crate::proofs::Fed::stayed))]
     fn go_on(&mut self) -> Result<(), KvError> {
         is_within(self);
-        refresh(self)
+        self.refresh()
     }
 
     #[tactic(auto, using(crate::proofs::Fed::handed_on))]
     fn hand_out(&mut self, alloc: Global) -> Result<Option<Reply>, KvError> {
         is_within(self);
         let taken = self.peek();
-        let peeked = taken.event();
         let reply = copy_of(alloc, &taken)?;
-        self.pass(peeked);
+        self.pass();
         Ok(reply)
     }
 }

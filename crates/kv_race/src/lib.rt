@@ -7,6 +7,7 @@ mod ending;
 mod feeding;
 mod gate;
 pub mod laws;
+mod never;
 mod numbers;
 mod opening;
 mod racing;

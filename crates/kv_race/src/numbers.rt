@@ -4,11 +4,12 @@ ghost use Rattle.std.specs.Prelude.{◌≡◌, ◌++◌, ◌∷◌, [], true, If
 ghost use Rattle.std.specs.List.{filter_map, range_with_len};
 ghost use Rattle.std.specs.Result.{result_ok};
 ghost use Rattle.kv_keys.specs.declared.error.KvError.TheVariants.{OutOfMemory};
-ghost use Rattle.kv_bucket.specs.Known.{IsUnread};
 ghost use Rattle.kv_race.specs.Racing.{AreNumbered, revisions_in};
 
+use crate::never::never;
 use kv_keys::KvError;
 use std::alloc::Global;
+use std::sync::Wait;
 
 // Adds the revision that was answered, if one was.
 fn push_revision(revisions: &mut Vec<u64>, reply: &Result<u64, KvError>) -> Result<(), KvError>
@@ -60,20 +61,22 @@ fn count_up(numbers: &[u64]) -> bool
     true
 }
 
-/// Looks whether the revisions that were answered are those of so many writes, each once. They always are.
-pub(crate) fn check_numbers(
+/// Looks whether the revisions that were answered are those of so many writes, each once. They always are; where they were
+/// not, this would wait for ever.
+pub(crate) fn check_numbers<R: Wait>(
+    rt: &R,
     alloc: Global,
     replies: &[Vec<Result<u64, KvError>>],
     writes: u64,
 ) -> Result<(), KvError>
     ensures ok { OnOk result (AreNumbered (map (λ some. some.items) replies.now) writes) }
-    ensures err { IfErr result IsUnread }
+    ensures err { IfErr result (λ e. e ≡ OutOfMemory) }
 {
     let mut revisions = revisions_of(alloc, replies)?;
     revisions.sort_unstable();
     if revisions.len() as u64 == writes && count_up(&revisions) {
         Ok(())
     } else {
-        Err(KvError::NoReader)
+        never(rt)
     }
 }

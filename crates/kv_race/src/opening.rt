@@ -6,10 +6,12 @@ ghost use Rattle.std.specs.List.{AllZip};
 ghost use Rattle.kv_bucket.specs.Known.{IsUnread};
 ghost use Rattle.kv_race.specs.Openings.{IsFresh};
 
+use crate::never::never;
 use kv_bucket::{Feed, LiveName, Reader};
 use kv_keys::{Filters, KvError};
 use kv_model::Options;
 use std::alloc::Global;
+use std::sync::Wait;
 
 /// A feed that begins on the empty bucket.
 pub(crate) fn open_feed<N: LiveName>(
@@ -26,8 +28,10 @@ pub(crate) fn open_feed<N: LiveName>(
     }
 }
 
-/// A feed for each watch, and a reader that is left.
-pub(crate) fn open_feeds<N: LiveName>(
+/// A feed for each watch, and a reader that is left, if one is. There are as many readers as watches, or more; where there
+/// were not, this would wait for ever.
+pub(crate) fn open_feeds<N: LiveName, R: Wait>(
+    rt: &R,
     alloc: Global,
     mut readers: Vec<Reader<N>>,
     watches: &[(Filters, Options)],
@@ -38,7 +42,7 @@ pub(crate) fn open_feeds<N: LiveName>(
     let mut feeds = Vec::new(alloc);
     for n in 0..watches.len() {
         let Some(reader) = readers.pop() else {
-            return Err(KvError::NoReader);
+            return never(rt);
         };
         let (filters, options) = &watches[n];
         feeds.push(open_feed(reader, filters, *options)?)?;

@@ -67,7 +67,8 @@ fn all_answers<N: LiveName>(
 }
 
 // Ends all watches.
-fn end_watches<N: LiveName>(
+fn end_watches<N: LiveName, R: Wait>(
+    rt: &R,
     alloc: Global,
     watched: Vec<Watched<N>>,
     answers: &[Answers<N>],
@@ -81,7 +82,7 @@ fn end_watches<N: LiveName>(
 {
     let mut all = Vec::new(alloc);
     for one in watched {
-        all.push(end_watch(alloc, one, answers)?)?;
+        all.push(end_watch(rt, alloc, one, answers)?)?;
     }
     Ok(all)
 }
@@ -100,7 +101,8 @@ fn all_seen<N: LiveName>(alloc: Global, ended: Vec<Ended<N>>) -> Result<Vec<Vec<
 }
 
 // What a race comes to. What can be compared is compared: the numbers of the replies, and what the watches saw.
-fn report_of<N: LiveName>(
+fn report_of<N: LiveName, R: Wait>(
+    rt: &R,
     alloc: Global,
     answers: &[Answers<N>],
     ended: Vec<Ended<N>>,
@@ -119,9 +121,9 @@ fn report_of<N: LiveName>(
         (λ report. map (λ seen. seen.items) report.seen.items ≡ map (λ end. end.seen.items) ended.items) }
     ensures err { IfErr result IsUnread }
 {
-    let last = last_of(alloc, &ended, spare, answers)?;
+    let last = last_of(rt, alloc, &ended, spare, answers)?;
     let replies = all_replies(alloc, answers)?;
-    check_numbers(alloc, &replies, last.revision())?;
+    check_numbers(rt, alloc, &replies, last.revision())?;
     let seen = all_seen(alloc, ended)?;
     Ok(Report {
         replies,
@@ -146,11 +148,11 @@ fn run<N: LiveName + Send + Sync, R: Threads + Wait + Sync, G: Gate>(
         (λ seen. map answer_of seen.items) report.seen.items) report.last) }
     ensures err { IfErr result IsUnread }
 {
-    let (feeds, spare) = open_feeds(alloc, readers, watches)?;
+    let (feeds, spare) = open_feeds(rt, alloc, readers, watches)?;
     let (worked, watched) = run_all(rt, alloc, live, scripts, feeds, gate)?;
     let answers = all_answers(alloc, worked)?;
-    let ended = end_watches(alloc, watched, &answers)?;
-    let report = report_of(alloc, &answers, ended, spare)?;
+    let ended = end_watches(rt, alloc, watched, &answers)?;
+    let report = report_of(rt, alloc, &answers, ended, spare)?;
     Ok(report)
 }
 

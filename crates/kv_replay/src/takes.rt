@@ -70,7 +70,7 @@ fn answer_take(
     ensures memory { IfErr result (λ e. e ≡ OutOfMemory) }
 {
     let shown = show_taken(alloc, form, bucket, watch, out)?;
-    bucket.pass(watch, shown);
+    bucket.pass(watch);
     Ok(shown.is_some())
 }
 

@@ -14,18 +14,17 @@ use Rattle.kv_model.proofs.Numbered.{accepted_is_next, writes_of-wrote}
 use Rattle.kv_store.specs.Stored.{Stored}
 use Rattle.kv_model.specs.declared.event.Event.{Event}
 use Rattle.kv_model.specs.declared.options.Options.{Options}
-use Rattle.kv_watch.specs.Following.{Following, InReach, IsOpening, given_to as all_of}
+use Rattle.kv_watch.specs.Watching.{Watching, HasHanded, MovesOn, item_behind}
 use Rattle.kv_model.specs.Given.{Item, AnEntry, EndMarker}
 use Rattle.kv_model.specs.further.Events.{event_of}
 use Rattle.kv_model.specs.declared.call.Call.TheVariants as ask
-use Rattle.kv_model.specs.Answers.{Revision, Watching, Ended, Refused, answer_item}
+use Rattle.kv_model.specs.Answers.{Revision, Watching as Opened, Ended, Refused, answer_item}
 use Rattle.kv_model.specs.further.Events.{event_answered}
 use Rattle.kv_single.specs.Held.{Holding, Bucketed, Follows, Represents, has_number, held_at}
 use Rattle.kv_model.specs.State.{after_handed, State, Watch, watch_at, next_of, open_at, set_watch, opened, open_count, has_room, after_item, after_take, after_stop, after_write, answer_write, answer_take, answer_stop, after, answer_to}
 use Rattle.kv_model.proofs.Finds.{find_at, find_none, find_some}
-use Rattle.kv_watch.proofs.Owing.{opening_on}
 use Rattle.kv_single.proofs.Later.{later}
-use Rattle.kv_single.proofs.Moving.{all_is, behind, moves}
+use Rattle.kv_single.proofs.Moving.{next_is, moves_on}
 use Rattle.kv_model.proofs.Numbers.{at_get, open_is, set_get}
 use Rattle.kv_single.proofs.Representing.{held_some, held_none, represents_act, represents_moved, represents_stopped, represents_watch}
 
@@ -56,16 +55,6 @@ found_number (x ∷ xs) i held h = by_test (found_number xs i held) (has_number 
     by_test rest true e g = let same : x ≡ held = cc in rw (sym same) (eqb-true x.number i e)
     by_test rest false e g = rest g
 
--- an answer to a take has the event of its item
-event_of_answer : (item : Option Item) → event_answered (answer_item item) ≡ option_map event_of item
-event_of_answer None = refl
-event_of_answer (Some (AnEntry entry)) = refl
-event_of_answer (Some EndMarker) = refl
-
-len_of_event : (item : Option Item) → option_len (option_map event_of item) ≡ option_len item
-len_of_event None = refl
-len_of_event (Some item) = refl
-
 -- what stands at the place of a number, and the watch that it stands for
 module _ (state : State) (bucket : Bucketed) (i place : ℕ) (held : Holding) (at : position (has_number i) bucket.watches ≡ Some place) (here : slice_get bucket.watches place ≡ Some held) (r : Represents state bucket) where
   where_is : (position_or_len (has_number i) bucket.watches ≡ place) × (held_at i bucket.watches ≡ slice_get bucket.watches place)
@@ -90,13 +79,11 @@ module _ (state : State) (bucket : Bucketed) (i place : ℕ) (held : Holding) (a
   answer_next = ap (answer_take state) watch_of.1 ∙ ap (λ h. answer_item (next_of h state.acts watch_of.0)) (sym history)
 
   -- a peek
-  pub peeked : (item : Option Item) →
-      (IsOpening held.kept held.base held.cursor → (n : ℕ) (began acts : List Act) → InReach began acts n held.base bucket.version held.cursor → item ≡ slice_get (all_of held.base.config.history began acts held.cursor) n) →
+  pub peeked : (item : Option Item) → ((n : ℕ) (began acts : List Act) → HasHanded began acts n bucket.version held.watch → item ≡ item_behind began acts n held.watch) →
       answer_item item ≡ answer_take state (open_at i state)
   peeked item looks =
       let f = watch_of.2 in
-      let peeks = looks f.opening in
-      let is : item ≡ next = peeks watch_of.0.handed watch_of.0.began state.acts f.place ∙ ap (λ es. slice_get es watch_of.0.handed) (all_is state.acts bucket.version held watch_of.0 f) in
+      let is : item ≡ next = looks watch_of.0.handed watch_of.0.began state.acts f.place ∙ next_is state.acts bucket.version held watch_of.0 f in
       ap answer_item is ∙ sym answer_next
 
   -- a take
@@ -114,64 +101,32 @@ module _ (state : State) (bucket : Bucketed) (i place : ℕ) (held : Holding) (a
   take_is : after_take i state (open_at i state) ≡ set_watch i (after_handed watch_of.0 next) state
   take_is = ap (after_take i state) watch_of.1 ∙ ap (λ h. after_item i state watch_of.0 (next_of h state.acts watch_of.0)) (sym history) ∙ sym (after_is next)
 
-  -- what is held after it follows the watch after it
-  held_on : (kept : Option Stored) (cursor : Following) → Follows state.acts bucket.version (record held { kept = kept; cursor = cursor }) (after_handed watch_of.0 next) →
-      Represents (after_take i state (open_at i state)) (record bucket { watches = slice_set bucket.watches place (record held { kept = kept; cursor = cursor }) })
-  held_on kept cursor follows =
-      let new : Holding = record held { kept = kept; cursor = cursor } in
-      let all = represents_moved state bucket i held new watch_of.0 (after_handed watch_of.0 next) r (ap (slice_get bucket.watches) where_is.0 ∙ here) own own watch_of.1 (still_open next) follows in
-      subst (λ (s : State). Represents s (record bucket { watches = slice_set bucket.watches place new })) (sym take_is)
-      (subst (λ p. Represents (set_watch i (after_handed watch_of.0 next) state) (record bucket { watches = slice_set bucket.watches p new })) where_is.0 all)
-
-  -- what was kept of its opening may have been let go before
-  pub taken : (kept : Option Stored) (cursor : Following) (item : Option Item) → (IsOpening held.kept held.base held.cursor → IsOpening kept held.base held.cursor) → (held.cursor.owed ≡ [] → cursor.owed ≡ []) →
-      cursor.filters ≡ held.cursor.filters → cursor.options ≡ held.cursor.options →
-      (IsOpening kept held.base held.cursor → (n : ℕ) (began acts : List Act) → InReach began acts n held.base bucket.version held.cursor → item ≡ slice_get (all_of held.base.config.history began acts held.cursor) n) →
-      (IsOpening kept held.base held.cursor → (n : ℕ) (began acts : List Act) → InReach began acts n held.base bucket.version held.cursor → InReach began acts (n + option_len item) held.base bucket.version cursor) →
-      Represents (after_take i state (open_at i state)) (record bucket { watches = slice_set bucket.watches place (record held { kept = kept; cursor = cursor }) })
-  taken kept cursor item goes owes fs os peeks stays =
-      let opening = goes watch_of.2.opening in
-      held_on kept cursor (moves bucket.version held kept cursor item fs os (opening_on kept held.base held.cursor cursor owes opening) (peeks opening) (stays opening) state.acts watch_of.0 watch_of.2)
-
-  -- the same by the event of the item
-  pub passed : (kept : Option Stored) (cursor : Following) (event : Option Event) → (IsOpening held.kept held.base cursor → IsOpening kept held.base cursor) → (held.cursor.owed ≡ [] → cursor.owed ≡ []) →
-      cursor.filters ≡ held.cursor.filters → cursor.options ≡ held.cursor.options →
-      ((n : ℕ) (began acts : List Act) (base : Stored) → InReach began acts n base bucket.version held.cursor → event ≡ option_map event_of (slice_get (all_of base.config.history began acts held.cursor) n) →
-      InReach began acts (n + option_len event) base bucket.version cursor) →
-      event ≡ event_answered (answer_take state (open_at i state)) →
-      Represents (after_take i state (open_at i state)) (record bucket { watches = slice_set bucket.watches place (record held { kept = kept; cursor = cursor }) })
-  passed kept cursor event goes owes fs os stays is =
-      let w = watch_of.0 in
-      let f = watch_of.2 in
-      let of_next : event ≡ option_map event_of next = is ∙ ap event_answered answer_next ∙ event_of_answer next in
-      let there : slice_get (all_of held.base.config.history w.began state.acts held.cursor) w.handed ≡ next = ap (λ es. slice_get es w.handed) (all_is state.acts bucket.version held w f) in
-      let place' = stays w.handed w.began state.acts held.base f.place (of_next ∙ ap (option_map event_of) (sym there)) in
-      let long : option_len event ≡ option_len next = ap option_len of_next ∙ len_of_event next in
-      let opening = goes (opening_on held.kept held.base held.cursor cursor owes f.opening) in
-      held_on kept cursor (behind state.acts bucket.version held kept cursor w next (fs ∙ f.filters) (os ∙ f.options) opening (subst (λ n. InReach w.began state.acts (w.handed + n) held.base bucket.version cursor) long place'))
+  -- what is held behind it represents the state behind it
+  pub moved_on : (new : Watching) → MovesOn bucket.version held.watch new →
+      Represents (after_take i state (open_at i state)) (record bucket { watches = slice_set bucket.watches place (record held { watch = new }) })
+  moved_on new moves =
+      let there : Holding = record held { watch = new } in
+      let follows = moves_on bucket.version held new moves state.acts watch_of.0 watch_of.2 in
+      let all = represents_moved state bucket i held there watch_of.0 (after_handed watch_of.0 next) r (ap (slice_get bucket.watches) where_is.0 ∙ here) own own watch_of.1 (still_open next) follows in
+      subst (λ (s : State). Represents s (record bucket { watches = slice_set bucket.watches place there })) (sym take_is)
+      (subst (λ p. Represents (set_watch i (after_handed watch_of.0 next) state) (record bucket { watches = slice_set bucket.watches p there })) where_is.0 all)
 
   -- a stop
-  pub stop_some : (Ended held.cursor.handed ≡ answer_stop (open_at i state)) × Represents (after_stop i state (open_at i state)) (record bucket { watches = filter (λ held. not (has_number i held)) bucket.watches })
+  pub stop_some : (Ended held.watch.cursor.handed ≡ answer_stop (open_at i state)) × Represents (after_stop i state (open_at i state)) (record bucket { watches = filter (λ held. not (has_number i held)) bucket.watches })
   stop_some = rw (watch_of.1) (ap Ended watch_of.2.place.place.handed, represents_stopped state bucket i watch_of.0 r watch_of.1)
 
--- a cursor that was opened on the present version
-pub opened_follows : (state : State) (bucket : Bucketed) (filters : List (List ℕ)) (options : Options) (base : Stored) (kept : Option Stored) (cursor : Following) → Represents state bucket → base ≡ bucket.version → cursor.filters ≡ filters → cursor.options ≡ options → IsOpening kept base cursor →
-    ((acts : List Act) → StandsFor acts base → InReach acts acts 0 base base cursor) →
-    Follows state.acts bucket.version (record { number = bucket.opened + 1; base = base; kept = kept; cursor = cursor }) (opened filters options state)
-opened_follows state bucket filters options base kept cursor r same fs os opening place =
-    record {
-      filters = fs;
-      options = os;
-      opening = opening;
-      place = subst (λ (v : Stored). InReach state.acts state.acts 0 base v cursor) same (place state.acts (subst (λ (v : Stored). StandsFor state.acts v) (sym same) r.version));
-    }
+-- a watch that was opened on the present version
+pub opened_follows : (state : State) (bucket : Bucketed) (filters : List (List ℕ)) (options : Options) (watch : Watching) → Represents state bucket → watch.cursor.filters ≡ filters → watch.cursor.options ≡ options →
+    ((acts : List Act) → StandsFor acts bucket.version → HasHanded acts acts 0 bucket.version watch) →
+    Follows state.acts bucket.version (record { number = bucket.opened + 1; watch = watch }) (opened filters options state)
+opened_follows state bucket filters options watch r fs os place = record { filters = fs; options = os; place = place state.acts r.version }
 
 pub watch_done : (state : State) (bucket : Bucketed) (filters : List (List ℕ)) (options : Options) (held : Holding) → Represents state bucket → has_room state ≡ true → held.number ≡ bucket.opened + 1 →
     Follows state.acts bucket.version held (opened filters options state) →
-    (Watching held.number ≡ answer_to state (ask.Watch filters options)) × Represents (after state (ask.Watch filters options)) (record bucket { watches = bucket.watches ++ held ∷ []; opened = bucket.opened + 1 })
+    (Opened held.number ≡ answer_to state (ask.Watch filters options)) × Represents (after state (ask.Watch filters options)) (record bucket { watches = bucket.watches ++ held ∷ []; opened = bucket.opened + 1 })
 watch_done state bucket filters options held r room number follows =
     let given : held.number ≡ length state.watches + 1 = omega (arith, number, r.opened) in
-    rw room (ap Watching given, represents_watch state bucket (opened filters options state) held r given refl follows)
+    rw room (ap Opened given, represents_watch state bucket (opened filters options state) held r given refl follows)
 
 -- whether there is room for one watch more
 pub room_is : (state : State) (bucket : Bucketed) → Represents state bucket → length bucket.watches < 64 → nat_lt bucket.opened 4294967295 ≡ has_room state

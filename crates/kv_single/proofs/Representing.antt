@@ -25,10 +25,10 @@ GoesOnLater = (began acts later : List Act) (n : ℕ) (base version newer : Stor
 
 -- whether an open watch is behind a floor, by what is held of it and by itself
 pub behind_same : (floor h : ℕ) (acts : List Act) (version : Stored) (held : Holding) (watch : Watch) → version.config.history ≡ h → Follows acts version held watch
-    → is_behind floor watch.handed held.base.config.history watch.began acts held.cursor.filters held.cursor.options ≡ is_behind floor watch.handed h watch.began acts watch.filters watch.options
+    → is_behind floor watch.handed held.watch.opening.config.history watch.began acts held.watch.cursor.filters held.watch.cursor.options ≡ is_behind floor watch.handed h watch.began acts watch.filters watch.options
 behind_same floor h acts version held watch e f =
-    ap (λ (fs : List (List ℕ)). is_behind floor watch.handed held.base.config.history watch.began acts fs held.cursor.options) f.filters
-    ∙ ap (λ (o : Options). is_behind floor watch.handed held.base.config.history watch.began acts watch.filters o) f.options
+    ap (λ (fs : List (List ℕ)). is_behind floor watch.handed held.watch.opening.config.history watch.began acts fs held.watch.cursor.options) f.filters
+    ∙ ap (λ (o : Options). is_behind floor watch.handed held.watch.opening.config.history watch.began acts watch.filters o) f.options
     ∙ ap (λ (k : ℕ). is_behind floor watch.handed k watch.began acts watch.filters watch.options) (ap (λ (c : Configuration). c.history) (sym f.place.place.same_config) ∙ e)
 
 held_later : GoesOnLater → (h : ℕ) (acts later : List Act) (version newer : Stored) (held : Option Holding) (watch : Option Watch) → version.config.history ≡ h → StandsFor later newer → IsPrefix acts later → newer.config ≡ version.config
@@ -39,8 +39,7 @@ held_later on h acts later version newer None (Some watch) e stands p same low a
 held_later on h acts later version newer (Some held) (Some watch) e stands p same low ahead is = record {
   filters = is.filters;
   options = is.options;
-  opening = is.opening;
-  place = on watch.began acts later watch.handed held.base version newer held.cursor is.place stands p same low (behind_same newer.floor h acts version held watch e is ∙ ahead watch refl);
+  place = on watch.began acts later watch.handed held.watch.opening version newer held.watch.cursor is.place stands p same low (behind_same newer.floor h acts version held watch e is ∙ ahead watch refl);
 }
 
 -- one act more, where no open watch is behind the floor

@@ -5,16 +5,13 @@ use Rattle.std.specs.Option.{option_len}
 use Rattle.kv_model.specs.Acts.{Act}
 use Rattle.kv_store.specs.Standing.{StandsFor}
 use Rattle.kv_store.specs.Stored.{Stored}
-use Rattle.kv_watch.specs.Following.{Following, InReach, IsOpening}
+use Rattle.kv_watch.specs.Watching.{Watching, HasHanded}
 use Rattle.kv_model.specs.State.{State, Watch, open_at, open_count}
 
--- a watch that is held: its number, what the version was when it was opened, that version as long as it is kept, and
--- its cursor
+-- a watch that is held, and its number
 pub record Holding : Type 0 where
   pub number : ℕ
-  pub base : Stored
-  pub kept : Option Stored
-  pub cursor : Following
+  pub watch : Watching
 
 -- what a bucket holds: its version, the open watches, and how many were ever opened
 pub record Bucketed : Type 0 where
@@ -22,14 +19,12 @@ pub record Bucketed : Type 0 where
   pub watches : List Holding
   pub opened : ℕ
 
--- what is held stands for an open watch: its cursor shows what the watch does, and is in reach for the version of its
--- beginning and the present one, behind as many items as the watch was handed: so no open watch is behind the floor.
--- The version of its beginning is kept as long as it owes initial entries
+-- what is held stands for an open watch: it shows what that does, has handed out as many items from the same beginning
+-- on, and has what is left in the present version: so no open watch is behind the floor
 pub record Follows (acts : List Act) (version : Stored) (holding : Holding) (watch : Watch) : Type 0 where
-  pub filters : holding.cursor.filters ≡ watch.filters
-  pub options : holding.cursor.options ≡ watch.options
-  pub opening : IsOpening holding.kept holding.base holding.cursor
-  pub place : InReach watch.began acts watch.handed holding.base version holding.cursor
+  pub filters : holding.watch.cursor.filters ≡ watch.filters
+  pub options : holding.watch.cursor.options ≡ watch.options
+  pub place : HasHanded watch.began acts watch.handed version holding.watch
 
 abbrev pub has_number : ℕ → Holding → Bool
 has_number number holding = holding.number == number

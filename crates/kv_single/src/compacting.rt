@@ -14,7 +14,7 @@ ghost use Rattle.kv_single.specs.Stepping.{IsStep};
 ghost use Rattle.kv_single.specs.inside.Behind.{behind_at, lesser};
 
 use crate::bucket::Bucket;
-use crate::held::place_of;
+use crate::held::index_of;
 use crate::reply::{Reply, refusal};
 use kv_keys::KvError;
 
@@ -101,11 +101,11 @@ impl Bucket {
             floor ≤ length (writes_of state.acts) →
             behind_at floor state number ≡ nat_lt result floor }
     {
-        let Some(place) = place_of(&self.watches, number) else {
+        let Some(index) = index_of(&self.watches, number) else {
             return self.version.revision();
         };
-        let held = &self.watches[place];
-        held.cursor.reach(&self.version)
+        let held = &self.watches[index];
+        held.watch.reach(&self.version)
     }
 
     // The least number of an open watch that is behind the floor.
@@ -135,10 +135,10 @@ impl Bucket {
     fn is_behind(&self, number: u64, floor: u64) -> bool
         ensures { (state : State) → Represents state self.now → result ≡ behind_at floor state number }
     {
-        let Some(place) = place_of(&self.watches, number) else {
+        let Some(index) = index_of(&self.watches, number) else {
             return false;
         };
-        let held = &self.watches[place];
-        held.cursor.behind(&self.version, floor)
+        let held = &self.watches[index];
+        held.watch.behind(&self.version, floor)
     }
 }

@@ -99,7 +99,7 @@ impl Bucket {
         ensures unchanged { OnErr result (self.new ≡ self.old) }
     {
         let reply = self.peek_reply(number)?;
-        self.pass(number, reply.event());
+        self.pass(number);
         Ok(reply)
     }
 

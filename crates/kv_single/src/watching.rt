@@ -6,18 +6,18 @@ ghost use mathlib.Core.Option.{none};
 ghost use Rattle.kv_keys.specs.Outcome.{Refuses};
 ghost use Rattle.kv_keys.specs.declared.error.KvError.TheVariants.{NoSuchWatch};
 ghost use Rattle.kv_watch.specs.Taking.{item_taken};
-ghost use Rattle.kv_model.specs.declared.call.Call.TheVariants.{Watch, Take, Stop};
+ghost use Rattle.kv_model.specs.declared.call.Call.TheVariants as calls;
+ghost use Rattle.kv_model.specs.declared.call.Call.TheVariants.{Take, Stop};
 ghost use Rattle.kv_model.specs.Answers.{Watching, Ended, Refused, answer_item};
-ghost use Rattle.kv_model.specs.further.Events.{event_answered};
 ghost use Rattle.kv_single.specs.Held.{Represents};
 ghost use Rattle.kv_model.specs.State.{State, after, answer_to, has_room, next_number};
 ghost use Rattle.kv_single.specs.Stepping.{IsStep};
 
 use crate::bucket::Bucket;
-use crate::held::{Held, place_of};
+use crate::held::{Held, index_of};
 use kv_keys::{Filters, KvError};
-use kv_model::{Event, Options, Stopped};
-use kv_watch::{Cursor, Taken};
+use kv_model::{Options, Stopped};
+use kv_watch::{Taken, Watch};
 
 /// How many watches may be open at a time.
 const MOST_OPEN: usize = 64;
@@ -42,7 +42,7 @@ impl Bucket {
     /// It costs what opening a cursor does, and a snapshot of the version, which is held until the initial entries were
     /// handed out.
     pub fn watch(&mut self, filters: &Filters, options: Options) -> Result<u64, KvError>
-        ensures ok { IfOk result (λ number. IsStep self.old (Watch filters.now options) (Watching number) self.new) }
+        ensures ok { IfOk result (λ number. IsStep self.old (calls.Watch filters.now options) (Watching number) self.new) }
         ensures refused { IfErr result
             (λ e. (state : State) → Represents state self.old → Refuses e (next_number state)) }
         ensures unchanged { OnErr result (self.new ≡ self.old) }
@@ -50,10 +50,9 @@ impl Bucket {
         if !self.has_room() {
             return Err(KvError::TooManyWatches);
         }
-        let base = self.version.snapshot()?;
-        let cursor = Cursor::open(self.alloc, &base, filters, options)?;
+        let watch = Watch::open(self.alloc, &self.version, filters, options)?;
         let number = self.opened + 1;
-        self.watches.push(Held::new(number, base, cursor))?;
+        self.watches.push(Held::new(number, watch))?;
         self.opened = number;
         Ok(number)
     }
@@ -65,11 +64,11 @@ impl Bucket {
         ensures refused { IfErr result (λ e. (e ≡ NoSuchWatch) × ((state : State) → Represents state self.now →
             Refused e ≡ answer_to state (Take number))) }
     {
-        let Some(place) = place_of(&self.watches, number) else {
+        let Some(index) = index_of(&self.watches, number) else {
             return Err(KvError::NoSuchWatch);
         };
-        let held = &self.watches[place];
-        Ok(held.cursor.peek(held.kept.as_ref(), &self.version))
+        let held = &self.watches[index];
+        Ok(held.watch.peek(&self.version))
     }
 
     /// Hands out the next item of a watch, lent from the bucket, and moves the watch on behind it. Where there is none
@@ -84,26 +83,22 @@ impl Bucket {
         ensures refused { IfErr result (λ e. (e ≡ NoSuchWatch) × ((state : State) → Represents state self.old →
             Refused e ≡ answer_to state (Take number))) }
     {
-        let Some(place) = place_of(&self.watches, number) else {
+        let Some(index) = index_of(&self.watches, number) else {
             return Err(KvError::NoSuchWatch);
         };
-        let held = &mut self.watches[place];
-        held.cursor.let_go(&mut held.kept);
-        Ok(held.cursor.take_settled(held.kept.as_ref(), &self.version))
+        let held = &mut self.watches[index];
+        Ok(held.watch.take(&self.version))
     }
 
-    /// Moves a watch on behind the item that `peek` showed, as `take` does, and doesn't look it up again: so that what
-    /// is shown can be copied first, and want of memory loses no item. Where it showed none, or no watch of the number
-    /// is open, nothing is handed out.
-    pub fn pass(&mut self, number: u64, peeked: Option<Event>)
-        requires next { (state : State) → Represents state self.old →
-            peeked ≡ event_answered (answer_to state (Take number)) }
+    /// Moves a watch on behind its next item, as `take` does, and lends nothing: so that what was peeked can be copied
+    /// first, and want of memory loses no item. Where there is none, or no watch of the number is open, nothing is handed
+    /// out.
+    pub fn pass(&mut self, number: u64)
         ensures { (state : State) → Represents state self.old → Represents (after state (Take number)) self.new }
     {
-        if let Some(place) = place_of(&self.watches, number) {
-            let held = &mut self.watches[place];
-            held.cursor.pass(peeked, &self.version);
-            held.cursor.let_go(&mut held.kept);
+        if let Some(index) = index_of(&self.watches, number) {
+            let held = &mut self.watches[index];
+            held.watch.pass(&self.version);
         }
     }
 
@@ -113,10 +108,10 @@ impl Bucket {
         ensures refused { IfErr result (λ e. (e ≡ NoSuchWatch) × IsStep self.old (Stop number) (Refused e) self.new) }
         ensures unchanged { OnErr result (self.new ≡ self.old) }
     {
-        let Some(place) = place_of(&self.watches, number) else {
+        let Some(index) = index_of(&self.watches, number) else {
             return Err(KvError::NoSuchWatch);
         };
-        let handed = self.watches[place].handed();
+        let handed = self.watches[index].watch.handed();
         self.watches.retain(|held| held.number() != number);
         Ok(Stopped { handed })
     }

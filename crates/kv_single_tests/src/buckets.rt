@@ -12,6 +12,7 @@ use std::test::Fail;
 
 mod asking;
 mod making;
+mod passing;
 mod rows;
 mod running;
 

@@ -4,5 +4,6 @@ pub mod Owing
 pub mod Passing
 pub mod Placing
 pub mod SlowSteps
+pub mod Sent
 pub mod Walks
 pub mod Reaching

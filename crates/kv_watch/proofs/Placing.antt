@@ -29,6 +29,7 @@ use Rattle.kv_model.specs.declared.options.Start.{Start}
 use Rattle.kv_model.specs.declared.options.Start.TheVariants.{Latest, History, Updates, From}
 use Rattle.kv_watch.specs.Following.{Following, InPlace, marker_if, shown_behind, one_more, behind}
 use Rattle.kv_model.specs.Given.{Item, AnEntry, EndMarker, Entry, entry_of, matching, all_shown, initial, ending, item_revisions, revision_of}
+use Rattle.kv_model.specs.declared.event.Event.TheVariants as events
 use Rattle.kv_model.specs.further.Events.{event_of}
 use Rattle.kv_model.specs.further.Showing.{is_shown}
 use Rattle.kv_watch.specs.Taking.{entry_item}
@@ -259,6 +260,18 @@ module _ (began acts : List Act) (base now : Stored) (filters : List (List ℕ))
       → slice_get all_given n ≡ slice_get (shown_behind seen acts filters options) 0
   peek_live n items marker seen next handed at e t =
       next_live_item n seen next handed (subst (λ b. At n [] b seen next handed) t (subst (λ owed. At n owed marker seen next handed) (ap reverse (no_last items e)) at))
+
+  -- the event of the next item is that of the first owed revision
+  pub owed_event : (n r : ℕ) (items : List ℕ) (marker : Bool) (seen next handed : ℕ) → At n (reverse items) marker seen next handed → slice_get items (length items - 1) ≡ Some r
+      → Some (events.Entry r) ≡ option_map event_of (slice_get all_given n)
+  owed_event n r items marker seen next handed at e =
+      let front = last_front items r e in
+      let at' = subst (λ owed. At n owed marker seen next handed) (ap reverse front.1 ∙ reverse-append front.0 (r ∷ [])) at in
+      let first = first_owed base.config.history began options.headers_only (drop n initials) r (reverse front.0) (entries at.base_stands n) at'.owed in
+      let left = whole n (r ∷ reverse front.0) marker seen next handed at' ∙ ap (λ xs. xs ++ (marker_if marker ++ shown_behind seen acts filters options)) first.3 in
+      let heads : r ∷ reverse front.0 ≡ first.0.revision ∷ item_revisions first.1 = at'.owed ∙ ap item_revisions first.3 in
+      let number : r ≡ first.0.revision = cc in
+      ap (λ m. Some (events.Entry m)) number ∙ sym (ap (option_map event_of) (get_from_drop all_given n _ _ left))
 
   -- ---- one item on
 

@@ -1,3 +1,4 @@
 pub mod Following
 pub mod Taking
+pub mod Watching
 pub mod inside

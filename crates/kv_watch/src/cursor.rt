@@ -181,29 +181,59 @@ impl Cursor {
         self.handed = self.handed.saturating_add(1);
     }
 
-    /// Moves on behind the item that `peek` showed, and doesn't look it up again. Where it showed none all live writes
-    /// were looked at, which it notes: later takes begin behind those writes.
-    ///
-    /// So what is shown can be copied first, and an item is lost by no want of memory: peek, copy, and then pass.
-    pub fn pass(&mut self, peeked: Option<Event>, now: &Version)
+    // Moves on behind the next item, of which this is the event. Where there is none all live writes were looked at, which
+    // it notes: later takes begin behind those writes.
+    fn step_behind(&mut self, next: Option<Event>, now: &Version)
         ensures filters { self.new.filters ≡ self.old.filters }
         ensures options { self.new.options ≡ self.old.options }
-        // Where it is the next item that was peeked, the cursor is in place behind it.
-        ensures in_place { (n : ℕ) (began acts : List Act) (base : Stored) →
-            InPlace began acts n base now.now self.old →
-            peeked ≡ option_map event_of (slice_get (given_to base.config.history began acts self.old) n) →
-            InPlace began acts (n + option_len peeked) base now.now self.new }
         ensures in_reach { (n : ℕ) (began acts : List Act) (base : Stored) →
             InReach began acts n base now.now self.old →
-            peeked ≡ option_map event_of (slice_get (given_to base.config.history began acts self.old) n) →
-            InReach began acts (n + option_len peeked) base now.now self.new }
-        ensures none { peeked ≡ None → self.new ≡ record self.old { seen = now.now.last } }
+            next ≡ option_map event_of (slice_get (given_to base.config.history began acts self.old) n) →
+            InReach began acts (n + option_len next) base now.now self.new }
+        ensures none { next ≡ None → self.new ≡ record self.old { seen = now.now.last } }
         ensures owes { self.old.owed ≡ [] → self.new.owed ≡ [] }
     {
-        match peeked {
+        match next {
             Some(event) => self.step(event),
             None => self.seen = now.revision(),
         }
+    }
+
+    // The event of the next item. That of an initial entry needs no version.
+    fn next_event(&self, now: &Version) -> Option<Event>
+        ensures { (n : ℕ) (began acts : List Act) (base : Stored) → InReach began acts n base now.now self.now →
+            result ≡ option_map event_of (slice_get (given_to base.config.history began acts self.now) n) }
+    {
+        if let Some(revision) = self.owed.last() {
+            return Some(Event::Entry {
+                revision: *revision,
+            });
+        }
+        if self.marker {
+            return Some(Event::Marker);
+        }
+        match next_live(now, &self.filters, self.options, self.seen) {
+            Some(write) => Some(Event::Entry {
+                revision: write.revision(),
+            }),
+            None => None,
+        }
+    }
+
+    /// Moves on behind the next item, as `take` does, and lends nothing: so that what was peeked can be copied first, and
+    /// want of memory loses no item. Where there is none it notes how far it looked. It needs no version of the opening:
+    /// of an initial entry it looks nothing up, of a live one it looks at the write once more.
+    pub fn pass(&mut self, now: &Version)
+        ensures filters { self.new.filters ≡ self.old.filters }
+        ensures options { self.new.options ≡ self.old.options }
+        ensures in_reach { (n : ℕ) (began acts : List Act) (base : Stored) →
+            InReach began acts n base now.now self.old →
+            InReach began acts (n + option_len (slice_get (given_to base.config.history began acts self.old) n)) base
+            now.now self.new }
+        ensures owes { self.old.owed ≡ [] → self.new.owed ≡ [] }
+    {
+        let next = self.next_event(now);
+        self.step_behind(next, now);
     }
 
     /// Looks for the next item, says whether there is one, and notes how far it looked in vain: up to just before the
@@ -257,7 +287,7 @@ impl Cursor {
         ensures owes { self.old.owed ≡ [] → self.new.owed ≡ [] }
     {
         let taken = self.peek(base, now);
-        self.pass(taken.event(), now);
+        self.step_behind(taken.event(), now);
         taken
     }
 

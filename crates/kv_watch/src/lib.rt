@@ -8,9 +8,11 @@ mod live;
 mod owed;
 mod shown;
 mod taken;
+mod watch;
 
 pub use audit::given;
 pub use cursor::Cursor;
 pub use kv_model::{Event, Options, Start};
 pub use shown::Shown;
 pub use taken::Taken;
+pub use watch::Watch;

@@ -6,7 +6,6 @@ use Rattle.kv_c.proofs.feed.Feed.take.Goals as goal
 
 pub returns-then-done-eq0-clause-taken : goal.returns-then-done-eq0-clause-taken
 returns-then-done-eq0-clause-taken c = rw (← c.self.view_is) (λ done. handed_next (the_view c.self.inside)
-    (the_view (record { base = c.self.inside.base; kept = c.let_go.new.kept; present = c.self.inside.present; cursor = c.pass.new.self }))
-    (item_taken c.peek-taken.result) c.event-event.result c.hand-done.new.item c.hand-done.new.keys c.hand-done.new.values
-    (λ is n began acts at. c.peek-taken.ensures n began acts c.self.inside.base.value (rw c.as_ref.ensures.value is) at) (c.let_go.ensures.opening c.self.inside.base.value) c.pass.ensures.owes
-    (search rules) (search rules) (search rules) (search rules) (search rules) (search rules) (search rules))
+    (the_view (record { present = c.self.inside.present; watch = c.pass.new.self }))
+    (item_taken c.peek-taken.result) c.hand-done.new.item c.hand-done.new.keys c.hand-done.new.values
+    c.peek-taken.ensures (search rules) (search rules) c.pass.ensures.moves)

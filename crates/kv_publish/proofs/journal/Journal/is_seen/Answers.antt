@@ -2,7 +2,7 @@ use Rattle.std.proofs.Common.{ap, sym, ◌∙◌, subst, List}
 use Rattle.kv_model.specs.Acts.{Act, IsPrefix}
 use Rattle.kv_publish.specs.Rules.{acts_in}
 use Rattle.kv_publish.proofs.Stepping.{looks_moves}
-use Rattle.kv_publish.proofs.Seeing.{seen_within, seen_journal}
+use Rattle.kv_publish.proofs.Seeing.{seen_within, seen_whole}
 use Rattle.kv_publish.proofs.journal.Journal.is_seen.Goals as goal
 
 pub compare_exchange-requires : goal.compare_exchange-requires
@@ -27,4 +27,4 @@ returns-clause-within g c =
 
 pub returns-clause-yes : goal.returns-clause-yes
 returns-clause-yes g c is =
-    seen_journal c.args.prefix.now c.args.self.now c.self.inside.witness.log c.len.result c.self.inside.acts c.self.view_is (returns-clause-within g c) c.len.ensures c.self.invariant.0 is
+    seen_whole c.args.prefix.now c.args.self.now c.self.inside.witness.log c.len.result c.self.inside.acts c.self.view_is (returns-clause-within g c) c.len.ensures c.self.invariant.0 is

@@ -2,10 +2,7 @@ use Rattle.std.proofs.Common.{◌≡◌, Some, None, sym, ap, ◌∙◌, subst}
 use Rattle.std.specs.List.{position, slice_get}
 use Rattle.std.proofs.lemmas.Option.{get_or_from_slice_get}
 use Rattle.kv_single.specs.Held.{Holding, Bucketed, Represents, has_number}
-use Rattle.kv_model.specs.State.{answer_to}
-use Rattle.kv_model.specs.further.Events.{event_answered}
-use Rattle.kv_model.specs.declared.call.Call.TheVariants.{Take}
-use Rattle.kv_single.proofs.Answering.{pass_none, passed}
+use Rattle.kv_single.proofs.Answering.{pass_none, moved_on}
 use Rattle.kv_model.proofs.Finds.{found_there}
 use Rattle.kv_single.proofs.bucket.Bucket.pass.Goals as goal
 
@@ -16,14 +13,12 @@ returns-in_default c = rw (← c.self.view_is) (λ state r.
 
 pub returns-in-Some : goal.returns-in-Some
 returns-in-Some c = rw (← c.self.view_is) (λ state r.
-    let e : c.args.peeked ≡ event_answered (answer_to state (Take c.args.number)) = c.requires.next state (subst (Represents state) c.self.view_is r) in
     let watches = c.self.inside.watches.items in
-    let place = c.in-Some.place in
+    let place = c.in-Some.index in
     let now : Bucketed = record { version = c.self.inside.version; watches = watches; opened = c.self.inside.opened } in
     let at : position (has_number c.args.number) watches ≡ Some place = sym (rw c.deref.ensures.value at c.in-Some.ensures) in
     let found = found_there (has_number c.args.number) watches place at in
-    let held : Holding = record { number = c.held.inside.number; base = c.held.inside.base.value; kept = c.held.inside.kept; cursor = c.held.inside.cursor } in
+    let held : Holding = record { number = c.held.inside.number; watch = c.held.inside.watch } in
     let is : c.index_mut-held.result.now ≡ found.0 = c.index_mut-held.ensures.value ∙ get_or_from_slice_get watches place found.0 c.index_mut-held.result.now found.1 in
     let here : slice_get watches place ≡ Some held = found.1 ∙ ap (λ (h : Holding). Some h) (sym is ∙ sym c.held.view_is) in
-    let moved = c.pass.ensures in
-    passed state now c.args.number place held at here r c.let_go.new.kept c.pass.new.self c.args.peeked (c.let_go.ensures.opening held.base) moved.owes moved.filters moved.options moved.in_reach e)
+    moved_on state now c.args.number place held at here r c.pass.new.self c.pass.ensures.moves)

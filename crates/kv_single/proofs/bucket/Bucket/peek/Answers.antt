@@ -18,9 +18,9 @@ returns-in_default-clause-refused c = (
 pub returns-clause-ok : goal.returns-clause-ok
 returns-clause-ok c = rw (← c.self.view_is) (λ state r.
     let watches = c.self.inside.watches.items in
-    let at : position (has_number c.args.number) watches ≡ Some c.in-Some.place = sym (rw c.deref.ensures.value at c.in-Some.ensures) in
-    let held = found_there (has_number c.args.number) watches c.in-Some.place at in
-    let inside : Holding = record { number = c.held.inside.number; base = c.held.inside.base.value; kept = c.held.inside.kept; cursor = c.held.inside.cursor } in
-    let is : c.index-held.result.now ≡ held.0 = c.index-held.ensures ∙ get_or_from_slice_get watches c.in-Some.place held.0 c.index-held.result.now held.1 in
-    peeked state _ c.args.number c.in-Some.place inside at (held.1 ∙ ap (λ (h : Holding). Some h) (sym is ∙ sym c.held.view_is)) r (item_taken c.peek.result)
-    (λ opening n began acts reach. c.peek.ensures n began acts inside.base (rw c.as_ref.ensures.value opening) reach))
+    let at : position (has_number c.args.number) watches ≡ Some c.in-Some.index = sym (rw c.deref.ensures.value at c.in-Some.ensures) in
+    let held = found_there (has_number c.args.number) watches c.in-Some.index at in
+    let inside : Holding = record { number = c.held.inside.number; watch = c.held.inside.watch } in
+    let is : c.index-held.result.now ≡ held.0 = c.index-held.ensures ∙ get_or_from_slice_get watches c.in-Some.index held.0 c.index-held.result.now held.1 in
+    peeked state _ c.args.number c.in-Some.index inside at (held.1 ∙ ap (λ (h : Holding). Some h) (sym is ∙ sym c.held.view_is)) r (item_taken c.peek.result)
+    c.peek.ensures)

@@ -22,14 +22,14 @@ returns-in_default-clause-reach c = rw (← c.self.view_is) (λ state r floor l.
 pub returns-clause-reach : goal.returns-clause-reach
 returns-clause-reach c = rw (← c.self.view_is) (λ state r floor l.
     let watches = c.self.inside.watches.items in
-    let at : position (has_number c.args.number) watches ≡ Some c.in-Some.place = sym (rw c.deref.ensures.value at c.in-Some.ensures) in
-    let held = found_there (has_number c.args.number) watches c.in-Some.place at in
-    let inside : Holding = record { number = c.held.inside.number; base = c.held.inside.base.value; kept = c.held.inside.kept; cursor = c.held.inside.cursor } in
-    let is : c.index-held.result.now ≡ held.0 = c.index-held.ensures ∙ get_or_from_slice_get watches c.in-Some.place held.0 c.index-held.result.now held.1 in
+    let at : position (has_number c.args.number) watches ≡ Some c.in-Some.index = sym (rw c.deref.ensures.value at c.in-Some.ensures) in
+    let held = found_there (has_number c.args.number) watches c.in-Some.index at in
+    let inside : Holding = record { number = c.held.inside.number; watch = c.held.inside.watch } in
+    let is : c.index-held.result.now ≡ held.0 = c.index-held.ensures ∙ get_or_from_slice_get watches c.in-Some.index held.0 c.index-held.result.now held.1 in
     let here = held.1 ∙ ap (λ (h : Holding). Some h) (sym is ∙ sym c.held.view_is) in
-    let watch = watch_of state _ c.args.number c.in-Some.place inside at here r in
-    let opens = is_now state _ c.args.number c.in-Some.place inside at here r in
+    let watch = watch_of state _ c.args.number c.in-Some.index inside at here r in
+    let opens = is_now state _ c.args.number c.in-Some.index inside at here r in
     ap (λ o. option_map_or (watch_behind floor state.config.history state.acts) o false) watch.1
     ∙ ap (λ b. b && is_behind floor watch.0.handed state.config.history watch.0.began state.acts watch.0.filters watch.0.options) opens.1
     ∙ sym (behind_same floor state.config.history state.acts c.self.inside.version inside watch.0 (ap (λ (k : Configuration). k.history) r.config) watch.2)
-    ∙ c.reach.ensures.reach watch.0.handed watch.0.began state.acts inside.base watch.2.place floor l)
+    ∙ c.reach.ensures.reach watch.0.handed watch.0.began state.acts watch.2.place floor l)

@@ -1,43 +1,13 @@
-use Rattle.std.proofs.Common.{◌≡◌, [], reverse, refl, sym, ap, subst, ◌+◌, ◌∙◌, arith}
-use Rattle.kv_watch.specs.Following.{Following, InPlace, InReach}
-use Rattle.kv_watch.proofs.Owing.{owes_none}
-use Rattle.kv_watch.proofs.Passing.{same_filters, same_options}
-use Rattle.kv_watch.proofs.Placing.{passed_by, looked_by}
-use Rattle.kv_watch.proofs.Reaching.{reach_behind, reach_further}
+use Rattle.std.proofs.Common.{ℕ, ◌+◌, ◌∙◌, ap, subst, sym}
+use Rattle.std.specs.List.{slice_get}
+use Rattle.std.specs.Option.{option_len}
+use Rattle.kv_watch.specs.Following.{InReach, given_to}
+use Rattle.kv_watch.proofs.Passing.{as_many}
 use Rattle.kv_watch.proofs.cursor.Cursor.pass.Goals as goal
 
-pub returns-in-Some-clause-filters : goal.returns-in-Some-clause-filters
-returns-in-Some-clause-filters c = ap (λ (cursor : Following). cursor.filters) c.step.ensures ∙ same_filters c.in-Some.event c.args.self.now
-
-pub returns-in-Some-clause-options : goal.returns-in-Some-clause-options
-returns-in-Some-clause-options c = ap (λ (cursor : Following). cursor.options) c.step.ensures ∙ same_options c.in-Some.event c.args.self.now
-
-pub returns-in-Some-clause-none : goal.returns-in-Some-clause-none
-returns-in-Some-clause-none c = λ none. let e = sym none ∙ c.in-Some.is in cc
-
-pub returns-in-Some-clause-in_place : goal.returns-in-Some-clause-in_place
-returns-in-Some-clause-in_place c = rw c.in-Some.is (λ n began acts base at e.
-    let self = c.args.self.now in
-    subst (λ (cursor : Following). InPlace began acts (n + 1) base c.args.now.now cursor) (sym c.step.ensures)
-    (passed_by began acts base c.args.now.now self.filters self.options n self.owed self.marker self.seen self.next self.handed c.in-Some.event at e))
-
-pub returns-in-None-clause-in_place : goal.returns-in-None-clause-in_place
-returns-in-None-clause-in_place c = rw (c.in-None.is, ← c.self.view_is, c.revision-self-inside.ensures.value) (λ n began acts base at e.
-    let self = c.self.inside in
-    looked_by began acts base c.args.now.now self.filters self.options n (reverse self.owed.items) self.marker self.seen self.next self.handed at e)
-
-pub returns-in-Some-clause-in_reach : goal.returns-in-Some-clause-in_reach
-returns-in-Some-clause-in_reach c = rw c.in-Some.is (λ n began acts base at e.
-    let self = c.args.self.now in
-    subst (λ (cursor : Following). InReach began acts (n + 1) base c.args.now.now cursor) (sym c.step.ensures)
-    (reach_behind n 1 began acts base c.args.now.now self c.in-Some.event at
-    (passed_by began acts base c.args.now.now self.filters self.options n self.owed self.marker self.seen self.next self.handed c.in-Some.event at.place e)))
-
-pub returns-in-None-clause-in_reach : goal.returns-in-None-clause-in_reach
-returns-in-None-clause-in_reach c = rw (c.in-None.is, ← c.self.view_is, c.revision-self-inside.ensures.value) (λ n began acts base at e.
-    let self = c.self.inside in
-    let place = looked_by began acts base c.args.now.now self.filters self.options n (reverse self.owed.items) self.marker self.seen self.next self.handed at.place e in
-    reach_further n (n + 0) began acts base c.args.now.now _ _ at place (omega arith) refl refl)
-
-pub returns-in-Some-clause-owes : goal.returns-in-Some-clause-owes
-returns-in-Some-clause-owes c = λ none. subst (λ (cursor : Following). cursor.owed ≡ []) (sym c.step.ensures) (owes_none c.in-Some.event c.args.self.now none)
+pub returns-clause-in_reach : goal.returns-clause-in_reach
+returns-clause-in_reach c = λ n began acts base at.
+    let item = slice_get (given_to base.config.history began acts c.args.self.now) n in
+    let event = c.next_event-next.ensures n began acts base at in
+    subst (λ (k : ℕ). InReach began acts (n + k) base c.args.now.now c.step_behind.new.self) (ap option_len event ∙ as_many item)
+    (c.step_behind.ensures.in_reach n began acts base at event)
