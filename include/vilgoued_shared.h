@@ -1,19 +1,19 @@
 /* A bucket that threads share: one bucket behind one mutex, with readers, which have a view each, and followers, which
  * sleep until there is something for them.
  *
- * This shell is C, and not proved: it is tested, under sanitizers too. Each step that it makes on a bucket, a view or a
- * feed is a call of an export of vilgoued.h, and these are proved.
+ * This shell is C, and not proved: it is tested, under sanitizers too. Each step that it makes on a bucket, a view or
+ * a feed is a call of an export of vilgoued.h, and these are proved.
  *
  * A handle whose bytes are all 0 is closed. The caller owns the handles, and all memory that it names, as vilgoued.h
  * has it. A kv_shared is used by any number of threads at once, its close among them; so it stays where it is while it
  * is open. A kv_reader and a kv_follower are used by one call at a time, but for kv_follower_stop; they may go to
  * another thread between two calls, with a lock, or at that thread's start or end.
  *
- * Each function that returns a number returns KV_OK or why it was refused, with the codes of vilgoued.h. A refused call
- * changes nothing, copies nothing, and tells no more than the call of vilgoued.h that it is named after. KV_CLOSED
- * comes before every other code. KV_OUT_OF_MEMORY may come from each call but those that close or stop; such a call can
- * be made again. No function may be called from a signal handler, nor in the forked child of a process with threads, and
- * no thread is cancelled in one.
+ * Each function that returns a number returns KV_OK or why it was refused, with the codes of vilgoued.h. A refused
+ * call changes nothing but that a reader or a follower may have gone on; it copies nothing, and tells no more than the
+ * call of vilgoued.h that it is named after. KV_CLOSED comes before every other code. KV_OUT_OF_MEMORY may come from
+ * each call but those that close or stop; such a call can be made again. No function may be called from a signal
+ * handler, nor in the forked child of a process with threads, and no thread is cancelled in one.
  *
  * A program is linked with -pthread.
  */
@@ -61,12 +61,14 @@ uint64_t kv_shared_finish(kv_shared *shared);
 /* Frees the bucket with its held watches, wakes all followers, and closes the handle. Any thread may close, also while
  * others call, sleep or read: it waits for the calls that are inside with this handle, and each call behind it is
  * KV_CLOSED, with this handle and with those of readers and followers, also where a follower had items left. Their
- * owners close these, before or after. A closed handle stays closed. */
+ * owners close these, before or after. A closed handle stays closed, and its memory has to be there as long as a
+ * thread may call with it. It may be opened again once the close has returned. */
 void kv_shared_close(kv_shared *shared);
 
 /* Writes, as the calls of vilgoued.h that they are named after, with the same refusals. Any thread. Each holds the
  * mutex for as long as its write takes, and is published before it returns: a reader's next call reads it, and a
- * follower is handed it. Where nobody sleeps, that costs one store. */
+ * follower is handed it. Each takes about a tenth of a microsecond more than the call of vilgoued.h, and some
+ * microseconds where it wakes somebody. */
 uint64_t kv_shared_put(kv_shared *shared, const uint8_t *key, size_t key_size, const uint8_t *value, size_t value_size,
                        uint64_t *revision);
 uint64_t kv_shared_create(kv_shared *shared, const uint8_t *key, size_t key_size, const uint8_t *value,
@@ -79,14 +81,14 @@ uint64_t kv_shared_purge(kv_shared *shared, const uint8_t *key, size_t key_size,
                          uint64_t *revision);
 uint64_t kv_shared_seal(kv_shared *shared);
 
-/* Compacts to a floor, as kv_compact, and publishes that. Any thread. It holds the mutex while it looks at each key and
- * at each stored write. Readers and followers refuse nothing: a follower that has gone on to no revision as high as the
- * floor lags from then on. */
+/* Compacts to a floor, as kv_compact, and publishes that. Any thread. It holds the mutex while it looks at each key
+ * and at each stored write. Readers and followers refuse nothing: a follower that has gone on to no revision as high
+ * as the floor lags from then on. */
 uint64_t kv_shared_compact(kv_shared *shared, uint64_t floor, uint64_t *watch);
 
-/* The highest floor to which a compaction is refused by no held watch and makes no follower lag, 0 where there is none.
- * What others write, take, open or close meanwhile can only raise it. A follower that lags already, or was stopped, does
- * not count, and readers never lag. Any thread. It looks at each follower under the mutex. */
+/* The highest floor to which a compaction is refused by no held watch and makes no follower lag, 0 where there is
+ * none. What others write, take, open or close meanwhile can only raise it. A follower that lags already, or was
+ * stopped, does not count, and readers never lag. Any thread. It looks at each follower under the mutex. */
 uint64_t kv_shared_reach(kv_shared *shared, uint64_t *floor);
 
 /* Reads under the mutex, as the calls of vilgoued.h that they are named after. Any thread. Who reads often, or many
@@ -105,8 +107,8 @@ uint64_t kv_shared_get_status(kv_shared *shared, kv_status *status);
  * entry. The view is closed by kv_view_close, before or after the bucket. Any thread. */
 uint64_t kv_shared_snapshot(kv_shared *shared, kv_view *view);
 
-/* Held watches, as kv_watch, kv_take and kv_stop have them: numbers that any thread may use. A take does not sleep. One
- * that is behind refuses a compaction. */
+/* Held watches, as kv_watch, kv_take and kv_stop have them: numbers that any thread may use. A take does not sleep.
+ * One that is behind refuses a compaction. */
 uint64_t kv_shared_watch(kv_shared *shared, const uint8_t *filters, size_t filters_size, const kv_options *options,
                          uint64_t *number);
 uint64_t kv_shared_take(kv_shared *shared, uint64_t number, uint8_t *keys, size_t keys_size, uint8_t *values,
@@ -118,8 +120,8 @@ uint64_t kv_reader_open(kv_shared *shared, kv_reader *reader);
 
 /* Reads, as the calls of views in vilgoued.h that they are named after. One call at a time. Each first goes on to all
  * that is published: it reads every write that had returned when it began, and nothing older than this reader read
- * before. That is one atomic load where nothing is new, and else a snapshot under the mutex; then it also lets go of its
- * view, and frees what nobody else has of it. */
+ * before. That is one atomic load where nothing is new, and else a snapshot under the mutex; then it also lets go of
+ * its view, and frees what nobody else has of it. */
 uint64_t kv_reader_get(kv_reader *reader, const uint8_t *key, size_t key_size, uint8_t *room, size_t room_size,
                        size_t *size, uint64_t *revision);
 uint64_t kv_reader_get_at(kv_reader *reader, const uint8_t *key, size_t key_size, uint64_t at, uint8_t *room,
@@ -134,8 +136,8 @@ uint64_t kv_reader_get_status(kv_reader *reader, kv_status *status);
 /* Frees the reader, and closes its handle: its owner, in its own time, also behind the bucket's close. */
 void kv_reader_close(kv_reader *reader);
 
-/* Opens a follower, as kv_feed_open opens a feed: it begins with this moment. KV_OPEN_ALREADY where its handle is open.
- * Any thread, and any number of followers. */
+/* Opens a follower, as kv_feed_open opens a feed, with the same refusals: it begins with this moment. KV_OPEN_ALREADY
+ * where its handle is open. Any thread, and any number of followers. What looks at keys does so without the mutex. */
 uint64_t kv_follower_open(kv_shared *shared, const uint8_t *filters, size_t filters_size, const kv_options *options,
                           kv_follower *follower);
 
@@ -144,18 +146,18 @@ uint64_t kv_follower_open(kv_shared *shared, const uint8_t *filters, size_t filt
  * does not sleep, and with KV_FOREVER as long as it takes. One call at a time.
  *
  * KV_OK with item->kind KV_EMPTY: the time was over first. KV_CLOSED: kv_shared_finish was called and all was handed
- * out, or the bucket was closed, or the follower stopped. KV_LAGGED, with *floor told: as kv_feed_refresh, a compaction
- * to this floor came before the follower had gone on as far; it is answered from then on, and the follower can only be
- * closed. KV_TOO_LITTLE_ROOM: nothing moved, and *item tells the sizes. *item and *floor stay as they were with any
- * other code. No item is lost by a refusal. */
-uint64_t kv_follower_next(kv_follower *follower, uint64_t milliseconds, uint8_t *keys, size_t keys_size, uint8_t *values,
-                          size_t values_size, kv_item *item, uint64_t *floor);
+ * out, or the bucket was closed, or the follower stopped. KV_LAGGED, with *floor told: as kv_feed_refresh, a
+ * compaction to this floor came before the follower had gone on as far; it is answered from then on, and the follower
+ * can only be closed. KV_TOO_LITTLE_ROOM: nothing moved, and *item tells the sizes. *item and *floor stay as they were
+ * with any other code. No item is lost by a refusal. */
+uint64_t kv_follower_next(kv_follower *follower, uint64_t milliseconds, uint8_t *keys, size_t keys_size,
+                          uint8_t *values, size_t values_size, kv_item *item, uint64_t *floor);
 
-/* Tells a descriptor to wait on (poll, epoll, and the loops that stand on these). It is readable from its beginning until
- * a next answers KV_OK with KV_EMPTY, and then again from what is published next on, whether the filters match that or
- * not. It is readable for ever once the bucket was finished or closed, or the follower stopped. The follower owns it: it
- * is not read, written or closed by anybody else, and the close of the follower closes it. The same one each time.
- * KV_NO_DESCRIPTOR where the system gives none. One call at a time. */
+/* Tells a descriptor to wait on (poll, epoll, and the loops that stand on these). It is readable from its beginning
+ * until a next answers KV_OK with KV_EMPTY, and then again from what is published next on, whether the filters match
+ * that or not. It is readable for ever once the bucket was finished or closed, or the follower stopped. The follower
+ * owns it: it is not read, written or closed by anybody else, and the close of the follower closes it. The same one
+ * each time. KV_NO_DESCRIPTOR where the system gives none. One call at a time. */
 uint64_t kv_follower_fd(kv_follower *follower, int *fd);
 
 /* Ends a follower: where it sleeps it is woken, and each next from then on is KV_CLOSED. Any thread, also during a

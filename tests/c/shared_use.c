@@ -421,6 +421,8 @@ static void closed_behind(void) {
 }
 
 int main(void) {
+    /* What sleeps for ever ends the run. */
+    alarm(60);
     layout();
     closed();
     opened();

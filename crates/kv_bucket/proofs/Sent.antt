@@ -5,7 +5,7 @@
 use denote.RattleType.{RattleType}
 use denote.Param.Send.{IsSend, IsSync, sendable}
 use Rattle.std.proofs.Crossing.{crosses}
-use Rattle.kv_store.proofs.Sent.{version_send}
+use Rattle.kv_store.proofs.Sent.{ring_send, version_send}
 use Rattle.kv_publish.proofs.Sent.{publication_send, publication_sync, side_send, side_sync, notifier_send, notifier_sync, buffer_send}
 use Rattle.kv_publish.proofs.journal.Journal.TheSendSync as journal
 use Rattle.kv_bucket.specs.contracts.receipt.Mark as Mark
@@ -59,7 +59,7 @@ module _ (N : RattleType) (g : live_name.Ghosts N.Denot) (s : IsSend N) (y : IsS
   publisher_send = let h = publication_send in let c = buffer_send N g s y in let b = notifier_send N g s y in search (sendable, crosses, journal.the_send) depth 20
 
   keeper_send : IsSend (Keeper.the_row N g)
-  keeper_send = let b = bucket_send in let p = publisher_send in search (sendable, crosses) depth 20
+  keeper_send = let b = bucket_send in let p = publisher_send in let r = ring_send in search (sendable, crosses) depth 20
 
   pub live_sync : IsSync (Live.the_row N g)
   live_sync = let k = keeper_send in let b = notifier_sync N g s y in search (sendable, crosses) depth 20

@@ -8,6 +8,8 @@ use Rattle.kv_model.specs.Acts.{Act, Wrote, Write}
 use Rattle.kv_model.specs.Configuration.{Configuration, configure}
 use Rattle.kv_model.specs.Requests.{Asked}
 use Rattle.kv_publish.specs.Openings.{Opening}
+use Rattle.kv_store.specs.Standing.{StandsFor}
+use Rattle.kv_store.specs.Stored.{Stored}
 use Rattle.kv_model.specs.declared.call.Call.{Call}
 use Rattle.kv_model.specs.Answers.{Answer}
 use Rattle.kv_single.specs.Held.{Bucketed, Represents}
@@ -26,6 +28,10 @@ kept_of bucket published = record { bucket = bucket; published = published }
 pub record IsAt (state : State) (kept : Kept) : Type 0 where
   pub represents : Represents state kept.bucket
   pub published : kept.published ≡ state.acts
+
+-- a version of this configuration stands for these acts
+abbrev pub Shows : Configuration → List Act → Stored → Type 0
+Shows config acts version = (version.config ≡ config) × StandsFor acts version
 
 -- the state of these acts and watches
 abbrev pub state_of : Configuration → List Act → List Watch → State

@@ -27,7 +27,7 @@ use kv_keys::{Filters, KvError};
 use kv_model::{Options, Request, Stopped};
 use kv_publish::{GhostAct, LiveName};
 use kv_single::Bucket;
-use kv_store::Version;
+use kv_store::{Ring, Version};
 use kv_watch::Taken;
 use std::marker::Model;
 use std::sync::Wait;
@@ -39,16 +39,19 @@ use std::sync::Wait;
 pub struct Keeper<N: LiveName> {
     pub(crate) bucket: Bucket,
     pub(crate) publisher: Publisher<N>,
+    /// It makes the versions that writes lead to, and keeps the last ones for that.
+    pub(crate) ring: Ring,
 }
 
 impl<N: LiveName> Model for Keeper<N> {
-    ghost use Rattle.kv_bucket.specs.Keeping.{Kept, IsSomewhere, kept_of};
+    ghost use Rattle.kv_bucket.specs.Keeping.{Kept, IsSomewhere, Shows, kept_of};
 
     ghost Value = { Kept };
 
     ghost view = { λ k. kept_of k.bucket k.publisher };
 
-    ghost invariant = { λ k. IsSomewhere N.opening.config (kept_of k.bucket k.publisher) };
+    ghost invariant = { λ k. IsSomewhere N.opening.config (kept_of k.bucket k.publisher)
+        × Shows N.opening.config k.publisher k.ring };
 }
 
 // Publishes an act, and only then puts the version after it in place.
@@ -57,18 +60,19 @@ fn keep<N: LiveName, R: Wait>(
     bucket: &mut Bucket,
     publisher: &mut Publisher<N>,
     ghost_act: GhostAct,
-    next: Version,
+    next: &Version,
 ) -> Result<(), KvError>
-    requires stands { StandsFor (publisher.old ++ ghost_act ∷ []) next }
-    requires config { next.config ≡ N.opening.config }
-    requires step { (call : ACall) × ((answer : Answer) × IsStep bucket.old call answer (record bucket.old { version = next })) }
+    requires stands { StandsFor (publisher.old ++ ghost_act ∷ []) next.now }
+    requires config { next.now.config ≡ N.opening.config }
+    requires step { (call : ACall) × ((answer : Answer) × IsStep bucket.old call answer (record bucket.old { version = next.now })) }
     ensures ok { OnOk result ((publisher.new ≡ publisher.old ++ ghost_act ∷ [])
-        × (bucket.new ≡ record bucket.old { version = next })) }
+        × (bucket.new ≡ record bucket.old { version = next.now })) }
     ensures err { IfErr result (λ e. e ≡ OutOfMemory) }
     ensures unchanged { OnErr result ((publisher.new ≡ publisher.old) × (bucket.new ≡ bucket.old)) }
 {
-    publisher.publish(rt, ghost_act, &next)?;
-    bucket.go_on_to(next);
+    let own = next.snapshot()?;
+    publisher.publish(rt, ghost_act, next)?;
+    bucket.go_on_to(own);
     Ok(())
 }
 
@@ -104,11 +108,17 @@ impl<N: LiveName> Keeper<N> {
             Refuses e (accept state.config (asked request.now) state.acts)) }
         ensures unchanged { OnErr result (self.new ≡ self.old) }
     {
-        let Keeper { bucket, publisher } = self;
-        let next = bucket.version().apply(bucket.alloc(), request)?;
-        let revision = next.revision();
+        let Keeper {
+            bucket,
+            publisher,
+            ring,
+        } = self;
+        let next = ring.next(bucket.alloc(), request)?;
+        let version = next.version();
+        let revision = version.revision();
         let ghost_act = GhostAct::wrote(request, revision);
-        keep(rt, bucket, publisher, ghost_act, next)?;
+        keep(rt, bucket, publisher, ghost_act, version)?;
+        ring.go_on_to(next);
         Ok(revision)
     }
 
@@ -118,9 +128,14 @@ impl<N: LiveName> Keeper<N> {
         ensures err { IfErr result (λ e. e ≡ OutOfMemory) }
         ensures unchanged { OnErr result (self.new ≡ self.old) }
     {
-        let Keeper { bucket, publisher } = self;
+        let Keeper {
+            bucket,
+            publisher,
+            ring,
+        } = self;
         let next = bucket.version().seal(bucket.alloc())?;
-        keep(rt, bucket, publisher, GhostAct::seal(), next)?;
+        keep(rt, bucket, publisher, GhostAct::seal(), &next)?;
+        *ring = Ring::new(next);
         Ok(())
     }
 
@@ -132,10 +147,15 @@ impl<N: LiveName> Keeper<N> {
             (λ e. (state : State) → IsAt state self.old → Refuses e (may_compact floor state)) }
         ensures unchanged { OnErr result (self.new ≡ self.old) }
     {
-        let Keeper { bucket, publisher } = self;
+        let Keeper {
+            bucket,
+            publisher,
+            ring,
+        } = self;
         bucket.may_compact(floor)?;
         let next = bucket.version().compact(bucket.alloc(), floor)?;
-        keep(rt, bucket, publisher, GhostAct::compact(floor), next)?;
+        keep(rt, bucket, publisher, GhostAct::compact(floor), &next)?;
+        *ring = Ring::new(next);
         Ok(())
     }
 
@@ -259,7 +279,11 @@ impl<N: LiveName> Keeper<N> {
 
     /// Ends the publisher. Readers read what is published on. It waits for the readers that are reading.
     pub(crate) fn close<R: Wait>(self, rt: &R) {
-        let Keeper { bucket, publisher } = self;
+        let Keeper {
+            bucket,
+            publisher,
+            ring: _,
+        } = self;
         publisher.close(rt, bucket.version());
     }
 }

@@ -19,6 +19,7 @@ use kv_keys::KvError;
 use kv_model::{Config, Request};
 use kv_publish::{FreshJournal, LiveName, Notifier};
 use kv_single::Bucket;
+use kv_store::Ring;
 use std::alloc::Global;
 use std::marker::{Brand, Model};
 use std::sync::{Mutex, MutexGuard, Wait};
@@ -149,8 +150,14 @@ impl Opened {
             fresh,
             readers,
         } = self;
+        let ring = Ring::new(bucket.version().snapshot()?);
         let publisher: Publisher<N> = Publisher::new(rt, alloc, fresh, bucket.version(), readers)?;
-        live_of(rt, Keeper { bucket, publisher }, readers)
+        let keeper = Keeper {
+            bucket,
+            publisher,
+            ring,
+        };
+        live_of(rt, keeper, readers)
     }
 }
 

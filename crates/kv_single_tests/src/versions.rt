@@ -19,6 +19,7 @@ mod facts;
 mod limits;
 mod listed;
 mod parts;
+mod ring;
 mod rows;
 
 use driving::holds;

@@ -14,3 +14,4 @@ pub mod OneMatch
 pub mod Asking
 pub mod LookingUp
 pub mod Turned
+pub mod Following

@@ -1,6 +1,6 @@
--- What may cross threads: a version may be handed to another thread, and shared. Whoever starts threads over versions
--- cites these; one `search` through the fields of them all
--- finds no proof within its bounds. They go from the nodes of a trie upwards, so that each search is short.
+-- What may cross threads: a version may be handed to another thread, and shared, and a ring handed over. Whoever starts
+-- threads over these cites them; one `search` through the fields of them all finds no proof within its bounds. They go
+-- from the nodes of a trie upwards, so that each search is short.
 use denote.RattleType.{RattleType}
 use denote.Param.Send.{IsSend, IsSync, sendable}
 use Rattle.std.proofs.Crossing.{crosses}
@@ -14,6 +14,8 @@ use Rattle.kv_trie.specs.contracts.node.Node as Node
 use Rattle.kv_trie.specs.contracts.trie.Trie as Trie
 use Rattle.kv_trie.proofs.node.Node.TheLaws.TheKnot as knot
 use Rattle.kv_store.specs.contracts.inner.Inner as Inner
+use Rattle.kv_store.specs.contracts.made.Made as Made
+use Rattle.kv_store.specs.contracts.ring.Ring as Ring
 use Rattle.kv_store.specs.contracts.version.Version as Version
 use Rattle.kv_store.proofs.key_history.KeyHistory.TheSendSync as kept
 use Rattle.kv_store.proofs.rev.Rev.TheSendSync as rev
@@ -43,3 +45,9 @@ version_send = search (sendable, crosses, inner_send, inner_sync) depth 20
 
 pub version_sync : IsSync Version.the_row
 version_sync = search (sendable, crosses, inner_send, inner_sync) depth 20
+
+made_send : IsSend Made.the_row
+made_send = search (sendable, crosses, key.the_send, key.the_sync, kept.the_send, kept.the_sync, rev.the_send, rev.the_sync, write.the_send, write.the_sync) depth 20
+
+pub ring_send : IsSend Ring.the_row
+ring_send = let v = version_send in let m = made_send in search (sendable, crosses) depth 20

@@ -12,16 +12,22 @@ use crate::version::Version;
 use kv_keys::KvError;
 use kv_model::Request;
 use std::alloc::Global;
+use std::sync::Arc;
 
 impl Version {
     // An equal version, whose parts nobody else has: they are changed where they lie. A snapshot would add an owner to
     // parts that all readers count on, and take it off again as soon as its own are copied.
-    fn with_own_inner(&self, alloc: Global) -> Result<Version, KvError>
+    pub(crate) fn with_own_inner(&self, alloc: Global) -> Result<Version, KvError>
         ensures ok { IfOk result (λ version. version ≡ self.now) }
         ensures err { IfErr result (λ e. e ≡ OutOfMemory) }
     {
         let inner = self.inner.copy()?;
         Version::of(alloc, inner)
+    }
+
+    // Whether somebody else has its parts too.
+    pub(crate) fn is_shared(&self) -> bool {
+        Arc::strong_count(&self.inner) != 1
     }
 
     /// The next version, with the write that is asked for, or why it is refused, the first reason that fits: its value

@@ -115,7 +115,7 @@ const WORKED_VALUES: &[([u32; 4], &[u32])] = &[
 ];
 
 #[test]
-fn retained_of_worked_keys(rt: HostRuntime) -> Result<(), Fail> {
+fn worked_keys_below_a_limit_are_retained(rt: HostRuntime) -> Result<(), Fail> {
     for (values, limits) in WORKED_VALUES {
         all_limits::<Key>(&rt, rt.alloc(), WORKED, values, limits)?;
     }
@@ -134,13 +134,13 @@ const NUMBERS: &[u32] = &[
 const LIMITS: &[u32] = &[0, 1, 2, 3, 10, 50, 90, 99, 100];
 
 #[test]
-fn retained_of_a_hundred_keys(rt: HostRuntime) -> Result<(), Fail> {
+fn a_hundred_keys_below_a_limit_are_retained(rt: HostRuntime) -> Result<(), Fail> {
     all_limits::<Key>(&rt, rt.alloc(), HUNDRED, NUMBERS, LIMITS)?;
     Ok(())
 }
 
 #[test]
-fn retained_of_a_hundred_keys_of_one_place(rt: HostRuntime) -> Result<(), Fail> {
+fn a_hundred_keys_of_one_place_below_a_limit_are_retained(rt: HostRuntime) -> Result<(), Fail> {
     all_limits::<Short>(&rt, rt.alloc(), HUNDRED, NUMBERS, LIMITS)?;
     Ok(())
 }

@@ -51,7 +51,7 @@ const MARKED: &[Fact] = &[
 ];
 
 #[test]
-fn a_key_that_never_was_has_a_marker(rt: HostRuntime) -> Result<(), Fail> {
+fn a_delete_of_a_key_that_never_was_is_a_marker(rt: HostRuntime) -> Result<(), Fail> {
     holds(&rt, rt.alloc(), keeping(1), MARKERS, MARKED)?;
     Ok(())
 }
@@ -131,7 +131,7 @@ const LONG: &[Fact] = &[
 ];
 
 #[test]
-fn keys_and_values_of_24_bytes_and_of_25(rt: HostRuntime) -> Result<(), Fail> {
+fn keys_and_values_of_24_and_25_bytes_are_read_back(rt: HostRuntime) -> Result<(), Fail> {
     holds(&rt, rt.alloc(), keeping(6), LENGTHS, LONG)?;
     Ok(())
 }

@@ -177,7 +177,7 @@ const ROWS: &[(&str, Row)] = &[
 ];
 
 #[test]
-fn a_watch_is_given_these_entries(rt: HostRuntime) -> Result<(), Fail> {
+fn a_watch_is_given_its_entries_in_order(rt: HostRuntime) -> Result<(), Fail> {
     for (filters, row) in ROWS {
         watch_gives(&rt, rt.alloc(), filters, *row)?;
     }

@@ -12,8 +12,7 @@ pub invariant_of-self : goal.invariant_of-self
 invariant_of-self g c =
     let was = c.self.inside in
     let old : Kept = kept_of was.bucket was.publisher in
-    somewhere_taken (calls.Take c.args.number) (λ (taken : Taken). answer_item (item_taken taken)) g.N.LiveName.opening.config old c.take.follows.lender-at-none c.take.result (quiet_take c.args.number) c.self.invariant
-    c.take.follows.holds-at-none
+    (somewhere_taken (calls.Take c.args.number) (λ (taken : Taken). answer_item (item_taken taken)) g.N.LiveName.opening.config old c.take.follows.lender-at-none c.take.result (quiet_take c.args.number) c.self.invariant.0 c.take.follows.holds-at-none, c.self.invariant.1)
 
 pub returns : goal.returns
 returns g c =

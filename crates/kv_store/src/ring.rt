@@ -1,0 +1,230 @@
+//! A version and the two before it, of which the oldest becomes the next.
+
+ghost use Rattle.std.specs.Prelude.{◌≡◌, List, [], ◌∷◌, ◌++◌, true, false, Ok, Err, if◌then◌else◌, IfErr, IfOk, IfSome, OnErr, OnOk};
+ghost use Rattle.kv_keys.specs.Outcome.{Refuses};
+ghost use Rattle.kv_keys.specs.declared.error.KvError.TheVariants.{BadFloor, OutOfMemory};
+ghost use Rattle.kv_model.specs.Acceptance.{accept};
+ghost use Rattle.kv_model.specs.Acts.{Act, Wrote, Seal, Compact, Write as AWrite};
+ghost use Rattle.kv_model.specs.Compaction.{is_bad_floor};
+ghost use Rattle.kv_model.specs.Requests.{asked};
+ghost use Rattle.kv_store.specs.Standing.{StandsFor};
+ghost use Rattle.kv_store.specs.inside.Following.{IsAlike, IsMadeOf, LeadsTo};
+ghost use Rattle.kv_store.specs.inside.Next.{HasOneMore};
+
+use crate::made::Made;
+use crate::version::Version;
+use kv_keys::KvError;
+use kv_model::Request;
+use std::alloc::Global;
+use std::marker::Model;
+use std::mem;
+
+/// The next version of a ring, made apart, and the write that leads to it.
+#[derive(Drop)]
+pub struct Next {
+    pub(crate) version: Version,
+    pub(crate) made: Made,
+}
+
+impl Next {
+    /// The version.
+    pub fn version(&self) -> &Version
+        ensures { result.now ≡ self.now.version }
+    {
+        &self.version
+    }
+}
+
+// An older version, and the write that it lacks to be the next one.
+#[derive(Drop)]
+struct Older {
+    version: Version,
+    made: Made,
+}
+
+impl Older {
+    // The version, with the write that it lacks.
+    fn follow(self, alloc: Global) -> Result<Version, KvError>
+        requires { IsMadeOf self.made self.version }
+        ensures ok { IfOk result (λ version. HasOneMore self.made.write self.version version) }
+        ensures err { IfErr result (λ e. e ≡ OutOfMemory) }
+    {
+        let Older { mut version, made } = self;
+        version.follow(alloc, made)?;
+        Ok(version)
+    }
+}
+
+/// A version that is followed by others, each with one write more. It keeps the two before it. Where nobody else has a
+/// snapshot of the oldest any more, the next version is made of that: it takes in the two writes that it lacks, whose
+/// pairs it shares with the versions that have them, and then the new one, and no node of it is copied. Each of the
+/// three so has nodes of its own wherever something was written.
+///
+/// Contracts see what its version stores.
+pub struct Ring {
+    version: Version,
+    // The version before it.
+    before: Option<Older>,
+    // And the one before that.
+    oldest: Option<Older>,
+}
+
+impl Drop for Ring {
+    fn drop(self) {
+        let Self {
+            version: _,
+            before: _,
+            oldest: _,
+        } = self;
+    }
+}
+
+impl Model for Ring {
+    ghost use Rattle.std.specs.Prelude.{IfSome};
+    ghost use Rattle.kv_store.specs.Stored.{Stored};
+    ghost use Rattle.kv_store.specs.inside.Following.{LeadsTo};
+
+    ghost Value = { Stored };
+
+    ghost view = { λ r. r.version };
+
+    ghost invariant = { λ r. IfSome r.before (λ b. LeadsTo b.made b.version r.version)
+        × IfSome r.oldest (λ o. IfSome r.before (λ b. LeadsTo o.made o.version b.version)) };
+}
+
+impl Ring {
+    /// The ring of this version, with none before it.
+    pub fn new(version: Version) -> Ring
+        ensures { result ≡ version }
+    {
+        Ring {
+            version,
+            before: None,
+            oldest: None,
+        }
+    }
+
+    /// Its version.
+    pub fn version(&self) -> &Version
+        ensures { result.now ≡ self.now }
+    {
+        &self.version
+    }
+
+    // The oldest version, with the two writes that it lacks: none where there is none, or somebody else has it too.
+    fn caught_up(&mut self, alloc: Global) -> Result<Option<Version>, KvError>
+        ensures same { self.new ≡ self.old }
+        ensures alike { IfOk result (λ found. IfSome found (λ version. IsAlike self.old version)) }
+    {
+        let Ring {
+            version: _,
+            before,
+            oldest,
+        } = self;
+        let Some(oldest) = oldest.take() else {
+            return Ok(None);
+        };
+        let Some(before) = before else {
+            return Ok(None);
+        };
+        if oldest.version.is_shared() {
+            return Ok(None);
+        }
+        let mut version = oldest.follow(alloc)?;
+        version.follow(alloc, before.made.share()?)?;
+        Ok(Some(version))
+    }
+
+    // A version that is like its own, and that nobody else has. Where the oldest can't be brought there its own is
+    // copied.
+    fn spare(&mut self, alloc: Global) -> Result<Version, KvError>
+        ensures same { self.new ≡ self.old }
+        ensures alike { IfOk result (λ version. IsAlike self.old version) }
+        ensures err { IfErr result (λ e. e ≡ OutOfMemory) }
+    {
+        match self.caught_up(alloc) {
+            Ok(Some(version)) => Ok(version),
+            _ => self.version.with_own_inner(alloc),
+        }
+    }
+
+    /// The next version, with the write that is asked for, or why it is refused: as `Version::apply` answers. The ring
+    /// has the same version afterwards, so that who makes the next one may still let it go.
+    pub fn next(&mut self, alloc: Global, request: &Request) -> Result<Next, KvError>
+        ensures config { IfOk result (λ next. next.version.config ≡ self.old.config) }
+        ensures ok { IfOk result (λ next. (acts : List Act) → StandsFor acts self.old →
+            (w : AWrite)
+            × ((accept self.old.config (asked request.now) acts ≡ Ok w) × StandsFor (acts ++ Wrote w ∷ []) next.version)) }
+        ensures leads { IfOk result (λ next. LeadsTo next.made self.old next.version) }
+        ensures refused { IfErr result (λ e. (acts : List Act) → StandsFor acts self.old →
+            Refuses e (accept self.old.config (asked request.now) acts)) }
+        ensures same { self.new ≡ self.old }
+    {
+        let accepted = self.version.accepted(alloc, request)?;
+        let made = Made::new(alloc, accepted)?;
+        let mut version = self.spare(alloc)?;
+        version.follow(alloc, made.share()?)?;
+        Ok(Next { version, made })
+    }
+
+    /// Goes on to the version that `next` made of its own.
+    pub fn go_on_to(&mut self, next: Next)
+        requires { LeadsTo next.made self.old next.version }
+        ensures { self.new ≡ next.version }
+    {
+        let Ring {
+            version,
+            before,
+            oldest,
+        } = self;
+        let made = next.made;
+        let last = mem::replace(version, next.version);
+        *oldest = mem::replace(
+            before,
+            Some(Older {
+                version: last,
+                made,
+            }),
+        );
+    }
+
+    /// Does to its version what `Version::apply` answers in a new one, or changes nothing and answers why.
+    pub fn write(&mut self, alloc: Global, request: &Request) -> Result<(), KvError>
+        ensures config { OnOk result (self.new.config ≡ self.old.config) }
+        ensures ok { OnOk result ((acts : List Act) → StandsFor acts self.old →
+            (w : AWrite)
+            × ((accept self.old.config (asked request.now) acts ≡ Ok w) × StandsFor (acts ++ Wrote w ∷ []) self.new)) }
+        ensures refused { IfErr result (λ e. (acts : List Act) → StandsFor acts self.old →
+            Refuses e (accept self.old.config (asked request.now) acts)) }
+        ensures unchanged { OnErr result (self.new ≡ self.old) }
+    {
+        let next = self.next(alloc, request)?;
+        self.go_on_to(next);
+        Ok(())
+    }
+
+    /// Seals its version, as `Version::seal` does, and lets go of those before it.
+    pub fn seal(&mut self, alloc: Global) -> Result<(), KvError>
+        ensures ok { OnOk result (self.new ≡ record self.old { sealed = true }) }
+        ensures stands { OnOk result
+            ((acts : List Act) → StandsFor acts self.old → StandsFor (acts ++ Seal ∷ []) self.new) }
+        ensures err { IfErr result (λ e. e ≡ OutOfMemory) }
+        ensures unchanged { OnErr result (self.new ≡ self.old) }
+    {
+        *self = Ring::new(self.version.seal(alloc)?);
+        Ok(())
+    }
+
+    /// Compacts its version, as `Version::compact` does, and lets go of those before it, which have all that goes.
+    pub fn compact(&mut self, alloc: Global, floor: u64) -> Result<(), KvError>
+        ensures config { OnOk result (self.new.config ≡ self.old.config) }
+        ensures ok { OnOk result ((acts : List Act) → StandsFor acts self.old →
+            (is_bad_floor floor acts ≡ false) × StandsFor (acts ++ Compact floor ∷ []) self.new) }
+        ensures refused { IfErr result (λ e. (acts : List Act) → StandsFor acts self.old →
+            Refuses e (if is_bad_floor floor acts then Err BadFloor else Ok floor)) }
+        ensures unchanged { OnErr result (self.new ≡ self.old) }
+    {
+        *self = Ring::new(self.version.compact(alloc, floor)?);
+        Ok(())
+    }
+}
