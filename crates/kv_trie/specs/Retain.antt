@@ -4,8 +4,8 @@ use Rattle.std.proofs.Common.{take, get_or}
 use Rattle.std.specs.List.{filter}
 use Rattle.std.specs.declared.cmp.Ordering.{Ordering}
 use Rattle.kv_trie.specs.declared.node.Node.{Node}
-use Rattle.kv_trie.specs.Form.{Each, node_pairs, IsNode}
-use Rattle.kv_trie.specs.Stored.{shape_of}
+use Rattle.kv_trie.specs.Form.{Slots, Each, node_pairs, IsNode}
+use Rattle.kv_trie.specs.Stored.{shape_of, child_slots}
 
 -- whether a pair is wanted
 abbrev pub is_wanted : {K V : Type 0} → (K → V → Bool) → K × V → Bool
@@ -28,9 +28,9 @@ stays_at keep first i p = nat_lt i first || (nat_lt first i && keep p)
 
 module _ {K V : Type 0} where
   -- the children of a branch as far as they have changed: its own, as long as none has
-  abbrev pub children_so_far : Option (List (Node K V)) → List (Node K V) → List (Node K V)
-  children_so_far None children = children
-  children_so_far (Some rest) children = rest
+  abbrev pub slots_so_far : Option (List (Node K V)) → Slots (K × V) → Slots (K × V)
+  slots_so_far None slots = slots
+  slots_so_far (Some rest) slots = child_slots rest
 
   -- the pairs of what a node may have become, where it had these
   abbrev pub pairs_left : List (K × V) → Option (Node K V) → List (K × V)

@@ -1,3 +1,4 @@
+pub mod Few
 pub mod Change
 pub mod Rest
 pub mod Pending

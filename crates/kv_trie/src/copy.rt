@@ -1,6 +1,6 @@
 //! A node of one's own, in place of one that others have too.
 
-ghost use Rattle.std.specs.Prelude.{◌≡◌, IfOk, OnOk};
+ghost use Rattle.std.specs.Prelude.{◌≡◌, ◌<◌, length, map, slice_set, IfOk, OnOk};
 ghost use Rattle.std.specs.Arc.{arc_value};
 ghost use Rattle.kv_trie.specs.Stored.{shape_of, child_slots};
 
@@ -18,6 +18,7 @@ impl<K: Drop, V: Drop> Clone for Node<K, V> {
         match self {
             Node::Empty => Ok(Node::Empty),
             Node::Leaf(pair) => Ok(Node::Leaf(Arc::try_clone(pair)?)),
+            Node::Few(few) => Ok(Node::Few(Arc::try_clone(few)?)),
             Node::Branch(children) => Ok(Node::Branch(Arc::try_clone(children)?)),
             Node::List(pairs) => Ok(Node::List(Arc::try_clone(pairs)?)),
         }
@@ -26,19 +27,33 @@ impl<K: Drop, V: Drop> Clone for Node<K, V> {
 
 // Reads how many owners the children have, before they are copied. A copy adds one to each of these numbers, and such
 // additions wait for one another; reads don't, so numbers that lie in slow memory come at the same time.
-fn fetch_owners<K, V>(children: &[Node<K, V>; 32]) {
+pub fn fetch_owners<K, V>(children: &[Node<K, V>]) {
     for child in children.iter() {
         let _owners = match child {
             Node::Empty => 0,
             Node::Leaf(pair) => Arc::strong_count(pair),
+            Node::Few(few) => Arc::strong_count(few),
             Node::Branch(children) => Arc::strong_count(children),
             Node::List(pairs) => Arc::strong_count(pairs),
         };
     }
 }
 
+// Has one of these children share what another node has.
+pub fn share_at<K: Drop, V: Drop>(
+    children: &mut [Node<K, V>],
+    at: usize,
+    node: &Node<K, V>,
+) -> Result<(), AllocError>
+    requires { at < length children.old }
+    ensures { OnOk result (map shape_of children.new ≡ slice_set (map shape_of children.old) at (shape_of node.now)) }
+{
+    children[at] = node.clone()?;
+    Ok(())
+}
+
 // Has these children share what those have.
-fn share<K: Drop, V: Drop>(
+pub fn share<K: Drop, V: Drop>(
     children: &mut [Node<K, V>; 32],
     others: &[Node<K, V>; 32],
 ) -> Result<(), AllocError>

@@ -1,17 +1,20 @@
 //! One more pair in a node, in place where nobody else has it.
 
-ghost use Rattle.std.specs.Prelude.{◌≡◌, ◌≤◌, ◌<◌, ◌-◌, ◌⊎◌, [], ◌∷◌, Some, true, is_some, IfErr, IfOk, OnErr, OnOk};
+ghost use Rattle.std.specs.Prelude.{◌≡◌, ◌≤◌, ◌<◌, ◌-◌, ◌⊎◌, [], ◌∷◌, Some, None, true, is_some, IfErr, IfOk, OnErr, OnOk};
 ghost use Rattle.std.specs.Arc.{arc_value};
 ghost use Rattle.std.specs.BTreeMap.{is_at};
 ghost use Rattle.std.specs.Map.{lookup};
 ghost use Rattle.std.specs.declared.cmp.Ordering.TheVariants.{Equal};
 ghost use Rattle.kv_keys.specs.declared.error.KvError.TheVariants.{OutOfMemory};
-ghost use Rattle.kv_trie.specs.inside.Change.{IsFormWith, AreFormsWith};
-ghost use Rattle.kv_trie.specs.Form.{IsNode, AreForms, leaf, row, more, none, node_pairs, pairs_in, put_pair};
-ghost use Rattle.kv_trie.specs.Stored.{shape_of, child_slots};
+ghost use Rattle.kv_trie.specs.inside.Change.{IsFormWith, AreFormsWith, IsBranchWith};
+ghost use Rattle.kv_trie.specs.inside.Few.{Rises, HasRoom};
+ghost use Rattle.kv_trie.specs.Form.{IsNode, AreForms, index_of, child_at, leaf, row, more, none, node_pairs, pairs_in, put_pair};
+ghost use Rattle.kv_trie.specs.Stored.{shape_of, child_slots, few_slots};
 
+use crate::children::spread;
 use crate::companion::Companion;
 use crate::copy::unshare;
+use crate::few::{Few, has_room_at, open};
 use crate::index::index;
 use crate::list::put_in_shared;
 use crate::node::{Node, Pair};
@@ -19,17 +22,33 @@ use crate::padded::Padded;
 use crate::pending::Pending;
 use crate::rest::no_children;
 use kv_keys::{KvError, Place};
-use std::alloc::Global;
+use std::alloc::{AllocError, Global};
 use std::sync::Arc;
 
 // The children of a branch over one pair.
-fn alone<K: Drop, V: Drop>(pair: Arc<Pair<K, V>>, at: usize) -> [Node<K, V>; 32]
+fn alone<K: Drop, V: Drop>(pair: Arc<Pair<K, V>>, at: usize) -> Few<[Node<K, V>; 4]>
     requires { at < 32 }
-    ensures { child_slots result ≡ more at (leaf (arc_value pair)) none }
+    ensures slots { few_slots result ≡ more at (leaf (arc_value pair)) none }
+    ensures room { HasRoom result }
 {
-    let mut children = no_children();
-    children[at] = Node::Leaf(pair);
-    children
+    Few {
+        indices: [at as u8, 0, 0, 0],
+        children: [Node::Leaf(pair), Node::Empty, Node::Empty, Node::Empty],
+    }
+}
+
+// The same children, with room for more, shared.
+fn widened<K: Drop, V: Drop>(
+    alloc: Global,
+    few: &Few<[Node<K, V>; 4]>,
+) -> Result<Arc<Padded<[Node<K, V>; 32]>>, AllocError>
+    requires { Rises 0 (few_slots few.now) }
+    ensures { IfOk result (λ new. child_slots (arc_value new).value ≡ few_slots few.now) }
+{
+    let mut new = Arc::new(alloc, Padded::new(no_children()))?;
+    let own = Arc::make_mut(&mut new)?;
+    spread(&mut own.value, few)?;
+    Ok(new)
 }
 
 // The node of a pair and another one of its place, and lets the companion happen, or does neither.
@@ -77,9 +96,9 @@ fn put_beside<K: Place + Drop, V: Drop, C: Companion>(
         return list_of_two(alloc, other, pending, companion);
     }
     let at = index(old.0.place(), left - 1);
-    let mut branch = Arc::new(alloc, Padded::new(alone(other, at)))?;
-    put_in_branch(alloc, &mut branch, left, place, pending, companion)?;
-    Ok(Node::Branch(branch))
+    let mut branch = Arc::new(alloc, alone(other, at))?;
+    put_in_few(alloc, &mut branch, left, place, pending, companion)?;
+    Ok(Node::Few(branch))
 }
 
 // Puts the pair below one of the children. It answers whether there was one with an equal key.
@@ -149,6 +168,104 @@ fn put_in_branch<K: Place + Drop, V: Drop, C: Companion>(
     put_below(alloc, &mut own.value, left, place, pending, companion)
 }
 
+// Puts the pair below one of the children of a small branch that has room for one more where it has none. It answers
+// whether there was one with an equal key.
+#[cycle(put)]
+fn put_among<K: Place + Drop, V: Drop, C: Companion>(
+    alloc: Global,
+    few: &mut Few<[Node<K, V>; 4]>,
+    left: u32,
+    place: u32,
+    pending: &mut Pending<K, V>,
+    companion: &mut C,
+) -> Result<bool, KvError>
+    requires levels { left ≤ 7 }
+    requires some { 0 < left }
+    requires forms { AreForms K.cmp K.place_of (left - 1) 0 (few_slots few.old) }
+    requires room { child_at (index_of (left - 1) place) (few_slots few.old) ≡ None → HasRoom few.old }
+    requires place { place ≡ K.place_of pending.old.pair.0 }
+    requires there { pending.old.there ≡ true }
+    requires ready { C.ready companion.old }
+    ensures branch { OnOk result (AreFormsWith K.cmp K.place_of left pending.old.pair
+        (pairs_in (few_slots few.old)) (few_slots few.new)) }
+    ensures found { IfOk result (λ found. found
+        ≡ is_some (lookup (is_at (K.cmp pending.old.pair.0)) (pairs_in (few_slots few.old)))) }
+    ensures unchanged { OnErr result (few_slots few.new ≡ few_slots few.old) }
+    ensures companion { (OnOk result (C.done companion.old companion.new))
+        × (OnErr result ((companion.new ≡ companion.old) ⊎ C.kept companion.old companion.new))
+        × (IfErr result (λ error. error ≡ OutOfMemory)) }
+{
+    let spot = open(few, index(place, left - 1));
+    put(
+        alloc,
+        &mut few.children[spot],
+        left - 1,
+        place,
+        pending,
+        companion,
+    )
+}
+
+// Puts the pair below a small branch that has room for it, as below another.
+#[cycle(put)]
+fn put_in_few<K: Place + Drop, V: Drop, C: Companion>(
+    alloc: Global,
+    few: &mut Arc<Few<[Node<K, V>; 4]>>,
+    left: u32,
+    place: u32,
+    pending: &mut Pending<K, V>,
+    companion: &mut C,
+) -> Result<bool, KvError>
+    requires levels { left ≤ 7 }
+    requires some { 0 < left }
+    requires forms { AreForms K.cmp K.place_of (left - 1) 0 (few_slots (arc_value few.old)) }
+    requires room { child_at (index_of (left - 1) place) (few_slots (arc_value few.old)) ≡ None
+        → HasRoom (arc_value few.old) }
+    requires place { place ≡ K.place_of pending.old.pair.0 }
+    requires there { pending.old.there ≡ true }
+    requires ready { C.ready companion.old }
+    ensures branch { OnOk result (AreFormsWith K.cmp K.place_of left pending.old.pair
+        (pairs_in (few_slots (arc_value few.old))) (few_slots (arc_value few.new))) }
+    ensures found { IfOk result (λ found. found
+        ≡ is_some (lookup (is_at (K.cmp pending.old.pair.0)) (pairs_in (few_slots (arc_value few.old))))) }
+    ensures unchanged { OnErr result (few_slots (arc_value few.new) ≡ few_slots (arc_value few.old)) }
+    ensures companion { (OnOk result (C.done companion.old companion.new))
+        × (OnErr result ((companion.new ≡ companion.old) ⊎ C.kept companion.old companion.new))
+        × (IfErr result (λ error. error ≡ OutOfMemory)) }
+{
+    let own = Arc::make_mut(few)?;
+    put_among(alloc, own, left, place, pending, companion)
+}
+
+// Puts the pair below the children of a small branch that has no room for it. It gives way to one of 32.
+#[cycle(put)]
+fn put_widened<K: Place + Drop, V: Drop, C: Companion>(
+    alloc: Global,
+    few: &Arc<Few<[Node<K, V>; 4]>>,
+    left: u32,
+    place: u32,
+    pending: &mut Pending<K, V>,
+    companion: &mut C,
+) -> Result<(Node<K, V>, bool), KvError>
+    requires levels { left ≤ 7 }
+    requires some { 0 < left }
+    requires forms { AreForms K.cmp K.place_of (left - 1) 0 (few_slots (arc_value few.now)) }
+    requires place { place ≡ K.place_of pending.old.pair.0 }
+    requires there { pending.old.there ≡ true }
+    requires ready { C.ready companion.old }
+    ensures branch { IfOk result (λ new. IsBranchWith K.cmp K.place_of left pending.old.pair
+        (pairs_in (few_slots (arc_value few.now))) new.0) }
+    ensures found { IfOk result (λ new. new.1
+        ≡ is_some (lookup (is_at (K.cmp pending.old.pair.0)) (pairs_in (few_slots (arc_value few.now))))) }
+    ensures companion { (OnOk result (C.done companion.old companion.new))
+        × (OnErr result ((companion.new ≡ companion.old) ⊎ C.kept companion.old companion.new))
+        × (IfErr result (λ error. error ≡ OutOfMemory)) }
+{
+    let mut branch = widened(alloc, few)?;
+    let found = put_in_branch(alloc, &mut branch, left, place, pending, companion)?;
+    Ok((Node::Branch(branch), found))
+}
+
 // Puts the pair into a node in place of any with an equal key, and lets the companion happen, or does neither. Where
 // others have the node too, it is a copy that is changed, and they keep theirs. It answers whether there was one with an
 // equal key, so that nobody has to look before.
@@ -194,5 +311,13 @@ pub fn put<K: Place + Drop, V: Drop, C: Companion>(
         }
         Node::Branch(children) => put_in_branch(alloc, children, left, place, pending, companion),
         Node::List(pairs) => put_in_shared(alloc, pairs, pending, companion),
+        Node::Few(few) => {
+            if has_room_at(few, index(place, left - 1)) {
+                return put_in_few(alloc, few, left, place, pending, companion);
+            }
+            let (new, found) = put_widened(alloc, few, left, place, pending, companion)?;
+            *node = new;
+            Ok(found)
+        }
     }
 }

@@ -3,14 +3,16 @@
 //! What may become of a node: `None` where nothing goes, so that the node itself can be shared; else `Some` of what is
 //! left of it.
 
-ghost use Rattle.std.specs.Prelude.{◌≡◌, ◌+◌, ◌-◌, ◌<◌, ◌≤◌, ◌^◌, true, length, map, IfOk, OnOk, MatchOption, slice_set};
+ghost use Rattle.std.specs.Prelude.{◌≡◌, ◌+◌, ◌-◌, ◌<◌, ◌≤◌, ◌^◌, true, length, map, IfOk, OnOk, MatchOption};
 ghost use Rattle.std.specs.Arc.{arc_value};
 ghost use Rattle.std.specs.List.{filter};
-ghost use Rattle.kv_trie.specs.Form.{Each, IsForm, IsNode, AreForms, row, listed as node_of, pairs_in, node_pairs, whole};
-ghost use Rattle.kv_trie.specs.Retain.{is_wanted, IsUnwantedAt, IsRetained, children_so_far, stays_at};
+ghost use Rattle.kv_trie.specs.Form.{Each, child_at, with_or_without, IsForm, IsNode, AreForms, row, listed as node_of, pairs_in, node_pairs, whole};
+ghost use Rattle.kv_trie.specs.Retain.{is_wanted, IsUnwantedAt, IsRetained, slots_so_far, stays_at};
 ghost use Rattle.kv_trie.specs.Stored.{shape_of, child_slots};
+ghost use Rattle.kv_trie.specs.inside.Few.{Rises, has_slots, slots_of};
 ghost use Rattle.kv_trie.specs.Trie.{IsRoot, root_pairs};
 
+use crate::children::{child_of, spread_of};
 use crate::list::take_only;
 use crate::node::{Node, Pair};
 use crate::padded::Padded;
@@ -105,17 +107,18 @@ fn retain_listed<K: Place + Drop, V: Drop, W: Wants<K, V>>(
 // change.
 fn changed<K: Drop, V: Drop>(
     rest: Option<[Node<K, V>; 32]>,
-    children: &[Node<K, V>; 32],
+    branch: &Node<K, V>,
     index: usize,
     child: Node<K, V>,
 ) -> Result<[Node<K, V>; 32], AllocError>
-    requires { index < 32 }
-    ensures { IfOk result (λ new. map shape_of new
-        ≡ slice_set (map shape_of (children_so_far rest children.now)) index (shape_of child)) }
+    requires index { index < 32 }
+    requires indices { Rises 0 (slots_of (shape_of branch.now)) }
+    ensures { IfOk result (λ new. child_slots new
+        ≡ with_or_without index (shape_of child) (slots_so_far rest (slots_of (shape_of branch.now)))) }
 {
     let mut new = match rest {
         Some(new) => new,
-        None => children.clone()?,
+        None => spread_of(branch)?,
     };
     new[index] = child;
     Ok(new)
@@ -129,9 +132,36 @@ fn node_of_children<K: Drop, V: Drop>(
     ensures { IfOk result (λ node. shape_of node ≡ whole (child_slots children)) }
 {
     let mut children = children;
-    match take_rest(&mut children) {
+    match take_rest(alloc, &mut children) {
         Some(node) => Ok(node),
         None => Ok(Node::Branch(Arc::new(alloc, Padded::new(children))?)),
+    }
+}
+
+// What is left of the child of a branch at an index.
+#[cycle(retain)]
+fn retain_at<K: Place + Drop, V: Drop, W: Wants<K, V>>(
+    alloc: Global,
+    branch: &Node<K, V>,
+    index: usize,
+    left: u32,
+    wants: &W,
+    gone: &mut u64,
+) -> Result<Option<Node<K, V>>, AllocError>
+    requires levels { left ≤ 7 }
+    requires some { 0 < left }
+    requires index { index < 32 }
+    requires form { IsNode K.cmp K.place_of (left - 1) (child_at index (slots_of (shape_of branch.now))) }
+    requires count { gone.old + length (node_pairs (child_at index (slots_of (shape_of branch.now)))) < 2 ^ 64 }
+    ensures retained { IfOk result (IsRetained K.cmp K.place_of (is_wanted (W.wanted wants.now)) (left - 1)
+        (node_pairs (child_at index (slots_of (shape_of branch.now))))) }
+    ensures count { OnOk result (gone.new + length
+        (filter (is_wanted (W.wanted wants.now)) (node_pairs (child_at index (slots_of (shape_of branch.now)))))
+        ≡ gone.old + length (node_pairs (child_at index (slots_of (shape_of branch.now))))) }
+{
+    match child_of(branch, index) {
+        Some(child) => retain(alloc, child, left - 1, wants, gone),
+        None => Ok(None),
     }
 }
 
@@ -139,25 +169,25 @@ fn node_of_children<K: Drop, V: Drop>(
 #[cycle(retain)]
 fn retain_below<K: Place + Drop, V: Drop, W: Wants<K, V>>(
     alloc: Global,
-    children: &[Node<K, V>; 32],
+    branch: &Node<K, V>,
     left: u32,
     wants: &W,
     gone: &mut u64,
 ) -> Result<Option<Node<K, V>>, AllocError>
     requires levels { left ≤ 7 }
-    requires some { 0 < left }
-    requires forms { AreForms K.cmp K.place_of (left - 1) 0 (child_slots children.now) }
-    requires count { gone.old + length (pairs_in (child_slots children.now)) < 2 ^ 64 }
+    requires form { IsNode K.cmp K.place_of left (shape_of branch.now) }
+    requires branch { has_slots (shape_of branch.now) ≡ true }
+    requires count { gone.old + length (node_pairs (shape_of branch.now)) < 2 ^ 64 }
     ensures retained { IfOk result (IsRetained K.cmp K.place_of (is_wanted (W.wanted wants.now)) left
-        (pairs_in (child_slots children.now))) }
+        (node_pairs (shape_of branch.now))) }
     ensures count { OnOk result (gone.new + length
-        (filter (is_wanted (W.wanted wants.now)) (pairs_in (child_slots children.now))) ≡ gone.old + length
-        (pairs_in (child_slots children.now))) }
+        (filter (is_wanted (W.wanted wants.now)) (node_pairs (shape_of branch.now))) ≡ gone.old + length
+        (node_pairs (shape_of branch.now))) }
 {
     let mut rest = None;
     for index in 0..32 {
-        match retain(alloc, &children[index], left - 1, wants, gone)? {
-            Some(new) => rest = Some(changed(rest, children, index, new)?),
+        match retain_at(alloc, branch, index, left, wants, gone)? {
+            Some(new) => rest = Some(changed(rest, branch, index, new)?),
             None => {}
         }
     }
@@ -194,7 +224,8 @@ pub fn retain<K: Place + Drop, V: Drop, W: Wants<K, V>>(
             *gone += 1;
             Ok(Some(Node::Empty))
         }
-        Node::Branch(children) => retain_below(alloc, &children.value, left, wants, gone),
+        Node::Few(_) => retain_below(alloc, node, left, wants, gone),
+        Node::Branch(_) => retain_below(alloc, node, left, wants, gone),
         Node::List(pairs) => retain_listed(alloc, pairs, wants, gone),
     }
 }

@@ -150,22 +150,30 @@ fn is_shared(node: &Node<Key, u32>) -> bool {
     match node {
         Node::Empty => false,
         Node::Leaf(pair) => Arc::strong_count(pair) > 1,
+        Node::Few(few) => Arc::strong_count(few) > 1,
         Node::Branch(children) => Arc::strong_count(children) > 1,
         Node::List(pairs) => Arc::strong_count(pairs) > 1,
     }
 }
 
-// How many children of the root other nodes have too.
-fn shared_children(trie: &Numbers<Key>) -> u64 {
+// How many of these nodes others have too.
+fn shared(nodes: &[Node<Key, u32>]) -> u64 {
     let mut same: u64 = 0;
-    if let Node::Branch(children) = trie.root() {
-        for child in children.value.iter() {
-            if is_shared(child) {
-                same = same.saturating_add(1);
-            }
+    for node in nodes {
+        if is_shared(node) {
+            same = same.saturating_add(1);
         }
     }
     same
+}
+
+// How many children of the root other nodes have too.
+fn shared_children(trie: &Numbers<Key>) -> u64 {
+    match trie.root() {
+        Node::Few(few) => shared(&few.children),
+        Node::Branch(children) => shared(&children.value),
+        _ => 0,
+    }
 }
 
 fn kept_again(alloc: Global, trie: &Numbers<Key>, limit: u32) -> Result<Numbers<Key>, KvError> {

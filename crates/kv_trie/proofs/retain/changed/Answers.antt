@@ -1,17 +1,15 @@
-use Rattle.std.proofs.Common.{map, refl, ap, ◌∙◌}
-use Rattle.std.proofs.Math.ListN.{set}
-use Rattle.std.proofs.lemmas.List.{map-set}
+use Rattle.std.proofs.Common.{◌<◌, length, refl, ap, ◌∙◌, arith}
+use Rattle.kv_trie.specs.Form.{with_or_without}
 use Rattle.kv_trie.specs.Stored.{shape_of}
-use Rattle.kv_trie.proofs.Clones.{alike}
+use Rattle.kv_trie.proofs.Branches.{slots_with}
 use Rattle.kv_trie.proofs.retain.changed.Goals as goal
 use Rattle.kv_trie.proofs.retain.changed.Goals.{in-Some, in-None+in_ok-new-in-None}
 
 pub returns : goal.returns
 returns g c =
-    let there = map-set shape_of c.match-rest.new c.args.index c.args.child in
+    let within : c.args.index < length c.match-rest.new = omega (arith, c.requires.index) in
+    let there = slots_with c.args.index c.match-rest.new within c.args.child in
     elim c.match-rest.branch [
       | in-Some w ↦ there ∙ rw (w.in-Some.is, w.new-is) refl
-      | in-None+in_ok-new-in-None w ↦
-          let same = alike shape_of c.args.children.now w.in_ok-new-in-None.new w.in_ok-new-in-None.ensures.cases.whole in
-          there ∙ rw w.in-None.is (ap (λ n. set (map shape_of n) c.args.index (shape_of c.args.child)) w.new-is ∙ ap (λ cs. set cs c.args.index (shape_of c.args.child)) same)
+      | in-None+in_ok-new-in-None w ↦ there ∙ rw w.in-None.is (rw w.new-is (ap (with_or_without c.args.index (shape_of c.args.child)) w.in_ok-new-in-None.ensures))
     ]
