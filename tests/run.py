@@ -22,6 +22,7 @@ PARTS = {
     "streams": ["tests.test_streams"],
     "compactions": ["tests.test_compactions"],
     "races": ["tests.test_races"],
+    "journal": ["tests.test_journal"],
     "scripts": ["tests.test_scripts"],
     "refusals": ["tests.memory.test_refusals"],
     "library": ["tests.c.test_library", "tests.c.test_shared", "tests.python.test_vilgoued", "tests.python.test_following",

@@ -143,9 +143,7 @@ impl<N: LiveName> Feed<N> {
         ensures refused { IfErr result
             (λ e. IsStopped N.opening.config.history self.old self.new e × IsNotRefreshed self.old self.new) }
     {
-        let publication = self
-            .reader
-            .publication_ahead(&self.current, &self.watch)?;
+        let publication = self.reader.publication_ahead(&self.current, &self.watch)?;
         let left = mem::replace(&mut self.current, publication);
         Ok(left.into_version())
     }

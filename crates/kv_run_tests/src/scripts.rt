@@ -25,7 +25,7 @@ fn named(alloc: Global) -> Result<Config, KvError> {
 }
 
 // Room for any text of these tests, so that writing takes no memory.
-fn paper(alloc: Global) -> Result<Vec<u8>, AllocError> {
+fn sheet(alloc: Global) -> Result<Vec<u8>, AllocError> {
     again(|| Vec::with_capacity(alloc, 16_384))
 }
 

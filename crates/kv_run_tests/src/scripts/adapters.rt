@@ -32,7 +32,7 @@ fn a_reader_counts_its_calls_and_failures(rt: HostRuntime) -> Result<(), Fail> {
 #[test]
 fn a_writer_counts_its_failures(rt: HostRuntime) -> Result<(), Fail> {
     let mut narrow = Narrow {
-        bytes: paper(rt.alloc())?,
+        bytes: sheet(rt.alloc())?,
         most: 2,
         calls_left: 2,
     };
@@ -50,7 +50,7 @@ fn a_writer_counts_its_failures(rt: HostRuntime) -> Result<(), Fail> {
 #[test]
 fn a_writer_that_takes_nothing_fails(rt: HostRuntime) -> Result<(), Fail> {
     let mut narrow = Narrow {
-        bytes: paper(rt.alloc())?,
+        bytes: sheet(rt.alloc())?,
         most: 0,
         calls_left: usize::MAX,
     };

@@ -78,7 +78,7 @@ fn replayed_once(alloc: Global, config: &Config, given: Given<'_>) -> Result<Ran
         fails_at: given.read_fails_at,
     };
     let mut writer = Narrow {
-        bytes: paper(alloc)?,
+        bytes: sheet(alloc)?,
         most: given.write_most,
         calls_left: given.write_calls,
     };

@@ -47,7 +47,7 @@ fn script(alloc: Global, begin: &[u8], count: usize, end: &[u8]) -> Result<Vec<u
 // Runs a script to its end, and tells whether this text was written.
 fn gives_once(alloc: Global, config: &Config, script: &[u8], text: &[u8]) -> Result<bool, KvError> {
     let mut reader = script;
-    let mut written = paper(alloc)?;
+    let mut written = sheet(alloc)?;
     match replay(
         alloc,
         &mut CountedReader::new(&mut reader),

@@ -67,7 +67,7 @@ fn gives_once(
     text: &[u8],
 ) -> Result<bool, KvError> {
     let mut reader = script;
-    let mut written = paper(alloc)?;
+    let mut written = sheet(alloc)?;
     let mut source = CountedReader::new(&mut reader);
     let mut sink = CountedWriter::new(&mut written);
     match run(alloc, by, &mut source, &mut sink, config) {

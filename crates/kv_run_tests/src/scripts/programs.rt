@@ -32,8 +32,8 @@ fn run_once<T: Threads + Wait + Sync>(
     script: &[u8],
 ) -> Result<Done, AllocError> {
     let mut reader = script;
-    let mut written = paper(alloc)?;
-    let mut faults = paper(alloc)?;
+    let mut written = sheet(alloc)?;
+    let mut faults = sheet(alloc)?;
     let status = program(
         rt,
         alloc,

@@ -1,0 +1,16 @@
+//! Tests of journal files: their checksum by published vectors, their frames, their entries, and the version that a file
+//! stands for. The sample file was made by a program in another language, from the page on the format alone.
+//!
+//! A test is made once more where it could not end: one of its requests for memory may be refused, and no second one.
+#![tactic(auto)]
+
+#[cfg(test)]
+mod entries;
+#[cfg(test)]
+mod equal;
+#[cfg(test)]
+mod files;
+#[cfg(test)]
+mod frames;
+#[cfg(test)]
+mod sample;

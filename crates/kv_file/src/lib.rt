@@ -1,0 +1,10 @@
+//! Files that only grow: what is asked of one, one in memory that can fail, and what adds to one and brings it onto the disk.
+#![tactic(auto)]
+
+mod appender;
+mod file;
+mod memory;
+
+pub use appender::{Appender, Sync};
+pub use file::{FileFault, JournalFile, ReadFault};
+pub use memory::{MemoryFile, Torn};

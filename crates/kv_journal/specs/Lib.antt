@@ -1,0 +1,7 @@
+pub mod Records
+pub mod Entries
+pub mod Says
+pub mod Replays
+pub mod Damage
+pub mod Beginning
+pub mod inside

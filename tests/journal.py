@@ -1,0 +1,68 @@
+"""Reads a journal file by the words of docs/journal.md alone."""
+import collections, struct
+
+MAGIC = b"vilgoued\x01"
+SEARCH, LONGEST = 2_097_152, 1_048_845
+Journal = collections.namedtuple("Journal", "seed bucket history value_limit write_limit revision_limit entries end damaged")
+
+
+class NoJournal(Exception):
+    """The bytes do not begin as a journal does."""
+
+
+def crc32c(data):
+    """CRC-32C (Castagnoli) of bytes, bit by bit."""
+    crc = 0xFFFFFFFF
+    for byte in data:
+        crc ^= byte
+        for _ in range(8):
+            crc = crc >> 1 ^ 0x82F63B78 if crc & 1 else crc >> 1
+    return crc ^ 0xFFFFFFFF
+
+
+def frame_at(data, seed, at, until=None):
+    """The payload of the whole frame that begins at this place, or None."""
+    data = data[:until]
+    if len(data) < at + 8:
+        return None
+    length, checksum = struct.unpack_from(">II", data, at)
+    payload = data[at + 8:at + 8 + length]
+    whole = length and len(payload) == length and crc32c(struct.pack(">QQ", seed, at) + payload) == checksum
+    return payload if whole else None
+
+
+def entry(payload):
+    """What an entry tells: the number of loose bytes before it, its kind, and what follows from that."""
+    loose, kind = struct.unpack_from(">IB", payload)
+    rest = payload[5:]
+    if kind in (1, 2, 3):
+        key, value = rest[1:1 + rest[0]], rest[1 + rest[0]:]
+        return loose, {1: "put", 2: "delete", 3: "purge"}[kind], key.decode("ascii"), value
+    if kind == 4:
+        return loose, "seal"
+    return loose, {5: "compact", 9: "closed"}[kind], struct.unpack(">Q", rest)[0]
+
+
+def shows_damage(data, seed, bad):
+    """Whether a whole frame behind the bad place says that this place was on the disk."""
+    for at in range(bad + 1, min(len(data), bad + SEARCH)):
+        payload = frame_at(data, seed, at, at + LONGEST)
+        if payload and len(payload) >= 4 and struct.unpack_from(">I", payload)[0] < at - bad:
+            return True
+    return False
+
+
+def read(data):
+    """The journal in these bytes; `end` is where its last whole frame ends."""
+    if len(data) < 17 or not data.startswith(MAGIC):
+        raise NoJournal
+    seed, = struct.unpack_from(">Q", data, 9)
+    first = frame_at(data, seed, 17)
+    if first is None or first[:5] != b"\0\0\0\0\6":
+        raise NoJournal
+    numbers, bucket = struct.unpack_from(">QQQQ", first, 5), first[37:].decode("ascii")
+    at, entries = 17 + 8 + len(first), []
+    while (payload := frame_at(data, seed, at)) is not None:
+        entries.append(entry(payload))
+        at += 8 + len(payload)
+    return Journal(seed, bucket, *numbers, entries, at, shows_damage(data, seed, at))
