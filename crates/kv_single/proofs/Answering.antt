@@ -2,7 +2,6 @@
 use Rattle.std.proofs.Common.{◌≡◌, ℕ, ◌+◌, ◌-◌, ◌<◌, ◌≤◌, nat_lt, Bool, true, false, ◌&&◌, not, cond, List, [], ◌∷◌, ◌++◌, Option, Some, None, Result, Ok, Err, OnErr, filter, length, refl, sym, ap, ◌∙◌, subst, arith, length-append}
 use Rattle.std.specs.Prelude.{slice_set}
 use Rattle.std.specs.List.{slice_get, position, position_or_len}
-use Rattle.std.specs.Option.{option_len, option_map}
 use Rattle.std.proofs.lemmas.Bool.{eqb-true, le-ltb, lt-ltb}
 use Rattle.kv_keys.specs.declared.error.KvError.TheVariants.{NoSuchWatch}
 use Rattle.kv_model.specs.Acceptance.{accept}
@@ -12,14 +11,11 @@ use Rattle.kv_model.specs.Requests.{Asked}
 use Rattle.kv_store.specs.Standing.{StandsFor}
 use Rattle.kv_model.proofs.Numbered.{accepted_is_next, writes_of-wrote}
 use Rattle.kv_store.specs.Stored.{Stored}
-use Rattle.kv_model.specs.declared.event.Event.{Event}
 use Rattle.kv_model.specs.declared.options.Options.{Options}
 use Rattle.kv_watch.specs.Watching.{Watching, HasHanded, MovesOn, item_behind}
-use Rattle.kv_model.specs.Given.{Item, AnEntry, EndMarker}
-use Rattle.kv_model.specs.further.Events.{event_of}
+use Rattle.kv_model.specs.Given.{Item}
 use Rattle.kv_model.specs.declared.call.Call.TheVariants as ask
 use Rattle.kv_model.specs.Answers.{Revision, Watching as Opened, Ended, Refused, answer_item}
-use Rattle.kv_model.specs.further.Events.{event_answered}
 use Rattle.kv_single.specs.Held.{Holding, Bucketed, Follows, Represents, has_number, held_at}
 use Rattle.kv_model.specs.State.{after_handed, State, Watch, watch_at, next_of, open_at, set_watch, opened, open_count, has_room, after_item, after_take, after_stop, after_write, answer_write, answer_take, answer_stop, after, answer_to}
 use Rattle.kv_model.proofs.Finds.{find_at, find_none, find_some}

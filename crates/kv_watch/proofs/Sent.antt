@@ -1,5 +1,4 @@
 -- What may cross threads: a watch. Whoever hands what holds one to another thread cites this.
-use denote.RattleType.{RattleType}
 use denote.Param.Send.{IsSend, sendable}
 use Rattle.std.proofs.Crossing.{crosses}
 use Rattle.kv_store.proofs.Sent.{version_send}

@@ -2,7 +2,7 @@ use Rattle.std.proofs.Common.{◌≡◌, None, List, length, take, refl, subst, 
 use Rattle.kv_model.specs.Acts.{Act, Write}
 use Rattle.kv_store.specs.Stored.{Stored}
 use Rattle.kv_watch.specs.Taking.{item_taken}
-use Rattle.kv_watch.specs.Watching.{HasHanded, item_behind}
+use Rattle.kv_watch.specs.Watching.{HasHanded}
 use Rattle.kv_bucket.specs.inside.Fed.{acts_on, feeding_of}
 use Rattle.kv_bucket.specs.Feeding.{Feeding, given_by, next_of, after_item}
 use Rattle.kv_bucket.specs.Owed.{Owes, HasOnce}

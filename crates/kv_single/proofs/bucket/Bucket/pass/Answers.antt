@@ -1,7 +1,7 @@
-use Rattle.std.proofs.Common.{◌≡◌, Some, None, sym, ap, ◌∙◌, subst}
+use Rattle.std.proofs.Common.{◌≡◌, Some, None, sym, ap, ◌∙◌}
 use Rattle.std.specs.List.{position, slice_get}
 use Rattle.std.proofs.lemmas.Option.{get_or_from_slice_get}
-use Rattle.kv_single.specs.Held.{Holding, Bucketed, Represents, has_number}
+use Rattle.kv_single.specs.Held.{Holding, Bucketed, has_number}
 use Rattle.kv_single.proofs.Answering.{pass_none, moved_on}
 use Rattle.kv_model.proofs.Finds.{found_there}
 use Rattle.kv_single.proofs.bucket.Bucket.pass.Goals as goal

@@ -1,4 +1,4 @@
-use Rattle.std.proofs.Common.{reverse, sym, ap, ◌∙◌, Some}
+use Rattle.std.proofs.Common.{sym, ap, ◌∙◌, Some}
 use Rattle.std.specs.List.{slice_get}
 use Rattle.std.specs.Option.{option_map}
 use Rattle.kv_model.specs.declared.event.Event.TheVariants as events

@@ -1,4 +1,4 @@
-use Rattle.std.proofs.Common.{ℕ, ◌+◌, ◌∙◌, ap, subst, sym}
+use Rattle.std.proofs.Common.{ℕ, ◌+◌, ◌∙◌, ap, subst}
 use Rattle.std.specs.List.{slice_get}
 use Rattle.std.specs.Option.{option_len}
 use Rattle.kv_watch.specs.Following.{InReach, given_to}

@@ -1,5 +1,5 @@
 use Rattle.std.proofs.Common.{◌≡◌, [], reverse, refl, sym, ap, subst, ◌+◌, ◌∙◌, arith}
-use Rattle.kv_watch.specs.Following.{Following, InPlace, InReach}
+use Rattle.kv_watch.specs.Following.{Following, InReach}
 use Rattle.kv_watch.proofs.Owing.{owes_none}
 use Rattle.kv_watch.proofs.Passing.{same_filters, same_options}
 use Rattle.kv_watch.proofs.Placing.{passed_by, looked_by}
