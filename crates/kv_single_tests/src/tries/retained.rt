@@ -157,7 +157,7 @@ fn is_shared(node: &Node<Key, u32>) -> bool {
 }
 
 // How many of these nodes others have too.
-fn shared(nodes: &[Node<Key, u32>]) -> u64 {
+fn count_shared(nodes: &[Node<Key, u32>]) -> u64 {
     let mut same: u64 = 0;
     for node in nodes {
         if is_shared(node) {
@@ -170,8 +170,8 @@ fn shared(nodes: &[Node<Key, u32>]) -> u64 {
 // How many children of the root other nodes have too.
 fn shared_children(trie: &Numbers<Key>) -> u64 {
     match trie.root() {
-        Node::Few(few) => shared(&few.children),
-        Node::Branch(children) => shared(&children.value),
+        Node::Few(few) => count_shared(&few.children),
+        Node::Branch(children) => count_shared(&children.value),
         _ => 0,
     }
 }
