@@ -31,24 +31,9 @@ fn are_pairs(node: &Node<Key, u32>, first: &str, second: &str) -> bool {
     }
 }
 
-fn is_branch(node: &Node<Key, u32>) -> bool {
-    matches!(node, Node::Few(_) | Node::Branch(_))
-}
-
-// The child of a branch at an index, if it has one there.
-fn child_at(node: &Node<Key, u32>, index: usize) -> Option<&Node<Key, u32>> {
-    match node {
-        Node::Few(few) => {
-            for (spot, child) in few.children.iter().enumerate() {
-                if few.indices[spot] as usize == index && !is_empty(child) {
-                    return Some(child);
-                }
-            }
-            None
-        }
-        Node::Branch(children) => children.value.get(index).filter(|child| !is_empty(child)),
-        _ => None,
-    }
+// The bit of an index.
+fn bit_of(index: u8) -> u32 {
+    1u32.checked_shl(u32::from(index)).unwrap_or(0)
 }
 
 // Where the parts of a node end that begin at a place, each node before its children, if the node has these parts.
@@ -56,25 +41,37 @@ fn end_of(node: &Node<Key, u32>, parts: &[Part], at: usize) -> Option<usize> {
     match parts.get(at) {
         Some(Part::Leaf(text)) => is_leaf(node, text).then_some(at + 1),
         Some(Part::Pairs(first, second)) => are_pairs(node, first, second).then_some(at + 1),
-        Some(Part::Branch(map)) => {
-            if !is_branch(node) {
-                return None;
-            }
-            let mut end = at + 1;
-            for index in 0..32 {
-                let wanted = (*map >> index) & 1 == 1;
-                match child_at(node, index) {
-                    Some(child) if wanted => match end_of(child, parts, end) {
-                        Some(after) => end = after,
-                        None => return None,
-                    },
-                    Some(_) => return None,
-                    None if wanted => return None,
-                    None => {}
+        Some(Part::Branch(map)) => match node {
+            Node::Branch(children) => {
+                let mut end = at + 1;
+                for (index, child) in children.value.iter().enumerate() {
+                    if (*map >> index) & 1 == 1 {
+                        match end_of(child, parts, end) {
+                            Some(after) => end = after,
+                            None => return None,
+                        }
+                    } else if !is_empty(child) {
+                        return None;
+                    }
                 }
+                Some(end)
             }
-            Some(end)
-        }
+            Node::Few(few) => {
+                let mut end = at + 1;
+                let mut met = 0;
+                for (spot, child) in few.children.iter().enumerate() {
+                    if !is_empty(child) {
+                        met |= bit_of(few.indices[spot]);
+                        match end_of(child, parts, end) {
+                            Some(after) => end = after,
+                            None => return None,
+                        }
+                    }
+                }
+                (met == *map).then_some(end)
+            }
+            _ => None,
+        },
         None => None,
     }
 }
