@@ -9,8 +9,6 @@ mod examples;
 #[cfg(test)]
 mod races;
 #[cfg(test)]
-mod scenario;
-#[cfg(test)]
 mod threads;
 #[cfg(test)]
 mod waiting;

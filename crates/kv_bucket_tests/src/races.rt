@@ -4,8 +4,7 @@
 use crate::equal::equal;
 use kv_model::{Event, Write};
 use kv_race::{Gate, NoGate, Report, Who, race};
-use kv_single::{Config, Filters, KvError, Options, Reply, Request, Start, Version};
-use kv_test_tools::{LATEST, again, put};
+use kv_single::{Config, Filters, Key, KvError, Options, Reply, Request, Start, Version};
 use kv_watch::given;
 use std::alloc::Global;
 use std::fmt::Debug;
@@ -18,6 +17,50 @@ mod audit;
 mod gates;
 mod refusals;
 mod twenty;
+
+const LATEST: Options = Options {
+    start: Start::Latest,
+    ignore_deletes: false,
+    headers_only: false,
+};
+
+// What is run.
+#[derive(Clone, Copy)]
+enum Row {
+    Meeting,
+    Between,
+    Sleeping,
+    Audit,
+    Twenty,
+}
+
+// Runs a row, and once more where a request for memory ended it.
+fn run<R: Threads + Wait + Abort + Sync>(rt: &R, alloc: Global, row: Row) -> Result<(), KvError> {
+    match run_once(rt, alloc, row) {
+        Err(KvError::OutOfMemory) => run_once(rt, alloc, row),
+        done => done,
+    }
+}
+
+fn run_once<R: Threads + Wait + Abort + Sync>(
+    rt: &R,
+    alloc: Global,
+    row: Row,
+) -> Result<(), KvError> {
+    match row {
+        Row::Meeting => gates::all_meet(rt, alloc),
+        Row::Between => gates::round_between(rt, alloc),
+        Row::Sleeping => gates::sleeps_until_written(rt, alloc),
+        Row::Audit => audit::audit(rt, alloc),
+        Row::Twenty => twenty::twenty(rt, alloc),
+    }
+}
+
+fn put(alloc: Global, key: &str, value: &str) -> Result<Request, KvError> {
+    let key = Key::parse(alloc, key)?;
+    let value = Vec::from_slice(alloc, value.as_bytes())?;
+    Ok(Request::Put { key, value })
+}
 
 // A script that puts a value under each of these keys.
 fn puts(alloc: Global, keys: &[&str]) -> Result<Vec<Request>, KvError> {
@@ -203,33 +246,29 @@ fn all_saw_what_is_given<R: Abort>(
     Ok(())
 }
 
-// Workers that each put a value under each of these keys, and how many writes that makes.
-#[derive(Clone, Copy)]
-struct Workers<'a> {
-    count: usize,
-    keys: &'a [&'a str],
-    writes: u64,
-}
-
-// Runs a race of these workers with a watch of all keys. All writes are accepted.
+// Runs a race of so many scripts, each of which puts a value under each of these keys, with a watch for each of these
+// filters. So many writes are accepted.
 fn race_of<R: Threads + Wait + Abort + Sync, G: Gate>(
     rt: &R,
     alloc: Global,
-    workers: Workers<'_>,
+    (count, keys): (usize, &[&str]),
+    filters: &[&str],
     gate: &G,
+    writes: u64,
 ) -> Result<(), KvError> {
-    let scripts = scripts_of(alloc, workers.count, workers.keys)?;
-    race_over(rt, alloc, &scripts, gate, workers.writes)
+    let scripts = scripts_of(alloc, count, keys)?;
+    race_over(rt, alloc, &scripts, filters, gate, writes)
 }
 
 fn race_over<R: Threads + Wait + Abort + Sync, G: Gate>(
     rt: &R,
     alloc: Global,
     scripts: &[Vec<Request>],
+    filters: &[&str],
     gate: &G,
     writes: u64,
 ) -> Result<(), KvError> {
-    let watches = watches_of(alloc, &[">"])?;
+    let watches = watches_of(alloc, filters)?;
     race_beside(rt, alloc, scripts, &watches, gate, writes)
 }
 

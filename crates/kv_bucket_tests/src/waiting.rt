@@ -2,6 +2,7 @@
 
 mod closing;
 mod following;
+mod opening;
 mod rounds;
 mod sleepers;
 mod waits;

@@ -137,5 +137,8 @@ fn compacted<R: Wait + Abort>(rt: &R, alloc: Global) -> Result<(), KvError> {
 
 #[test]
 fn a_service_that_compacts(rt: HostRuntime) -> Result<(), Fail> {
-    Ok(again(|| compacted(&rt, rt.alloc()))?)
+    match compacted(&rt, rt.alloc()) {
+        Err(KvError::OutOfMemory) => Ok(compacted(&rt, rt.alloc())?),
+        done => Ok(done?),
+    }
 }

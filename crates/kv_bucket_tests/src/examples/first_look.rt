@@ -48,5 +48,8 @@ fn watched(rt: &impl Abort, alloc: Global) -> Result<(), KvError> {
 
 #[test]
 fn a_watch_hands_out_each_change(rt: HostRuntime) -> Result<(), Fail> {
-    Ok(again(|| watched(&rt, rt.alloc()))?)
+    match watched(&rt, rt.alloc()) {
+        Err(KvError::OutOfMemory) => Ok(watched(&rt, rt.alloc())?),
+        done => Ok(done?),
+    }
 }

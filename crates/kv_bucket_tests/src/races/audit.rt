@@ -2,13 +2,6 @@
 
 use super::*;
 
-const WORKERS: usize = 16;
-
-const WATCHES: usize = 32;
-
-// Each of the workers writes to each of the ten keys.
-const WRITES: u64 = 160;
-
 const KEYS: &[&str] = &[
     "a", "b", "a.b", "a.c", "a.b.c", "b.c", "c", "c.a", "c.b.a", "d",
 ];
@@ -54,15 +47,18 @@ fn push_watches(
     Ok(())
 }
 
-// Refutes: race_last_is_empty, which would answer a version without the writes that the watches saw.
+// Refutes race_last_is_empty, which would answer a version without the writes, and the watches saw more than it gives.
 #[test]
 fn every_watch_saw_every_write(rt: HostRuntime) -> Result<(), Fail> {
-    again(|| audit(&rt, rt.alloc()))?;
+    run(&rt, rt.alloc(), Row::Audit)?;
     Ok(())
 }
 
-fn audit<R: Threads + Wait + Abort + Sync>(rt: &R, alloc: Global) -> Result<(), KvError> {
-    let scripts = scripts_of(alloc, WORKERS, KEYS)?;
+pub(super) fn audit<R: Threads + Wait + Abort + Sync>(
+    rt: &R,
+    alloc: Global,
+) -> Result<(), KvError> {
+    let scripts = scripts_of(alloc, 16, KEYS)?;
     audit_over(rt, alloc, &scripts)
 }
 
@@ -72,6 +68,6 @@ fn audit_over<R: Threads + Wait + Abort + Sync>(
     scripts: &[Vec<Request>],
 ) -> Result<(), KvError> {
     let watches = all_watches(alloc)?;
-    equal(rt, watches.len(), WATCHES);
-    race_beside(rt, alloc, scripts, &watches, &NoGate, WRITES)
+    equal(rt, watches.len(), 32);
+    race_beside(rt, alloc, scripts, &watches, &NoGate, 160)
 }

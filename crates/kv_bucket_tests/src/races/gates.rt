@@ -69,22 +69,19 @@ impl Gate for Meeting {
     fn after(&self, _who: Who, _n: u64) {}
 }
 
-// Refutes: race_on_one_thread, which would meet the limit, as its second worker would begin when the first has ended.
+// Refutes race_on_one_thread, which would meet the limit: its second worker would begin when the first has ended.
 #[test]
 fn workers_run_on_their_own_threads(rt: HostRuntime) -> Result<(), Fail> {
-    again(|| all_meet(&rt, rt.alloc()))?;
+    run(&rt, rt.alloc(), Row::Meeting)?;
     Ok(())
 }
 
-const TWO_WORKERS: Workers<'static> = Workers {
-    count: 2,
-    keys: &["a"],
-    writes: 2,
-};
-
-fn all_meet<R: Threads + Wait + Abort + Sync>(rt: &R, alloc: Global) -> Result<(), KvError> {
+pub(super) fn all_meet<R: Threads + Wait + Abort + Sync>(
+    rt: &R,
+    alloc: Global,
+) -> Result<(), KvError> {
     let gate = no_meeting_yet();
-    race_of(rt, alloc, TWO_WORKERS, &gate)?;
+    race_of(rt, alloc, (2, &["a"]), &[">"], &gate, 2)?;
     assert!(rt; !is_raised(&gate.late));
     Ok(())
 }
@@ -125,19 +122,16 @@ impl Gate for Between {
 
 #[test]
 fn a_watcher_looks_between_two_writes(rt: HostRuntime) -> Result<(), Fail> {
-    again(|| round_between(&rt, rt.alloc()))?;
+    run(&rt, rt.alloc(), Row::Between)?;
     Ok(())
 }
 
-const TWO_WRITES: Workers<'static> = Workers {
-    count: 1,
-    keys: &["a", "b"],
-    writes: 2,
-};
-
-fn round_between<R: Threads + Wait + Abort + Sync>(rt: &R, alloc: Global) -> Result<(), KvError> {
+pub(super) fn round_between<R: Threads + Wait + Abort + Sync>(
+    rt: &R,
+    alloc: Global,
+) -> Result<(), KvError> {
     let gate = nothing_between_yet();
-    race_of(rt, alloc, TWO_WRITES, &gate)?;
+    race_of(rt, alloc, (1, &["a", "b"]), &[">"], &gate, 2)?;
     assert!(rt; !is_raised(&gate.late));
     Ok(())
 }
@@ -184,22 +178,16 @@ impl Gate for HeldUp {
 
 #[test]
 fn a_watcher_sleeps_until_the_first_write(rt: HostRuntime) -> Result<(), Fail> {
-    again(|| sleeps_until_written(&rt, rt.alloc()))?;
+    run(&rt, rt.alloc(), Row::Sleeping)?;
     Ok(())
 }
 
-const ONE_WRITE: Workers<'static> = Workers {
-    count: 1,
-    keys: &["a"],
-    writes: 1,
-};
-
-fn sleeps_until_written<R: Threads + Wait + Abort + Sync>(
+pub(super) fn sleeps_until_written<R: Threads + Wait + Abort + Sync>(
     rt: &R,
     alloc: Global,
 ) -> Result<(), KvError> {
     let gate = nobody_writes_yet();
-    race_of(rt, alloc, ONE_WRITE, &gate)?;
+    race_of(rt, alloc, (1, &["a"]), &[">"], &gate, 1)?;
     assert!(rt; !is_raised(&gate.early));
     Ok(())
 }

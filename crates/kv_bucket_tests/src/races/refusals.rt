@@ -14,10 +14,11 @@ fn refused_once<R: Threads + Wait + Sync>(
     rt: &R,
     alloc: Global,
     name: &str,
-    sizes: Sizes,
+    workers: usize,
+    watches: usize,
 ) -> Result<(), KvError> {
-    let scripts = scripts_of(alloc, sizes.workers, &[])?;
-    refused_over(rt, alloc, name, &scripts, sizes.watches)
+    let scripts = scripts_of(alloc, workers, &[])?;
+    refused_over(rt, alloc, name, &scripts, watches)
 }
 
 fn refused_over<R: Threads + Wait + Sync>(
@@ -48,65 +49,32 @@ fn refused<R: Threads + Wait + Sync>(
     rt: &R,
     alloc: Global,
     name: &str,
-    sizes: Sizes,
-) -> Result<(), KvError> {
-    again(|| refused_once(rt, alloc, name, sizes))
-}
-
-// How many workers and how many watches there are. The most are 16 and 32.
-#[derive(Clone, Copy)]
-struct Sizes {
     workers: usize,
     watches: usize,
+) -> Result<(), KvError> {
+    match refused_once(rt, alloc, name, workers, watches) {
+        Err(KvError::OutOfMemory) => refused_once(rt, alloc, name, workers, watches),
+        done => done,
+    }
 }
 
-const SMALLEST: Sizes = Sizes {
-    workers: 1,
-    watches: 0,
-};
-
-const MOST_WORKERS: Sizes = Sizes {
-    workers: 16,
-    watches: 1,
-};
-
-const TOO_MANY_WATCHES: Sizes = Sizes {
-    watches: 33,
-    ..MOST_WORKERS
-};
-
-const NO_WORKER: Sizes = Sizes {
-    workers: 0,
-    watches: 1,
-};
-
-const TOO_MANY_WORKERS: Sizes = Sizes {
-    workers: 17,
-    watches: 1,
-};
-
-const TOO_MANY_OF_BOTH: Sizes = Sizes {
-    workers: 17,
-    watches: 33,
-};
-
-// The bucket's name, the sizes, and the answer.
-const REFUSALS: &[(&str, Sizes, Result<(), KvError>)] = &[
-    ("kv", SMALLEST, Ok(())),
-    ("kv", MOST_WORKERS, Ok(())),
-    ("kv", NO_WORKER, Err(KvError::BadConfig)),
-    ("kv", TOO_MANY_WORKERS, Err(KvError::BadConfig)),
-    ("kv", TOO_MANY_OF_BOTH, Err(KvError::BadConfig)),
-    ("kv", TOO_MANY_WATCHES, Err(KvError::NoReader)),
-    ("my.bucket", TOO_MANY_OF_BOTH, Err(KvError::BadBucket)),
-    ("my.bucket", TOO_MANY_WATCHES, Err(KvError::BadBucket)),
+// The bucket's name, how many workers and watches, and the answer.
+const REFUSALS: &[(&str, usize, usize, Result<(), KvError>)] = &[
+    ("kv", 1, 0, Ok(())),
+    ("kv", 16, 1, Ok(())),
+    ("kv", 0, 1, Err(KvError::BadConfig)),
+    ("kv", 17, 1, Err(KvError::BadConfig)),
+    ("kv", 17, 33, Err(KvError::BadConfig)),
+    ("kv", 16, 33, Err(KvError::NoReader)),
+    ("my.bucket", 0, 33, Err(KvError::BadBucket)),
+    ("my.bucket", 16, 33, Err(KvError::BadBucket)),
 ];
 
 #[test]
 fn a_race_is_refused_in_this_order(rt: HostRuntime) -> Result<(), Fail> {
     let alloc = rt.alloc();
-    for (name, sizes, answer) in REFUSALS {
-        equal(&rt, refused(&rt, alloc, name, *sizes), *answer);
+    for (name, workers, watches, answer) in REFUSALS {
+        equal(&rt, refused(&rt, alloc, name, *workers, *watches), *answer);
     }
     Ok(())
 }

@@ -4,7 +4,7 @@ use super::*;
 
 #[test]
 fn twenty_writes_of_four_workers_come_in_order(rt: HostRuntime) -> Result<(), Fail> {
-    again(|| twenty(&rt, rt.alloc()))?;
+    run(&rt, rt.alloc(), Row::Twenty)?;
     Ok(())
 }
 
@@ -36,7 +36,10 @@ fn twenty_scripts(alloc: Global) -> Result<Vec<Vec<Request>>, KvError> {
     Ok(scripts)
 }
 
-fn twenty<R: Threads + Wait + Abort + Sync>(rt: &R, alloc: Global) -> Result<(), KvError> {
+pub(super) fn twenty<R: Threads + Wait + Abort + Sync>(
+    rt: &R,
+    alloc: Global,
+) -> Result<(), KvError> {
     let scripts = twenty_scripts(alloc)?;
     twenty_watched(rt, alloc, &scripts)
 }

@@ -5,55 +5,33 @@ use kv_bucket::{Cached, Key};
 
 #[test]
 fn a_cached_version_is_refreshed(rt: HostRuntime) -> Result<(), Fail> {
-    play(&rt, rt.alloc(), &Cache)?;
+    run(&rt, rt.alloc(), Row::Cached)?;
     Ok(())
 }
 
 // What is done, and what the cached version is on from the next refresh on.
 const LINES: &[(Call, Answer, Answer)] = &[
-    (Call::Put("a"), Answer::Number(1), ON_FIRST),
-    (Call::Put("a"), Answer::Number(2), ON_SECOND),
-    (
-        Call::Compact(1),
-        Answer::Done,
-        Answer::On {
-            revision: 2,
-            floor: 1,
-        },
-    ),
+    (Call::Put("a"), Answer::Number(1), Answer::On(1, 0)),
+    (Call::Put("a"), Answer::Number(2), Answer::On(2, 0)),
+    (Call::Compact(1), Answer::Done, Answer::On(2, 1)),
     (
         Call::Compact(3),
         Answer::Refused(KvError::BadFloor),
-        Answer::On {
-            revision: 2,
-            floor: 1,
-        },
+        Answer::On(2, 1),
     ),
-    (
-        Call::Seal,
-        Answer::Done,
-        Answer::On {
-            revision: 2,
-            floor: 1,
-        },
-    ),
+    (Call::Seal, Answer::Done, Answer::On(2, 1)),
 ];
 
-struct Cache;
-
-impl Scenario for Cache {
-    fn play<N: LiveName + Send + Sync, R: Threads + Wait + Clock + CpuClock + Abort + Sync>(
-        &self,
-        rt: &R,
-        alloc: Global,
-        live: &Live<N>,
-        readers: &mut Vec<Reader<N>>,
-    ) -> Result<(), KvError> {
-        let mut reader = last(readers)?;
-        refreshed_in_turn(rt, alloc, live, &mut reader)?;
-        equal(rt, last_seen(&mut reader, &key_a(alloc)?)?, 2);
-        Ok(())
-    }
+pub(super) fn refreshed<N: LiveName, R: Wait + Abort>(
+    rt: &R,
+    alloc: Global,
+    live: &Live<N>,
+    readers: &mut Vec<Reader<N>>,
+) -> Result<(), KvError> {
+    let mut reader = last(readers)?;
+    refreshed_in_turn(rt, alloc, live, &mut reader)?;
+    equal(rt, last_seen(&mut reader, &key_a(alloc)?)?, 2);
+    Ok(())
 }
 
 fn refreshed_in_turn<N: LiveName, R: Wait + Abort>(
@@ -63,7 +41,7 @@ fn refreshed_in_turn<N: LiveName, R: Wait + Abort>(
     reader: &mut Reader<N>,
 ) -> Result<(), KvError> {
     let mut cached = reader.cached()?;
-    let mut before = ON_NOTHING;
+    let mut before = Answer::On(0, 0);
     for &(call, answer, after) in LINES {
         calls(rt, alloc, live, &[(call, answer)]);
         stays_until_refreshed(rt, reader, &mut cached, before, after)?;
@@ -89,7 +67,8 @@ fn stays_until_refreshed<N: LiveName, R: Abort>(
 }
 
 fn is_on<N: LiveName>(cached: &Cached<N>) -> Answer {
-    on(cached.version())
+    let version = cached.version();
+    Answer::On(version.revision(), version.floor())
 }
 
 fn key_a(alloc: Global) -> Result<Key, KvError> {

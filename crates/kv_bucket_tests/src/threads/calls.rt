@@ -2,7 +2,7 @@
 //! nothing there: neither its version, nor its watches, nor what each of them is given next.
 
 use super::*;
-use kv_bucket::{Keeper, Request, Stopped};
+use kv_bucket::{Keeper, Key, Request, Stopped};
 
 #[derive(Clone, Copy)]
 pub(super) enum Call {
@@ -25,12 +25,25 @@ pub(super) enum Step {
     Compact(u64),
 }
 
-fn write<N: LiveName, R: Wait>(
+pub(super) fn put_request(alloc: Global, key: &str) -> Result<Request, KvError> {
+    let key = Key::parse(alloc, key)?;
+    let value = Vec::from_slice(alloc, b"1")?;
+    Ok(Request::Put { key, value })
+}
+
+fn delete_request(alloc: Global, key: &str) -> Result<Request, KvError> {
+    let key = Key::parse(alloc, key)?;
+    Ok(Request::Delete { key, last: None })
+}
+
+fn put<N: LiveName, R: Wait>(
     rt: &R,
+    alloc: Global,
     live: &Live<N>,
-    request: Result<Request, KvError>,
+    key: &str,
 ) -> Result<u64, KvError> {
-    live.write(rt, &request?)
+    let request = put_request(alloc, key)?;
+    live.write(rt, &request)
 }
 
 fn keep<N: LiveName, R: Wait>(
@@ -68,8 +81,8 @@ fn step_once<N: LiveName, R: Wait + Abort>(
     step: Step,
 ) -> Answer {
     match step {
-        Step::Put(key) => number(keep(rt, keeper, put(alloc, key, "1"))),
-        Step::Delete(key) => number(keep(rt, keeper, delete(alloc, key, None))),
+        Step::Put(key) => number(keep(rt, keeper, put_request(alloc, key))),
+        Step::Delete(key) => number(keep(rt, keeper, delete_request(alloc, key))),
         Step::Seal => done(keeper.seal(rt)),
         Step::Watch => number(watch(alloc, keeper)),
         Step::Take(number) => take(rt, keeper, number),
@@ -85,7 +98,7 @@ fn call_once<N: LiveName, R: Wait + Abort>(
     call: Call,
 ) -> Answer {
     match call {
-        Call::Put(key) => number(write(rt, live, put(alloc, key, "1"))),
+        Call::Put(key) => number(put(rt, alloc, live, key)),
         Call::Seal => done(live.seal(rt)),
         Call::Compact(floor) => done(live.compact(rt, floor)),
         Call::Guarded(step) => guarded_once(rt, alloc, live, step),
@@ -120,10 +133,10 @@ fn step_made<N: LiveName, R: Wait + Abort>(
     keeper: &mut Keeper<N>,
     step: Step,
 ) -> Answer {
-    let before = look_through(keeper);
-    again_on(
+    made(
+        rt,
         keeper,
-        |keeper| tells_as_before(rt, keeper, &before),
+        |keeper| look_through(keeper),
         |keeper| step_once(rt, alloc, keeper, step),
     )
 }
@@ -145,11 +158,11 @@ fn call_made<N: LiveName, R: Wait + Abort>(
     live: &Live<N>,
     call: Call,
 ) -> Answer {
-    let before = look(rt, live);
     let mut live = live;
-    again_on(
+    made(
+        rt,
         &mut live,
-        |live| has_changed_nothing(rt, *live, &before),
+        |live| look(rt, *live),
         |live| call_once(rt, alloc, *live, call),
     )
 }

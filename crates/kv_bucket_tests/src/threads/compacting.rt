@@ -7,24 +7,19 @@ const LAGGED: Answer = Answer::Refused(KvError::Lagged { floor: 2 });
 
 #[test]
 fn a_feed_that_lags_begins_anew(rt: HostRuntime) -> Result<(), Fail> {
-    play(&rt, rt.alloc(), &TwoFeeds)?;
+    run(&rt, rt.alloc(), Row::TwoFeeds)?;
     Ok(())
 }
 
-struct TwoFeeds;
-
-impl Scenario for TwoFeeds {
-    fn play<N: LiveName + Send + Sync, R: Threads + Wait + Clock + CpuClock + Abort + Sync>(
-        &self,
-        rt: &R,
-        alloc: Global,
-        live: &Live<N>,
-        readers: &mut Vec<Reader<N>>,
-    ) -> Result<(), KvError> {
-        calls(rt, alloc, live, ONE_PUT);
-        let mut other = feed_of_last(alloc, readers)?;
-        beside_another(rt, alloc, live, readers, &mut other)
-    }
+pub(super) fn two_feeds<N: LiveName, R: Wait + Abort>(
+    rt: &R,
+    alloc: Global,
+    live: &Live<N>,
+    readers: &mut Vec<Reader<N>>,
+) -> Result<(), KvError> {
+    calls(rt, alloc, live, ONE_PUT);
+    let mut other = feed_of_last(alloc, readers)?;
+    beside_another(rt, alloc, live, readers, &mut other)
 }
 
 fn beside_another<N: LiveName, R: Wait + Abort>(
@@ -88,45 +83,27 @@ const STAYS_BEHIND: &[(Move, Answer)] = &[
     (Move::Take, Answer::Marker),
     (Move::Take, Answer::Empty),
     (Move::Refresh, LAGGED),
-    (Move::Version, ON_FIRST),
+    (Move::Version, Answer::On(1, 0)),
 ];
 
 const BEGINS_ANEW: &[(Move, Answer)] = &[
     (Move::Take, Answer::Entry(3)),
     (Move::Take, Answer::Marker),
     (Move::Take, Answer::Empty),
-    (
-        Move::Version,
-        Answer::On {
-            revision: 3,
-            floor: 2,
-        },
-    ),
+    (Move::Version, Answer::On(3, 2)),
 ];
 
 // This feed owes an entry at the floor, and goes on once that is handed out.
 const GOES_ON: &[(Move, Answer)] = &[
     (Move::Refresh, LAGGED),
-    (
-        Move::Version,
-        Answer::On {
-            revision: 3,
-            floor: 0,
-        },
-    ),
+    (Move::Version, Answer::On(3, 0)),
     (Move::Take, Answer::Entry(1)),
     (Move::Take, Answer::Marker),
     (Move::Take, Answer::Entry(2)),
     (Move::Refresh, Answer::Done),
     (Move::Take, Answer::Entry(3)),
     (Move::Take, Answer::Empty),
-    (
-        Move::Version,
-        Answer::On {
-            revision: 3,
-            floor: 2,
-        },
-    ),
+    (Move::Version, Answer::On(3, 2)),
 ];
 
 fn stays_behind<N: LiveName, R: Abort>(rt: &R, feed: Feed<N>) -> Reader<N> {
@@ -147,7 +124,7 @@ fn begins_anew<N: LiveName, R: Abort>(
 
 #[test]
 fn a_watch_under_the_lock_refuses_a_compaction(rt: HostRuntime) -> Result<(), Fail> {
-    play(&rt, rt.alloc(), &HeldWatch)?;
+    run(&rt, rt.alloc(), Row::HeldWatch)?;
     Ok(())
 }
 
@@ -169,20 +146,15 @@ const AROUND_A_WATCH: &[(Call, Answer)] = &[
     (Call::Compact(1), Answer::Refused(KvError::BadFloor)),
 ];
 
-struct HeldWatch;
-
-impl Scenario for HeldWatch {
-    fn play<N: LiveName + Send + Sync, R: Threads + Wait + Clock + CpuClock + Abort + Sync>(
-        &self,
-        rt: &R,
-        alloc: Global,
-        live: &Live<N>,
-        readers: &mut Vec<Reader<N>>,
-    ) -> Result<(), KvError> {
-        calls(rt, alloc, live, AROUND_A_WATCH);
-        let mut reader = last(readers)?;
-        reads_from_the_floor(rt, &mut reader)
-    }
+pub(super) fn held_watch<N: LiveName, R: Wait + Abort>(
+    rt: &R,
+    alloc: Global,
+    live: &Live<N>,
+    readers: &mut Vec<Reader<N>>,
+) -> Result<(), KvError> {
+    calls(rt, alloc, live, AROUND_A_WATCH);
+    let mut reader = last(readers)?;
+    reads_from_the_floor(rt, &mut reader)
 }
 
 fn reads_from_the_floor<N: LiveName, R: Abort>(

@@ -5,7 +5,7 @@ use kv_bucket::Keeper;
 
 #[test]
 fn a_feed_goes_on_to_what_a_second_thread_wrote(rt: HostRuntime) -> Result<(), Fail> {
-    play(&rt, rt.alloc(), &SecondWriter)?;
+    run(&rt, rt.alloc(), Row::SecondWriter)?;
     Ok(())
 }
 
@@ -38,31 +38,19 @@ const SEALED: &[(Call, Answer)] = &[
     (Call::Put("e"), Answer::Refused(KvError::Sealed)),
 ];
 
-struct SecondWriter;
-
-impl Scenario for SecondWriter {
-    fn play<N: LiveName + Send + Sync, R: Threads + Wait + Clock + CpuClock + Abort + Sync>(
-        &self,
-        rt: &R,
-        alloc: Global,
-        live: &Live<N>,
-        readers: &mut Vec<Reader<N>>,
-    ) -> Result<(), KvError> {
-        calls(rt, alloc, live, THREE_KEYS);
-        let reader = last(readers)?;
-        let feed = opened_beside_the_guard(rt, alloc, live, reader)?;
-        let mut reader = stopped_behind_a_writer(rt, alloc, live, feed);
-        reads(
-            rt,
-            &mut reader,
-            Answer::On {
-                revision: 4,
-                floor: 0,
-            },
-        );
-        calls(rt, alloc, live, SEALED);
-        Ok(())
-    }
+pub(super) fn behind_a_second_writer<N: LiveName + Send + Sync, R: Threads + Wait + Abort + Sync>(
+    rt: &R,
+    alloc: Global,
+    live: &Live<N>,
+    readers: &mut Vec<Reader<N>>,
+) -> Result<(), KvError> {
+    calls(rt, alloc, live, THREE_KEYS);
+    let reader = last(readers)?;
+    let feed = opened_beside_the_guard(rt, alloc, live, reader)?;
+    let mut reader = stopped_behind_a_writer(rt, alloc, live, feed);
+    reads(rt, &mut reader, Answer::On(4, 0));
+    calls(rt, alloc, live, SEALED);
+    Ok(())
 }
 
 // This thread has the guard while another opens a feed, and takes all that it is given.
@@ -109,10 +97,10 @@ fn write_beside<N: LiveName + Send + Sync, R: Threads + Wait + Abort + Sync>(
     join(rt, || calls(rt, alloc, live, FOURTH_PUT), || ());
 }
 
-// Refutes: feed_takes_the_lock, which would wait here for ever, as the guard is given back only after the feed is done.
+// Refutes feed_takes_the_lock, which would wait here for ever: the guard is given back only after the feed is done.
 #[test]
 fn a_feed_needs_no_lock(rt: HostRuntime) -> Result<(), Fail> {
-    play(&rt, rt.alloc(), &BesideAGuard)?;
+    run(&rt, rt.alloc(), Row::BesideAGuard)?;
     Ok(())
 }
 
@@ -131,28 +119,16 @@ const ITEMS: &[(Move, Answer)] = &[
 ];
 
 // A feed that is dropped takes its reader with it, and nobody waits for either.
-struct BesideAGuard;
-
-impl Scenario for BesideAGuard {
-    fn play<N: LiveName + Send + Sync, R: Threads + Wait + Clock + CpuClock + Abort + Sync>(
-        &self,
-        rt: &R,
-        alloc: Global,
-        live: &Live<N>,
-        readers: &mut Vec<Reader<N>>,
-    ) -> Result<(), KvError> {
-        calls(rt, alloc, live, THREE_WRITES);
-        drop(followed(rt, alloc, live, readers)?);
-        calls(rt, alloc, live, &[(Call::Put("d"), Answer::Number(5))]);
-        last_reads(
-            rt,
-            readers,
-            Answer::On {
-                revision: 5,
-                floor: 0,
-            },
-        )
-    }
+pub(super) fn beside_a_guard<N: LiveName + Send + Sync, R: Threads + Wait + Abort + Sync>(
+    rt: &R,
+    alloc: Global,
+    live: &Live<N>,
+    readers: &mut Vec<Reader<N>>,
+) -> Result<(), KvError> {
+    calls(rt, alloc, live, THREE_WRITES);
+    drop(followed(rt, alloc, live, readers)?);
+    calls(rt, alloc, live, &[(Call::Put("d"), Answer::Number(5))]);
+    last_reads(rt, readers, Answer::On(5, 0))
 }
 
 fn followed<N: LiveName + Send + Sync, R: Threads + Wait + Abort + Sync>(
@@ -220,24 +196,19 @@ fn is_at<N: LiveName, R: Abort>(rt: &R, keeper: &Keeper<N>, revision: u64) {
 
 #[test]
 fn a_feed_stops_in_each_phase(rt: HostRuntime) -> Result<(), Fail> {
-    play(&rt, rt.alloc(), &EachPhase)?;
+    run(&rt, rt.alloc(), Row::EachPhase)?;
     Ok(())
 }
 
-struct EachPhase;
-
-impl Scenario for EachPhase {
-    fn play<N: LiveName + Send + Sync, R: Threads + Wait + Clock + CpuClock + Abort + Sync>(
-        &self,
-        rt: &R,
-        alloc: Global,
-        live: &Live<N>,
-        readers: &mut Vec<Reader<N>>,
-    ) -> Result<(), KvError> {
-        calls(rt, alloc, live, THREE_WRITES);
-        let reader = last(readers)?;
-        stopped_in_each_phase(rt, alloc, reader)
-    }
+pub(super) fn in_each_phase<N: LiveName, R: Wait + Abort>(
+    rt: &R,
+    alloc: Global,
+    live: &Live<N>,
+    readers: &mut Vec<Reader<N>>,
+) -> Result<(), KvError> {
+    calls(rt, alloc, live, THREE_WRITES);
+    let reader = last(readers)?;
+    stopped_in_each_phase(rt, alloc, reader)
 }
 
 fn stopped_in_each_phase<N: LiveName, R: Abort>(

@@ -1,23 +1,23 @@
-//! Calls on the lock. What is done on a guard has a guard of its own for each line.
+//! Rows on the lock. What is done on a guard has a guard of its own for each line.
 
 use super::*;
 
-// Calls on the live bucket, each with its answer.
 #[derive(Clone, Copy)]
-struct Calls {
-    lines: &'static [(Call, Answer)],
+pub(super) enum Row {
+    InitialOfItsMoment,
+    InitialThroughWrite,
+    WatchNumbers,
+    WriteLimitAndSeal,
 }
 
-impl Scenario for Calls {
-    fn play<N: LiveName + Send + Sync, R: Threads + Wait + Clock + CpuClock + Abort + Sync>(
-        &self,
-        rt: &R,
-        alloc: Global,
-        live: &Live<N>,
-        _readers: &mut Vec<Reader<N>>,
-    ) -> Result<(), KvError> {
-        calls(rt, alloc, live, self.lines);
-        Ok(())
+impl Row {
+    pub(super) fn lines(self) -> &'static [(Call, Answer)] {
+        match self {
+            Row::InitialOfItsMoment => INITIAL_OF_ITS_MOMENT,
+            Row::InitialThroughWrite => INITIAL_THROUGH_WRITE,
+            Row::WatchNumbers => WATCH_NUMBERS,
+            Row::WriteLimitAndSeal => WRITE_LIMIT_AND_SEAL,
+        }
     }
 }
 
@@ -35,11 +35,10 @@ const INITIAL_OF_ITS_MOMENT: &[(Call, Answer)] = &[
     (Call::Guarded(Step::Take(1)), Answer::Empty),
 ];
 
-// Refutes: lock_resets_watches, which would lose a watch between two guards.
+// Refutes lock_resets_watches, which would lose a watch between two guards.
 #[test]
 fn a_watch_survives_the_guard(rt: HostRuntime) -> Result<(), Fail> {
-    let lines = INITIAL_OF_ITS_MOMENT;
-    play(&rt, rt.alloc(), &Calls { lines })?;
+    run(&rt, rt.alloc(), super::Row::Calls(Row::InitialOfItsMoment))?;
     Ok(())
 }
 
@@ -55,11 +54,10 @@ const INITIAL_THROUGH_WRITE: &[(Call, Answer)] = &[
     (Call::Guarded(Step::Take(1)), Answer::Empty),
 ];
 
-// Refutes: live_write_writes_nothing, which would answer a number without a write.
+// Refutes live_write_writes_nothing, which would answer a number without a write.
 #[test]
 fn a_live_write_is_stored(rt: HostRuntime) -> Result<(), Fail> {
-    let lines = INITIAL_THROUGH_WRITE;
-    play(&rt, rt.alloc(), &Calls { lines })?;
+    run(&rt, rt.alloc(), super::Row::Calls(Row::InitialThroughWrite))?;
     Ok(())
 }
 
@@ -76,34 +74,14 @@ const WATCH_NUMBERS: &[(Call, Answer)] = &[
 
 #[test]
 fn a_number_is_given_to_one_watch(rt: HostRuntime) -> Result<(), Fail> {
-    let lines = WATCH_NUMBERS;
-    play(&rt, rt.alloc(), &Calls { lines })?;
+    run(&rt, rt.alloc(), super::Row::Calls(Row::WatchNumbers))?;
     Ok(())
 }
 
 #[test]
 fn the_sixty_fifth_watch_is_refused_until_one_is_stopped(rt: HostRuntime) -> Result<(), Fail> {
-    play(&rt, rt.alloc(), &SixtyFourWatches)?;
+    run(&rt, rt.alloc(), super::Row::SixtyFourWatches)?;
     Ok(())
-}
-
-struct SixtyFourWatches;
-
-impl Scenario for SixtyFourWatches {
-    fn play<N: LiveName + Send + Sync, R: Threads + Wait + Clock + CpuClock + Abort + Sync>(
-        &self,
-        rt: &R,
-        alloc: Global,
-        live: &Live<N>,
-        _readers: &mut Vec<Reader<N>>,
-    ) -> Result<(), KvError> {
-        for before in 0..64 {
-            let line = (Call::Guarded(Step::Watch), Answer::Number(before + 1));
-            calls(rt, alloc, live, &[line]);
-        }
-        calls(rt, alloc, live, BEYOND);
-        Ok(())
-    }
 }
 
 // A stopped watch makes room, and its number is not given again.
@@ -116,25 +94,19 @@ const BEYOND: &[(Call, Answer)] = &[
     (Call::Guarded(Step::Watch), Answer::Number(65)),
 ];
 
-struct TwoWrites;
-
-impl Scenario for TwoWrites {
-    fn write_limit(&self) -> u64 {
-        2
+pub(super) fn sixty_four_watches<N: LiveName, R: Wait + Abort>(
+    rt: &R,
+    alloc: Global,
+    live: &Live<N>,
+) {
+    for before in 0..64 {
+        let line = (Call::Guarded(Step::Watch), Answer::Number(before + 1));
+        calls(rt, alloc, live, &[line]);
     }
-
-    fn play<N: LiveName + Send + Sync, R: Threads + Wait + Clock + CpuClock + Abort + Sync>(
-        &self,
-        rt: &R,
-        alloc: Global,
-        live: &Live<N>,
-        _readers: &mut Vec<Reader<N>>,
-    ) -> Result<(), KvError> {
-        calls(rt, alloc, live, WRITE_LIMIT_AND_SEAL);
-        Ok(())
-    }
+    calls(rt, alloc, live, BEYOND);
 }
 
+// The limit of writes is two.
 const WRITE_LIMIT_AND_SEAL: &[(Call, Answer)] = &[
     (Call::Put("a"), Answer::Number(1)),
     (Call::Put("b"), Answer::Number(2)),
@@ -145,6 +117,6 @@ const WRITE_LIMIT_AND_SEAL: &[(Call, Answer)] = &[
 
 #[test]
 fn a_live_bucket_refuses_writes_where_it_is_full_or_sealed(rt: HostRuntime) -> Result<(), Fail> {
-    play(&rt, rt.alloc(), &TwoWrites)?;
+    run(&rt, rt.alloc(), super::Row::Calls(Row::WriteLimitAndSeal))?;
     Ok(())
 }

@@ -1,6 +1,7 @@
 //! What is done with a feed, line by line. A refresh that is refused leaves its count and its next item.
 
 use super::*;
+use again::Sight;
 
 #[derive(Clone, Copy)]
 pub(super) enum Move {
@@ -39,10 +40,16 @@ fn open_again<N: LiveName>(reader: Reader<N>, filters: &Filters) -> Result<Feed<
 }
 
 // What can be seen of a feed: how many items it handed out, and which is the next one.
-#[derive(Clone, Copy, Debug, PartialEq, Eq)]
+#[derive(Drop)]
 pub(super) struct FeedSight {
     handed: u64,
     next: Answer,
+}
+
+impl Sight for FeedSight {
+    fn is_same(&self, other: &FeedSight) -> bool {
+        self.handed == other.handed && self.next == other.next
+    }
 }
 
 pub(super) fn look_at<N: LiveName>(feed: &Feed<N>) -> FeedSight {
@@ -50,10 +57,6 @@ pub(super) fn look_at<N: LiveName>(feed: &Feed<N>) -> FeedSight {
         handed: feed.handed(),
         next: brief_taken(Ok(feed.peek())),
     }
-}
-
-pub(super) fn looks_as<N: LiveName, R: Abort>(rt: &R, feed: &Feed<N>, before: FeedSight) {
-    equal(rt, look_at(feed), before);
 }
 
 // Takes the item that is next.
@@ -68,15 +71,15 @@ fn move_once<N: LiveName, R: Abort>(rt: &R, feed: &mut Feed<N>, step: Move) -> A
     match step {
         Move::Take => take(rt, feed),
         Move::Refresh => done(feed.refresh()),
-        Move::Version => on_answered(feed.version()),
+        Move::Version => on(feed.version()),
     }
 }
 
 fn move_made<N: LiveName, R: Abort>(rt: &R, feed: &mut Feed<N>, step: Move) -> Answer {
-    let before = look_at(feed);
-    again_on(
+    made(
+        rt,
         feed,
-        |feed| looks_as(rt, feed, before),
+        |feed| look_at(feed),
         |feed| move_once(rt, feed, step),
     )
 }

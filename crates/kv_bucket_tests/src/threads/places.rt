@@ -20,33 +20,28 @@ fn takes_the_place<N: LiveName, R: Wait + Abort>(
     live: &Live<N>,
 ) -> Result<Reader<N>, KvError> {
     let mut reader = slot(rt, live)?;
-    reads(rt, &mut reader, ON_FIRST);
+    reads(rt, &mut reader, Answer::On(1, 0));
     finds_no_place(rt, live);
     Ok(reader)
 }
 
 #[test]
 fn a_dropped_reader_frees_its_place(rt: HostRuntime) -> Result<(), Fail> {
-    play(&rt, rt.alloc(), &FreedPlace)?;
+    run(&rt, rt.alloc(), Row::FreedPlace)?;
     Ok(())
 }
 
-struct FreedPlace;
-
-impl Scenario for FreedPlace {
-    fn play<N: LiveName + Send + Sync, R: Threads + Wait + Clock + CpuClock + Abort + Sync>(
-        &self,
-        rt: &R,
-        alloc: Global,
-        live: &Live<N>,
-        readers: &mut Vec<Reader<N>>,
-    ) -> Result<(), KvError> {
-        calls(rt, alloc, live, &[(Call::Put("a"), Answer::Number(1))]);
-        finds_no_place(rt, live);
-        drop(last(readers)?);
-        let _third = takes_the_place(rt, live)?;
-        freed_by_a_feed(rt, alloc, live, readers)
-    }
+pub(super) fn freed<N: LiveName, R: Wait + Abort>(
+    rt: &R,
+    alloc: Global,
+    live: &Live<N>,
+    readers: &mut Vec<Reader<N>>,
+) -> Result<(), KvError> {
+    calls(rt, alloc, live, &[(Call::Put("a"), Answer::Number(1))]);
+    finds_no_place(rt, live);
+    drop(last(readers)?);
+    let _third = takes_the_place(rt, live)?;
+    freed_by_a_feed(rt, alloc, live, readers)
 }
 
 // A feed that is dropped frees the place of its reader.
@@ -63,25 +58,20 @@ fn freed_by_a_feed<N: LiveName, R: Wait + Abort>(
 
 #[test]
 fn a_refresh_hands_out_what_it_left(rt: HostRuntime) -> Result<(), Fail> {
-    play(&rt, rt.alloc(), &LeftBehind)?;
+    run(&rt, rt.alloc(), Row::LeftBehind)?;
     Ok(())
 }
 
-struct LeftBehind;
-
-impl Scenario for LeftBehind {
-    fn play<N: LiveName + Send + Sync, R: Threads + Wait + Clock + CpuClock + Abort + Sync>(
-        &self,
-        rt: &R,
-        alloc: Global,
-        live: &Live<N>,
-        readers: &mut Vec<Reader<N>>,
-    ) -> Result<(), KvError> {
-        calls(rt, alloc, live, &[(Call::Put("a"), Answer::Number(1))]);
-        let mut feed = feed_of_last(alloc, readers)?;
-        goes_on_without_it(rt, alloc, live, &mut feed);
-        Ok(())
-    }
+pub(super) fn left_behind<N: LiveName, R: Wait + Abort>(
+    rt: &R,
+    alloc: Global,
+    live: &Live<N>,
+    readers: &mut Vec<Reader<N>>,
+) -> Result<(), KvError> {
+    calls(rt, alloc, live, &[(Call::Put("a"), Answer::Number(1))]);
+    let mut feed = feed_of_last(alloc, readers)?;
+    goes_on_without_it(rt, alloc, live, &mut feed);
+    Ok(())
 }
 
 // The feed hands out the version that it leaves, and goes on to what a write and a compaction made.
@@ -92,23 +82,23 @@ fn goes_on_without_it<N: LiveName, R: Wait + Abort>(
     feed: &mut Feed<N>,
 ) {
     calls(rt, alloc, live, &[(Call::Put("b"), Answer::Number(2))]);
-    equal(rt, left_by(rt, feed), ON_FIRST);
+    equal(rt, left_by(rt, feed), Answer::On(1, 0));
     moves(rt, feed, ON_THE_SECOND);
     calls(rt, alloc, live, &[(Call::Compact(2), Answer::Done)]);
     moves(rt, feed, COMPACTED);
 }
 
 fn left_by<N: LiveName, R: Abort>(rt: &R, feed: &mut Feed<N>) -> Answer {
-    let before = look_at(feed);
-    again_on(
+    made(
+        rt,
         feed,
-        |feed| looks_as(rt, feed, before),
-        |feed| on_answered(feed.refresh_keeping()),
+        |feed| look_at(feed),
+        |feed| on(feed.refresh_keeping()),
     )
 }
 
 const ON_THE_SECOND: &[(Move, Answer)] = &[
-    (Move::Version, ON_SECOND),
+    (Move::Version, Answer::On(2, 0)),
     (Move::Take, Answer::Entry(1)),
     (Move::Take, Answer::Marker),
     (Move::Take, Answer::Entry(2)),
@@ -119,11 +109,5 @@ const ON_THE_SECOND: &[(Move, Answer)] = &[
 const COMPACTED: &[(Move, Answer)] = &[
     (Move::Refresh, Answer::Done),
     (Move::Take, Answer::Empty),
-    (
-        Move::Version,
-        Answer::On {
-            revision: 2,
-            floor: 2,
-        },
-    ),
+    (Move::Version, Answer::On(2, 2)),
 ];

@@ -5,7 +5,7 @@ use kv_bucket::{Keeper, Mark, Receipt};
 
 #[test]
 fn a_guard_tells_who_has_seen_what_is_published(rt: HostRuntime) -> Result<(), Fail> {
-    play(&rt, rt.alloc(), &WhoHasSeen)?;
+    run(&rt, rt.alloc(), Row::WhoHasSeen)?;
     Ok(())
 }
 
@@ -17,84 +17,42 @@ enum Deed {
     Move(Move, Answer),
 }
 
-// Who knows all that is published: a reader, the reader of a feed, and who was told by a receipt.
-#[derive(Clone, Copy, Debug, PartialEq, Eq)]
-struct Known {
-    reader: bool,
-    feed: bool,
-    receipt: bool,
-}
-
-const NOBODY: Known = Known {
-    reader: false,
-    feed: false,
-    receipt: false,
-};
-
-const THE_READER: Known = Known {
-    reader: true,
-    ..NOBODY
-};
-
-const BOTH: Known = Known {
-    feed: true,
-    ..THE_READER
-};
-
-const THE_RECEIPT: Known = Known {
-    receipt: true,
-    ..NOBODY
-};
-
-const ALL: Known = Known {
-    receipt: true,
-    ..BOTH
-};
+// Whether a reader and the reader of a feed have seen all that is published, and whether a receipt tells it.
+type Known = (bool, bool, bool);
 
 // The receipt is that of the first write.
 const LINES: &[(Deed, Known)] = &[
-    (Deed::Move(Move::Take, Answer::Marker), THE_RECEIPT),
+    (Deed::Move(Move::Take, Answer::Marker), (false, false, true)),
+    (Deed::Looks(Answer::On(1, 0)), (true, false, true)),
+    (Deed::Move(Move::Refresh, Answer::Done), (true, true, true)),
     (
-        Deed::Looks(ON_FIRST),
-        Known {
-            receipt: true,
-            ..THE_READER
-        },
+        Deed::Step(Step::Put("b"), Answer::Number(2)),
+        (false, false, false),
     ),
-    (Deed::Move(Move::Refresh, Answer::Done), ALL),
-    (Deed::Step(Step::Put("b"), Answer::Number(2)), NOBODY),
     (
         Deed::Move(Move::Refresh, Answer::Done),
-        Known {
-            feed: true,
-            ..NOBODY
-        },
+        (false, true, false),
     ),
-    (Deed::Looks(ON_SECOND), BOTH),
+    (Deed::Looks(Answer::On(2, 0)), (true, true, false)),
     // A seal is published as a write is.
-    (Deed::Step(Step::Seal, Answer::Done), NOBODY),
-    (Deed::Looks(ON_SECOND), THE_READER),
+    (Deed::Step(Step::Seal, Answer::Done), (false, false, false)),
+    (Deed::Looks(Answer::On(2, 0)), (true, false, false)),
     // What is refused is not published.
     (
         Deed::Step(Step::Put("c"), Answer::Refused(KvError::Sealed)),
-        THE_READER,
+        (true, false, false),
     ),
-    (Deed::Move(Move::Refresh, Answer::Done), BOTH),
+    (Deed::Move(Move::Refresh, Answer::Done), (true, true, false)),
 ];
 
-struct WhoHasSeen;
-
-impl Scenario for WhoHasSeen {
-    fn play<N: LiveName + Send + Sync, R: Threads + Wait + Clock + CpuClock + Abort + Sync>(
-        &self,
-        rt: &R,
-        alloc: Global,
-        live: &Live<N>,
-        readers: &mut Vec<Reader<N>>,
-    ) -> Result<(), KvError> {
-        let mut reader = last(readers)?;
-        seen_beside_a_feed(rt, alloc, live, readers, &mut reader)
-    }
+pub(super) fn who_has_seen<N: LiveName, R: Wait + Abort>(
+    rt: &R,
+    alloc: Global,
+    live: &Live<N>,
+    readers: &mut Vec<Reader<N>>,
+) -> Result<(), KvError> {
+    let mut reader = last(readers)?;
+    seen_beside_a_feed(rt, alloc, live, readers, &mut reader)
 }
 
 fn seen_beside_a_feed<N: LiveName, R: Wait + Abort>(
@@ -134,12 +92,8 @@ fn seen_in_turn<N: LiveName, R: Wait + Abort>(
 ) {
     for &(deed, known) in LINES {
         do_one(rt, alloc, keeper, reader, feed, deed);
-        let found = Known {
-            reader: keeper.is_seen_by(reader),
-            feed: keeper.is_followed_by(feed),
-            receipt: keeper.is_told_by(receipt),
-        };
-        equal(rt, found, known);
+        let seen = (keeper.is_seen_by(reader), keeper.is_followed_by(feed));
+        equal(rt, (seen.0, seen.1, keeper.is_told_by(receipt)), known);
     }
 }
 
@@ -160,7 +114,7 @@ fn do_one<N: LiveName, R: Wait + Abort>(
 
 #[test]
 fn who_learns_a_mark_sees_all_that_was_published(rt: HostRuntime) -> Result<(), Fail> {
-    play(&rt, rt.alloc(), &Marked)?;
+    run(&rt, rt.alloc(), Row::Marked)?;
     Ok(())
 }
 
@@ -171,29 +125,24 @@ const WRITE_AND_SEAL: &[(Call, Answer)] = &[
 
 const MARKED: &[(Move, Answer)] = &[
     (Move::Refresh, Answer::Done),
-    (Move::Version, ON_FIRST),
+    (Move::Version, Answer::On(1, 0)),
     (Move::Take, Answer::Marker),
     (Move::Take, Answer::Entry(1)),
     (Move::Take, Answer::Empty),
 ];
 
-struct Marked;
-
-impl Scenario for Marked {
-    fn play<N: LiveName + Send + Sync, R: Threads + Wait + Clock + CpuClock + Abort + Sync>(
-        &self,
-        rt: &R,
-        alloc: Global,
-        live: &Live<N>,
-        readers: &mut Vec<Reader<N>>,
-    ) -> Result<(), KvError> {
-        let mut feed = feed_of_last(alloc, readers)?;
-        calls(rt, alloc, live, WRITE_AND_SEAL);
-        let mark = live.lock(rt).mark();
-        feed.learn_mark(&mark);
-        moves(rt, &mut feed, MARKED);
-        sees_the_seal(rt, readers, &mark)
-    }
+pub(super) fn marked<N: LiveName, R: Wait + Abort>(
+    rt: &R,
+    alloc: Global,
+    live: &Live<N>,
+    readers: &mut Vec<Reader<N>>,
+) -> Result<(), KvError> {
+    let mut feed = feed_of_last(alloc, readers)?;
+    calls(rt, alloc, live, WRITE_AND_SEAL);
+    let mark = live.lock(rt).mark();
+    feed.learn_mark(&mark);
+    moves(rt, &mut feed, MARKED);
+    sees_the_seal(rt, readers, &mark)
 }
 
 fn sees_the_seal<N: LiveName, R: Abort>(

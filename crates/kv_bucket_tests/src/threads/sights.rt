@@ -1,8 +1,8 @@
 //! What can be seen of a bucket under the lock: its version, how many watches are open, and what each is given next.
 
 use super::*;
-use kv_bucket::Keeper;
-use kv_test_tools::is_same_at;
+use again::Sight;
+use kv_bucket::{Keeper, Write};
 
 // The largest number of a watch in any row.
 const MOST_NUMBERS: usize = 65;
@@ -15,14 +15,16 @@ pub(super) struct BucketSight {
     next: [Answer; MOST_NUMBERS],
 }
 
-fn is_same(sight: &BucketSight, other: &BucketSight) -> bool {
-    match (&sight.version, &other.version) {
-        (Ok(version), Ok(second)) => {
-            is_same_version(version, second)
-                && sight.watches == other.watches
-                && sight.next == other.next
+impl Sight for BucketSight {
+    fn is_same(&self, other: &BucketSight) -> bool {
+        match (&self.version, &other.version) {
+            (Ok(version), Ok(second)) => {
+                is_same_version(version, second)
+                    && self.watches == other.watches
+                    && self.next == other.next
+            }
+            _ => false,
         }
-        _ => false,
     }
 }
 
@@ -47,31 +49,30 @@ pub(super) fn look<N: LiveName, R: Wait>(rt: &R, live: &Live<N>) -> BucketSight 
     look_through(&*live.lock(rt))
 }
 
-pub(super) fn tells_as_before<N: LiveName, R: Abort>(
-    rt: &R,
-    keeper: &Keeper<N>,
-    before: &BucketSight,
-) {
-    equal(rt, is_same(&look_through(keeper), before), true);
-}
-
-pub(super) fn has_changed_nothing<N: LiveName, R: Wait + Abort>(
-    rt: &R,
-    live: &Live<N>,
-    before: &BucketSight,
-) {
-    equal(rt, is_same(&look(rt, live), before), true);
-}
-
 // Whether the numbers, the floor, each write that is stored, and the entries that are kept of its key are the same.
 fn is_same_version(version: &Version, other: &Version) -> bool {
     if version.status() != other.status() || version.floor() != other.floor() {
         return false;
     }
     for before in 0..version.revision() {
-        if !is_same_at(version, other, before + 1) {
+        if !has_same_write(version, other, before + 1) {
             return false;
         }
     }
     true
+}
+
+fn has_same_write(version: &Version, other: &Version, revision: u64) -> bool {
+    match (version.write_at(revision), other.write_at(revision)) {
+        (Some(write), Some(second)) => {
+            is_same_write(write, second)
+                && version.kept_at(write.key()) == other.kept_at(write.key())
+        }
+        (None, None) => true,
+        _ => false,
+    }
+}
+
+fn is_same_write(write: &Write, other: &Write) -> bool {
+    write.key() == other.key() && write.op() == other.op() && write.value() == other.value()
 }

@@ -8,7 +8,8 @@ fn write_told<N: LiveName, R: Wait>(
     alloc: Global,
     live: &Live<N>,
 ) -> Result<(u64, Receipt<N>), KvError> {
-    live.write_told(rt, &put(alloc, "a", "1")?)
+    let request = put_request(alloc, "a")?;
+    live.write_told(rt, &request)
 }
 
 fn told_again<N: LiveName, R: Wait + Abort>(
@@ -16,11 +17,11 @@ fn told_again<N: LiveName, R: Wait + Abort>(
     alloc: Global,
     live: &Live<N>,
 ) -> Result<(u64, Receipt<N>), KvError> {
-    let before = look(rt, live);
     let mut live = live;
-    again_on(
+    made(
+        rt,
         &mut live,
-        |live| has_changed_nothing(rt, *live, &before),
+        |live| look(rt, *live),
         |live| write_told(rt, alloc, *live),
     )
 }
@@ -50,23 +51,18 @@ fn told_write<N: LiveName + Send + Sync, R: Threads + Wait + Abort + Sync>(
 
 #[test]
 fn a_told_write_is_handed_out(rt: HostRuntime) -> Result<(), Fail> {
-    play(&rt, rt.alloc(), &ToldWrite)?;
+    run(&rt, rt.alloc(), Row::ToldWrite)?;
     Ok(())
 }
 
-struct ToldWrite;
-
-impl Scenario for ToldWrite {
-    fn play<N: LiveName + Send + Sync, R: Threads + Wait + Clock + CpuClock + Abort + Sync>(
-        &self,
-        rt: &R,
-        alloc: Global,
-        live: &Live<N>,
-        readers: &mut Vec<Reader<N>>,
-    ) -> Result<(), KvError> {
-        let mut reader = last(readers)?;
-        told_beside(rt, alloc, live, readers, &mut reader)
-    }
+pub(super) fn handed_out<N: LiveName + Send + Sync, R: Threads + Wait + Abort + Sync>(
+    rt: &R,
+    alloc: Global,
+    live: &Live<N>,
+    readers: &mut Vec<Reader<N>>,
+) -> Result<(), KvError> {
+    let mut reader = last(readers)?;
+    told_beside(rt, alloc, live, readers, &mut reader)
 }
 
 fn told_beside<N: LiveName + Send + Sync, R: Threads + Wait + Abort + Sync>(
@@ -114,32 +110,27 @@ fn learns<N: LiveName, R: Abort>(
     revision: u64,
 ) {
     reader.learn(receipt);
-    reads(rt, reader, Answer::On { revision, floor: 0 });
+    reads(rt, reader, Answer::On(revision, 0));
 }
 
 #[test]
 fn a_write_told_on_a_guard_is_seen_by_who_learns_it(rt: HostRuntime) -> Result<(), Fail> {
-    play(&rt, rt.alloc(), &ToldOnAGuard)?;
+    run(&rt, rt.alloc(), Row::ToldOnAGuard)?;
     Ok(())
 }
 
-struct ToldOnAGuard;
-
-impl Scenario for ToldOnAGuard {
-    fn play<N: LiveName + Send + Sync, R: Threads + Wait + Clock + CpuClock + Abort + Sync>(
-        &self,
-        rt: &R,
-        alloc: Global,
-        live: &Live<N>,
-        readers: &mut Vec<Reader<N>>,
-    ) -> Result<(), KvError> {
-        let receipt = told_under_the_lock(rt, alloc, live)?;
-        seen_once_learned(rt, readers, &receipt)?;
-        mark_is_learned(rt, readers, &receipt)?;
-        calls(rt, alloc, live, SEAL);
-        equal(rt, refusal_of_told(rt, alloc, live), Some(KvError::Sealed));
-        Ok(())
-    }
+pub(super) fn on_a_guard<N: LiveName, R: Wait + Abort>(
+    rt: &R,
+    alloc: Global,
+    live: &Live<N>,
+    readers: &mut Vec<Reader<N>>,
+) -> Result<(), KvError> {
+    let receipt = told_under_the_lock(rt, alloc, live)?;
+    seen_once_learned(rt, readers, &receipt)?;
+    mark_is_learned(rt, readers, &receipt)?;
+    calls(rt, alloc, live, SEAL);
+    equal(rt, refusal_of_told(rt, alloc, live), Some(KvError::Sealed));
+    Ok(())
 }
 
 fn seen_once_learned<N: LiveName, R: Abort>(
@@ -162,7 +153,7 @@ fn mark_is_learned<N: LiveName, R: Abort>(
 ) -> Result<(), KvError> {
     let mut reader = last(readers)?;
     reader.learn_mark(receipt.mark());
-    reads(rt, &mut reader, ON_SECOND);
+    reads(rt, &mut reader, Answer::On(2, 0));
     equal(rt, reader.has_seen(receipt), true);
     Ok(())
 }
@@ -211,10 +202,10 @@ fn told_made<N: LiveName, R: Wait + Abort>(
     alloc: Global,
     keeper: &mut Keeper<N>,
 ) -> Result<(u64, Receipt<N>), KvError> {
-    let before = look_through(keeper);
-    again_on(
+    made(
+        rt,
         keeper,
-        |keeper| tells_as_before(rt, keeper, &before),
+        |keeper| look_through(keeper),
         |keeper| told_once(rt, alloc, keeper),
     )
 }
@@ -224,28 +215,24 @@ fn told_once<N: LiveName, R: Wait>(
     alloc: Global,
     keeper: &mut Keeper<N>,
 ) -> Result<(u64, Receipt<N>), KvError> {
-    keeper.write_told(rt, &put(alloc, "a", "1")?)
+    let request = put_request(alloc, "a")?;
+    keeper.write_told(rt, &request)
 }
 
 #[test]
 fn readers_tell_what_the_other_has_seen(rt: HostRuntime) -> Result<(), Fail> {
-    play(&rt, rt.alloc(), &LooksInTurn)?;
+    run(&rt, rt.alloc(), Row::LooksInTurn)?;
     Ok(())
 }
 
-struct LooksInTurn;
-
-impl Scenario for LooksInTurn {
-    fn play<N: LiveName + Send + Sync, R: Threads + Wait + Clock + CpuClock + Abort + Sync>(
-        &self,
-        rt: &R,
-        alloc: Global,
-        live: &Live<N>,
-        readers: &mut Vec<Reader<N>>,
-    ) -> Result<(), KvError> {
-        let mut first = last(readers)?;
-        look_beside(rt, alloc, live, readers, &mut first)
-    }
+pub(super) fn looks_in_turn<N: LiveName, R: Wait + Abort>(
+    rt: &R,
+    alloc: Global,
+    live: &Live<N>,
+    readers: &mut Vec<Reader<N>>,
+) -> Result<(), KvError> {
+    let mut first = last(readers)?;
+    look_beside(rt, alloc, live, readers, &mut first)
 }
 
 fn look_beside<N: LiveName, R: Wait + Abort>(
@@ -285,46 +272,18 @@ fn learns_both<N: LiveName, R: Abort>(
     learns(rt, reader, other, 2);
 }
 
-// Of two readers whether each has seen all that the other has, and whether the first has seen what was told.
-#[derive(Clone, Copy, Debug, PartialEq, Eq)]
-struct Known {
-    first_has_all: bool,
-    second_has_all: bool,
-    told: bool,
-}
-
+// Whether each of two readers has seen all that the other has, and the first what was told.
 fn compare<N: LiveName, R: Abort>(
     rt: &R,
     first: &Reader<N>,
     second: &Reader<N>,
     receipt: &Receipt<N>,
-    known: Known,
+    expected: (bool, bool, bool),
 ) {
-    let found = Known {
-        first_has_all: first.has_seen_all_of(second),
-        second_has_all: second.has_seen_all_of(first),
-        told: first.has_seen(receipt),
-    };
-    equal(rt, found, known);
+    let ahead = first.has_seen_all_of(second);
+    let level = second.has_seen_all_of(first);
+    equal(rt, (ahead, level, first.has_seen(receipt)), expected);
 }
-
-const NOBODY_LOOKED: Known = Known {
-    first_has_all: true,
-    second_has_all: true,
-    told: false,
-};
-
-const FIRST_LOOKED: Known = Known {
-    first_has_all: true,
-    second_has_all: false,
-    told: true,
-};
-
-const BOTH_LOOKED: Known = Known {
-    first_has_all: true,
-    second_has_all: true,
-    told: true,
-};
 
 // A reader has seen a told write once it has entered behind it.
 fn look_in_turn<N: LiveName, R: Abort>(
@@ -333,9 +292,9 @@ fn look_in_turn<N: LiveName, R: Abort>(
     second: &mut Reader<N>,
     receipt: &Receipt<N>,
 ) {
-    compare(rt, first, second, receipt, NOBODY_LOOKED);
-    reads(rt, first, ON_FIRST);
-    compare(rt, first, second, receipt, FIRST_LOOKED);
-    reads(rt, second, ON_FIRST);
-    compare(rt, first, second, receipt, BOTH_LOOKED);
+    compare(rt, first, second, receipt, (true, true, false));
+    reads(rt, first, Answer::On(1, 0));
+    compare(rt, first, second, receipt, (true, false, true));
+    reads(rt, second, Answer::On(1, 0));
+    compare(rt, first, second, receipt, (true, true, true));
 }

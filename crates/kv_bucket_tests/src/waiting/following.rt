@@ -1,17 +1,26 @@
-//! What tests of followers have in common: a write, a watch of its own, and its items to the end.
+//! What tests of followers have in common: a write, a reader, a watch of its own, and its items to the end.
 
-use kv_bucket::{Feed, Filters, KvError, Live, LiveName, Reader, Taken};
-use kv_test_tools::{LATEST, put};
+use kv_bucket::{
+    Feed, Filters, Key, KvError, Live, LiveName, Options, Reader, Request, Start, Taken,
+};
 use std::alloc::Global;
 use std::sync::Wait;
 use std::sync::atomic::{AtomicU64, Ordering};
 
-pub fn write<N: LiveName, R: Wait>(rt: &R, alloc: Global, live: &Live<N>) -> Result<u64, KvError> {
-    live.write(rt, &put(alloc, "app.port", "80")?)
+const LATEST: Options = Options {
+    start: Start::Latest,
+    ignore_deletes: false,
+    headers_only: false,
+};
+
+pub fn put<N: LiveName, R: Wait>(rt: &R, alloc: Global, live: &Live<N>) -> Result<u64, KvError> {
+    let key = Key::parse(alloc, "app.port")?;
+    let value = Vec::from_slice(alloc, b"80")?;
+    live.write(rt, &Request::Put { key, value })
 }
 
 // A reader at a place that is free.
-fn slot<N: LiveName, R: Wait>(rt: &R, live: &Live<N>) -> Result<Reader<N>, KvError> {
+pub fn slot<N: LiveName, R: Wait>(rt: &R, live: &Live<N>) -> Result<Reader<N>, KvError> {
     live.lock(rt).reader()
 }
 

@@ -2,11 +2,10 @@
 //! them.
 
 use crate::equal::equal;
-use crate::scenario::{Scenario, play};
-use crate::waiting::following;
-use crate::waiting::following::{follow_to_the_end, watch_all};
+use crate::waiting::following::{follow_to_the_end, put, watch_all};
+use crate::waiting::opening::{Row, run};
 use crate::waiting::sleepers::pause;
-use kv_bucket::{KvError, Live, LiveName, Reader};
+use kv_bucket::{KvError, Live, LiveName};
 use std::alloc::Global;
 use std::process::Abort;
 use std::rt::Clock;
@@ -49,7 +48,7 @@ fn write_with_pauses<N: LiveName, R: Wait + Clock>(
     count: u64,
 ) -> Result<(), KvError> {
     for n in 0..count {
-        following::write(rt, alloc, live)?;
+        put(rt, alloc, live)?;
         if n % 1000 == 0 {
             thread::sleep(rt, Duration::from_millis(1));
         }
@@ -65,7 +64,7 @@ fn write_in_rounds<N: LiveName, R: Wait>(
     count: u64,
 ) -> Result<(), KvError> {
     for _ in 0..count {
-        let revision = following::write(rt, alloc, live)?;
+        let revision = put(rt, alloc, live)?;
         // the marker, and the writes
         let items = revision.saturating_add(1);
         wait_for(rt, handed, items.saturating_mul(4));
@@ -89,7 +88,7 @@ fn write_once<N: LiveName, R: Wait + Clock + CpuClock + Abort>(
     alloc: Global,
     live: &Live<N>,
 ) -> Result<(), KvError> {
-    following::write(rt, alloc, live)?;
+    put(rt, alloc, live)?;
     thread::sleep(rt, Duration::from_millis(100));
     let before = rt.process_cpu_time().unwrap_or(Duration::ZERO);
     thread::sleep(rt, Duration::from_millis(1000));
@@ -165,41 +164,17 @@ fn write_beside_two<N: LiveName + Send + Sync, R: Threads + Wait + Clock + CpuCl
     written
 }
 
-// Each writer has two followers beside it. Each of these is handed all, and takes a place of its own.
-#[derive(Clone, Copy)]
-struct FourFollowers {
-    plan: Plan,
-    // How much the other writer writes.
-    others: u64,
-    // How many items each of them is handed.
+// Each follower is handed all, and each writer has two of them beside it.
+pub fn follow_four<N: LiveName + Send + Sync, R: Threads + Wait + Clock + CpuClock + Abort + Sync>(
+    rt: &R,
+    alloc: Global,
+    live: &Live<N>,
+    (plan, others): (Plan, u64),
     all: u64,
-}
-
-impl Scenario for FourFollowers {
-    fn readers(&self) -> usize {
-        4
-    }
-
-    fn play<N: LiveName + Send + Sync, R: Threads + Wait + Clock + CpuClock + Abort + Sync>(
-        &self,
-        rt: &R,
-        alloc: Global,
-        live: &Live<N>,
-        readers: &mut Vec<Reader<N>>,
-    ) -> Result<(), KvError> {
-        readers.clear();
-        let handed = AtomicU64::new(0);
-        let ended = AtomicU64::new(0);
-        follow_beside(
-            rt,
-            alloc,
-            live,
-            &handed,
-            &ended,
-            (self.plan, self.others),
-            self.all,
-        )
-    }
+) -> Result<(), KvError> {
+    let handed = AtomicU64::new(0);
+    let ended = AtomicU64::new(0);
+    follow_beside(rt, alloc, live, &handed, &ended, (plan, others), all)
 }
 
 fn follow_beside<N: LiveName + Send + Sync, R: Threads + Wait + Clock + CpuClock + Abort + Sync>(
@@ -222,33 +197,20 @@ fn follow_beside<N: LiveName + Send + Sync, R: Threads + Wait + Clock + CpuClock
 
 #[test]
 fn four_followers_and_two_writers(rt: HostRuntime) -> Result<(), Fail> {
-    let four = FourFollowers {
-        plan: Plan::Pauses(50_000),
-        others: 50_000,
-        all: 100_001,
-    };
-    play(&rt, rt.alloc(), &four)?;
+    let row = Row::Followers(Plan::Pauses(50_000), 50_000, 100_001);
+    run(&rt, rt.alloc(), row)?;
     Ok(())
 }
 
 #[test]
 fn no_wake_up_is_lost(rt: HostRuntime) -> Result<(), Fail> {
-    let four = FourFollowers {
-        plan: Plan::Rounds(10_000),
-        others: 0,
-        all: 10_001,
-    };
-    play(&rt, rt.alloc(), &four)?;
+    let row = Row::Followers(Plan::Rounds(10_000), 0, 10_001);
+    run(&rt, rt.alloc(), row)?;
     Ok(())
 }
 
 #[test]
 fn a_sleeper_takes_no_processor_time(rt: HostRuntime) -> Result<(), Fail> {
-    let four = FourFollowers {
-        plan: Plan::Idle,
-        others: 0,
-        all: 2,
-    };
-    play(&rt, rt.alloc(), &four)?;
+    run(&rt, rt.alloc(), Row::Followers(Plan::Idle, 0, 2))?;
     Ok(())
 }

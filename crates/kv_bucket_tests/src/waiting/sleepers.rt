@@ -4,7 +4,8 @@
 ghost use Rattle.std.specs.Prelude.{◌≡◌};
 
 use crate::equal::equal;
-use crate::scenario::{Scenario, last, play};
+use crate::waiting::following::slot;
+use crate::waiting::opening::{Row, run};
 use crate::waiting::waits::{Act, Step, make, steps_of, take_step};
 use kv_bucket::{Config, KvError, Live, LiveName, Opened, Reader, Woken};
 use std::alloc::Global;
@@ -15,7 +16,7 @@ use std::sync::Wait;
 use std::test::Fail;
 use std::thread;
 use std::thread::{Threads, join};
-use std::time::{CpuClock, Duration};
+use std::time::Duration;
 
 // Long enough for another thread to fall asleep.
 pub fn pause<R: Clock>(rt: &R) {
@@ -24,33 +25,17 @@ pub fn pause<R: Clock>(rt: &R) {
 
 const SEEN: &[Step] = &[Step::Do(Act::Put), Step::Look];
 
-// A reader that has seen all that there is makes a step that waits, beside so many acts of another thread.
-#[derive(Clone, Copy)]
-struct Sleeper {
-    act: Act,
-    times: u64,
+// The reader has seen all that there is before it sleeps.
+pub fn woken_by<N: LiveName + Send + Sync, R: Threads + Wait + Clock + Abort + Sync>(
+    rt: &R,
+    alloc: Global,
+    live: &Live<N>,
+    acts: (Act, u64),
     sleep: Step,
-}
-
-impl Scenario for Sleeper {
-    fn play<N: LiveName + Send + Sync, R: Threads + Wait + Clock + CpuClock + Abort + Sync>(
-        &self,
-        rt: &R,
-        alloc: Global,
-        live: &Live<N>,
-        readers: &mut Vec<Reader<N>>,
-    ) -> Result<(), KvError> {
-        let mut reader = last(readers)?;
-        steps_of(rt, alloc, live, &mut reader, SEEN)?;
-        sleep_beside(
-            rt,
-            alloc,
-            live,
-            &mut reader,
-            (self.act, self.times),
-            self.sleep,
-        )
-    }
+) -> Result<(), KvError> {
+    let mut reader = slot(rt, live)?;
+    steps_of(rt, alloc, live, &mut reader, SEEN)?;
+    sleep_beside(rt, alloc, live, &mut reader, acts, sleep)
 }
 
 fn sleep_beside<N: LiveName + Send + Sync, R: Threads + Wait + Clock + Abort + Sync>(
@@ -94,27 +79,15 @@ const WOKEN: &[(Act, Woken)] = &[
 #[test]
 fn a_sleeper_is_woken_by_each_act(rt: HostRuntime) -> Result<(), Fail> {
     for (act, woken) in WOKEN {
-        let sleeper = Sleeper {
-            act: *act,
-            times: 1,
-            sleep: Step::Wait(*woken),
-        };
-        play(&rt, rt.alloc(), &sleeper)?;
+        run(&rt, rt.alloc(), Row::Sleeper(*act, 1, Step::Wait(*woken)))?;
     }
     Ok(())
 }
 
 #[test]
 fn a_revision_of_another_thread_is_waited_for(rt: HostRuntime) -> Result<(), Fail> {
-    let sleeper = Sleeper {
-        act: Act::Put,
-        times: 3,
-        sleep: Step::For {
-            revision: 4,
-            found: Some(4),
-        },
-    };
-    play(&rt, rt.alloc(), &sleeper)?;
+    let sleep = Step::For(4, Some(4));
+    run(&rt, rt.alloc(), Row::Sleeper(Act::Put, 3, sleep))?;
     Ok(())
 }
 

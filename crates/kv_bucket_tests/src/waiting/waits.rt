@@ -1,16 +1,15 @@
 //! Tests of waits: what ends them, and what they answer.
 
 use crate::equal::equal;
-use crate::scenario::{Scenario, last, play};
-use crate::waiting::following::{From, watch, write};
+use crate::waiting::following::{From, put, slot, watch};
+use crate::waiting::opening::{Row, run};
 use kv_bucket::{Feed, Filters, KvError, Live, LiveName, Reader, Version, Woken};
 use std::alloc::Global;
 use std::process::Abort;
 use std::rt::Clock;
 use std::sync::Wait;
 use std::test::Fail;
-use std::thread::Threads;
-use std::time::{CpuClock, Duration};
+use std::time::Duration;
 
 // What is done to the bucket.
 #[derive(Clone, Copy)]
@@ -29,7 +28,7 @@ pub fn make<N: LiveName, R: Wait>(
 ) -> Result<(), KvError> {
     match act {
         Act::Put => {
-            write(rt, alloc, live)?;
+            put(rt, alloc, live)?;
             Ok(())
         }
         Act::Seal => live.seal(rt),
@@ -51,8 +50,8 @@ pub enum Step {
     Moment(Option<Woken>),
     // A wait without a limit.
     Wait(Woken),
-    // A wait for a revision, and the revision of the version that is found.
-    For { revision: u64, found: Option<u64> },
+    // A wait for a revision, and the revision of the version that was found.
+    For(u64, Option<u64>),
 }
 
 // Long enough for who doesn't wait, and short enough for a test.
@@ -78,7 +77,7 @@ pub fn take_step<N: LiveName, R: Wait + Clock + Abort>(
             equal(rt, reader.wait(rt), woken);
             Ok(())
         }
-        Step::For { revision, found } => finds(rt, reader, revision, found),
+        Step::For(revision, found) => finds(rt, reader, revision, found),
     }
 }
 
@@ -104,23 +103,14 @@ fn finds<N: LiveName, R: Wait + Abort>(
     Ok(())
 }
 
-// What a reader does, one step after another.
-#[derive(Clone, Copy)]
-struct Steps {
-    all: &'static [Step],
-}
-
-impl Scenario for Steps {
-    fn play<N: LiveName + Send + Sync, R: Threads + Wait + Clock + CpuClock + Abort + Sync>(
-        &self,
-        rt: &R,
-        alloc: Global,
-        live: &Live<N>,
-        readers: &mut Vec<Reader<N>>,
-    ) -> Result<(), KvError> {
-        let mut reader = last(readers)?;
-        steps_of(rt, alloc, live, &mut reader, self.all)
-    }
+pub fn steps<N: LiveName, R: Wait + Clock + Abort>(
+    rt: &R,
+    alloc: Global,
+    live: &Live<N>,
+    all: &[Step],
+) -> Result<(), KvError> {
+    let mut reader = slot(rt, live)?;
+    steps_of(rt, alloc, live, &mut reader, all)
 }
 
 pub fn steps_of<N: LiveName, R: Wait + Clock + Abort>(
@@ -151,7 +141,7 @@ const TIMEOUTS: &[Step] = &[
 
 #[test]
 fn a_timeout_ends_a_wait(rt: HostRuntime) -> Result<(), Fail> {
-    play(&rt, rt.alloc(), &Steps { all: TIMEOUTS })?;
+    run(&rt, rt.alloc(), Row::Reader(TIMEOUTS))?;
     Ok(())
 }
 
@@ -169,100 +159,83 @@ const ENDS: &[Step] = &[
 
 #[test]
 fn a_wait_ends_by_news_and_by_the_end(rt: HostRuntime) -> Result<(), Fail> {
-    play(&rt, rt.alloc(), &Steps { all: ENDS })?;
+    run(&rt, rt.alloc(), Row::Reader(ENDS))?;
     Ok(())
 }
 
 const REVISIONS: &[Step] = &[
-    Step::For {
-        revision: 0,
-        found: Some(0),
-    },
+    Step::For(0, Some(0)),
     Step::Do(Act::Put),
     Step::Do(Act::Put),
-    Step::For {
-        revision: 1,
-        found: Some(2),
-    },
+    Step::For(1, Some(2)),
     Step::Do(Act::Finish),
-    Step::For {
-        revision: 3,
-        found: None,
-    },
-    Step::For {
-        revision: 2,
-        found: Some(2),
-    },
+    Step::For(3, None),
+    Step::For(2, Some(2)),
 ];
 
 #[test]
 fn a_revision_is_waited_for_to_the_end(rt: HostRuntime) -> Result<(), Fail> {
-    play(&rt, rt.alloc(), &Steps { all: REVISIONS })?;
+    run(&rt, rt.alloc(), Row::Reader(REVISIONS))?;
     Ok(())
 }
 
 // Where a feed begins, and what its first wait is told.
 #[derive(Clone, Copy)]
-struct FirstWait {
+pub struct First {
     from: From,
     woken: Option<Woken>,
 }
 
-impl Scenario for FirstWait {
-    fn play<N: LiveName + Send + Sync, R: Threads + Wait + Clock + CpuClock + Abort + Sync>(
-        &self,
-        rt: &R,
-        alloc: Global,
-        live: &Live<N>,
-        readers: &mut Vec<Reader<N>>,
-    ) -> Result<(), KvError> {
-        let mut feed = watch_what_is_seen(rt, alloc, live, readers, self.from)?;
-        feed_waits(rt, alloc, live, &mut feed, self.woken)
-    }
-}
-
 #[test]
 fn a_feed_waits_from_its_refresh_on(rt: HostRuntime) -> Result<(), Fail> {
-    let first = FirstWait {
+    let first = First {
         from: From::ItsReader,
         woken: None,
     };
-    play(&rt, rt.alloc(), &first)?;
+    run(&rt, rt.alloc(), Row::Feed(first))?;
     Ok(())
 }
 
 // The feed has yet to hand out what its reader has seen before.
 #[test]
 fn a_feed_from_the_empty_bucket_is_behind_what_its_reader_saw(rt: HostRuntime) -> Result<(), Fail> {
-    let first = FirstWait {
+    let first = First {
         from: From::EmptyBucket,
         woken: Some(Woken::Changed),
     };
-    play(&rt, rt.alloc(), &first)?;
+    run(&rt, rt.alloc(), Row::Feed(first))?;
     Ok(())
 }
 
 const SEEN: &[Step] = &[Step::Do(Act::Put), Step::Look, Step::Moment(None)];
+
+pub fn feed_waits_first<N: LiveName, R: Wait + Clock + Abort>(
+    rt: &R,
+    alloc: Global,
+    live: &Live<N>,
+    first: First,
+) -> Result<(), KvError> {
+    let mut feed = watch_what_is_seen(rt, alloc, live, first.from)?;
+    feed_waits(rt, alloc, live, &mut feed, first.woken)
+}
 
 // A feed of a reader that has seen a write.
 fn watch_what_is_seen<N: LiveName, R: Wait + Clock + Abort>(
     rt: &R,
     alloc: Global,
     live: &Live<N>,
-    readers: &mut Vec<Reader<N>>,
     from: From,
 ) -> Result<Feed<N>, KvError> {
     let filters = Filters::parse(alloc, "app.>")?;
-    watch(see(rt, alloc, live, readers)?, &filters, from)
+    watch(see(rt, alloc, live)?, &filters, from)
 }
 
 fn see<N: LiveName, R: Wait + Clock + Abort>(
     rt: &R,
     alloc: Global,
     live: &Live<N>,
-    readers: &mut Vec<Reader<N>>,
 ) -> Result<Reader<N>, KvError> {
-    let mut reader = last(readers)?;
+    let mut reader = slot(rt, live)?;
     steps_of(rt, alloc, live, &mut reader, SEEN)?;
     Ok(reader)
 }
@@ -275,7 +248,7 @@ fn feed_waits<N: LiveName, R: Wait + Clock + Abort>(
     first: Option<Woken>,
 ) -> Result<(), KvError> {
     equal(rt, feed.wait_timeout(rt, moment()), first);
-    write(rt, alloc, live)?;
+    put(rt, alloc, live)?;
     equal(rt, feed.wait(rt), Woken::Changed);
     feed.refresh()?;
     equal(rt, feed.wait_timeout(rt, moment()), None);
