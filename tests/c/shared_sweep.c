@@ -145,7 +145,7 @@ static void session(void) {
 }
 
 int main(void) {
-    long total;
+    long total, refused = 0;
     left = -1;
     session();
     total = asked;
@@ -153,8 +153,11 @@ int main(void) {
         left = k;
         refusals = 0;
         session();
-        WANT(refusals == 1);
+        /* None where a removal keeps a large branch for want of a small one. */
+        WANT(refusals <= 1);
+        refused += refusals;
     }
+    WANT(refused > total / 2);
     printf("%ld requests for memory, each refused in turn\n", total);
     return 0;
 }

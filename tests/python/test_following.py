@@ -119,6 +119,9 @@ class Follow(Base):
         self.assertEqual(revisions(self.bucket.watch(">").follow()), [1, 0])
 
     def test_an_interrupt_ends_the_sleep(self):
+        # Who runs this in the background may have it ignore interrupts.
+        before = signal.signal(signal.SIGINT, signal.default_int_handler)
+        self.addCleanup(signal.signal, signal.SIGINT, before)
         watch = self.bucket.watch(">", updates=True)
         timer = later(os.kill, os.getpid(), signal.SIGINT)
         with self.assertRaises(KeyboardInterrupt):
