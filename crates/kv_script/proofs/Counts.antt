@@ -2,8 +2,8 @@
 use Rattle.std.proofs.Common.{◌≡◌, ℕ, suc, List, [], ◌∷◌, length, map, refl, ap}
 use Rattle.serde_json.specs.Events.{items_len, members_len}
 use Rattle.kv_model.specs.Given.{Entry}
-use Rattle.kv_script.specs.declared.field.Field.{Field}
-use Rattle.kv_script.specs.declared.field.Field.TheVariants.{Number, Text, Truth}
+use Rattle.kv_script.specs.declared.answering.field.Field.{Field}
+use Rattle.kv_script.specs.declared.answering.field.Field.TheVariants.{Number, Text, Truth}
 use Rattle.kv_script.specs.declared.form.Form.{Form}
 use Rattle.kv_script.specs.inside.Fields.{entry_items, key_items}
 use Rattle.kv_script.specs.inside.Objects.{fields_of}

@@ -4,9 +4,9 @@ use Rattle.std.specs.Str.{is_utf8}
 use Rattle.serde_json.specs.Data.{Members, no_members, object}
 use Rattle.serde_json.specs.Written.{has_float, members_have_float, items_have_float}
 use Rattle.kv_model.specs.Given.{Entry}
-use Rattle.kv_script.specs.declared.field.Field.{Field}
-use Rattle.kv_script.specs.declared.field.Field.TheVariants.{Number, Truth}
-use Rattle.kv_script.specs.declared.field.Field.TheVariants as fields
+use Rattle.kv_script.specs.declared.answering.field.Field.{Field}
+use Rattle.kv_script.specs.declared.answering.field.Field.TheVariants.{Number, Truth}
+use Rattle.kv_script.specs.declared.answering.field.Field.TheVariants as fields
 use Rattle.kv_script.specs.declared.form.Form.{Form}
 use Rattle.kv_script.specs.declared.form.Form.TheVariants.{Base64, Text}
 use Rattle.kv_script.specs.inside.Fields.{base64_field, base64_fields, value_field, value_fields, entry_fields, entry_items, key_items, list_fields}

@@ -11,8 +11,8 @@ use Rattle.kv_model.specs.Requests.{Asked, asked, put, create, update, delete, p
 use Rattle.kv_model.specs.declared.options.Options.{Options}
 use Rattle.kv_script.specs.Words.{words_of, number_of, value_of}
 use Rattle.kv_script.specs.Choices.{are_options, options_of}
-use Rattle.kv_script.specs.declared.command.Command.{Command}
-use Rattle.kv_script.specs.declared.command.Command.TheVariants as commands
+use Rattle.kv_script.specs.declared.parsing.command.Command.{Command}
+use Rattle.kv_script.specs.declared.parsing.command.Command.TheVariants as commands
 use Rattle.kv_script.specs.declared.form.Form.{Form}
 use Rattle.kv_script.specs.declared.form.Form.TheVariants.{Base64, Text}
 

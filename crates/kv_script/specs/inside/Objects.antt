@@ -1,8 +1,8 @@
 -- Objects with a few members, for clauses of this crate alone.
 use Rattle.std.specs.Prelude.{List, [], ◌∷◌}
 use Rattle.serde_json.specs.Data.{boolean, string, Members, member, no_members}
-use Rattle.kv_script.specs.declared.field.Field.{Field}
-use Rattle.kv_script.specs.declared.field.Field.TheVariants.{Number, Text, Truth}
+use Rattle.kv_script.specs.declared.answering.field.Field.{Field}
+use Rattle.kv_script.specs.declared.answering.field.Field.TheVariants.{Number, Text, Truth}
 use Rattle.kv_script.specs.inside.Fields.{number_field}
 
 -- a member, and more behind it

@@ -6,7 +6,7 @@ use Rattle.serde_json.specs.Data.{Data, object, Items, Members, no_members}
 use Rattle.kv_model.specs.State.{read_entry}
 use Rattle.kv_model.specs.declared.write.Write.{Write}
 use Rattle.kv_script.specs.declared.form.Form.{Form}
-use Rattle.kv_script.specs.declared.shown.Shown.{Shown}
+use Rattle.kv_script.specs.declared.answering.shown.Shown.{Shown}
 use Rattle.kv_script.specs.inside.Fields.{entry_fields, entry_items, head_fields, key_items, list_fields, parts_entry, watch_field}
 
 abbrev pub head_of : Shown → Members → Members

@@ -1,5 +1,0 @@
-use Rattle.std.proofs.Common.{rules}
-use Rattle.kv_script.proofs.in_text.bytes_of.Goals as goal
-
-pub returns : goal.returns
-returns c = search rules
