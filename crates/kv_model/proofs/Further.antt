@@ -12,12 +12,14 @@ use Rattle.kv_model.proofs.GivenLaws.{given_rises}
 use Rattle.kv_model.specs.declared.call.Call.{Call}
 use Rattle.kv_model.specs.declared.call.Call.TheVariants as ask
 use Rattle.kv_model.specs.Answers.{Empty}
-use Rattle.kv_model.specs.Runs.{run, answers_to, items_in}
+use Rattle.kv_model.specs.Runs.{calls_of, run, items_in, transcript}
 use Rattle.kv_model.specs.State.{State, Watch, watch_at, given_to, empty, answer_to}
-use Rattle.kv_model.specs.further.Counts.{Told, TellsWatch, GoesOn, TellsOn}
+use Rattle.kv_model.specs.further.Counts.{Told, TellsWatch, GoesOn}
+use Rattle.kv_model.specs.Told.{Tells}
 use Rattle.kv_model.proofs.Others.{leaves_run}
 use Rattle.kv_model.proofs.Theorem.{increasing_left, empty_is, empty_at, ended_all, as_opened}
 use Rattle.kv_model.proofs.Told.{nothing_yet, told_run}
+use Rattle.kv_model.proofs.Transcripts.{calls_are}
 
 -- the last numbers of a rising list rise
 increasing_right : (xs ys : List ℕ) → IsStrictlyIncreasing (xs ++ ys) → IsStrictlyIncreasing ys
@@ -101,22 +103,24 @@ module _ (s : State) (i : ℕ) (w : Watch) (items : List Item) (here : watch_at 
       increasing_left (item_revisions (items_in i s calls)) (item_revisions rest)
       (increasing_right (item_revisions items) (item_revisions (items_in i s calls) ++ item_revisions rest) (subst IsStrictlyIncreasing split whole))
 
-  pub tells_further : (calls : List Call) → TellsOn s calls (answers_to s calls) i w
+  pub tells_further : (calls : List Call) → Tells s (transcript s calls) i w
   tells_further calls =
-      let n = now calls in record {
-        prefix = (drop n.0.handed (given_it calls), next_parts calls);
-        all = λ earlier later split answer. (
-            let at = empty_at s calls i earlier later split answer in
-            at.1 ∙ all_next earlier at.0);
-        counted = (n.0, n.1, counted calls);
-        stopped = λ earlier later handed split answer. (
-            let ended = ended_all s calls i n.0 n.1 earlier later handed split answer in
+      let n = now calls in
+      let are : calls ≡ calls_of (transcript s calls) = sym (calls_are s calls) in
+      record {
+        prefix = subst (λ (cs : List Call). IsPrefix (items_in i s calls) (drop w.handed (given_to s.config.history (run s cs).acts w))) are (drop n.0.handed (given_it calls), next_parts calls);
+        all = λ earlier later split. (
+            let at = empty_at s calls i earlier later split in
+            at.1 ∙ all_next (calls_of earlier) at.0);
+        counted = (n.0, ap (λ (cs : List Call). watch_at i (run s cs).watches) (sym are) ∙ n.1, counted calls);
+        stopped = λ earlier later handed split. (
+            let ended = ended_all s calls i n.0 n.1 earlier later handed split in
             (ended.0 ∙ counted calls, ended.1));
-        once = rises calls;
+        once = λ lawful. rises calls (subst (λ (cs : List Call). IsLawful s.config (run s cs).acts) (sym are) lawful);
       }
 
 pub tells_on : (config : Configuration) (before calls : List Call) (i : ℕ) (w : Watch) → watch_at i (run (empty config) before).watches ≡ Some w →
-    TellsOn (run (empty config) before) calls (answers_to (run (empty config) before) calls) i w
+    Tells (run (empty config) before) (transcript (run (empty config) before) calls) i w
 tells_on config before calls i w here =
     let s = run (empty config) before in
     let items = items_in i (empty config) before in

@@ -12,12 +12,14 @@ mod GivenCases
 pub mod Finds
 pub mod Numbers
 pub mod Others
+pub mod Transcripts
 pub mod Theorem
 pub mod Told
 pub mod NoMemory
 pub mod Further
 pub mod Meeting
 pub mod Few
+pub mod Batching
 mod RunCases
 mod CompactionCases
 pub mod Behind

@@ -46,7 +46,7 @@ unless_no : (o : Option KvError) (w : Write) → unless o w ≡ Err OutOfMemory 
 unless_no None w h = cc
 unless_no (Some e) w h = cc
 
-accept_no : (config : Configuration) (asked : Asked) (acts : List Act) → accept config asked acts ≡ Err OutOfMemory → ⊥
+pub accept_no : (config : Configuration) (asked : Asked) (acts : List Act) → accept config asked acts ≡ Err OutOfMemory → ⊥
 accept_no config asked acts h =
     let w₃ = unless (objection asked acts) (next_write asked acts) in
     let w₂ = cond (is_full config acts) (Err JournalFull) w₃ in

@@ -14,9 +14,9 @@ use Rattle.kv_model.specs.declared.call.Call.TheVariants.{Write, Get, History, K
 use Rattle.kv_model.specs.declared.call.Call.TheVariants as ask
 use Rattle.kv_model.specs.Answers.{Revision, Sealed, AnsweredEntry, Entries, Keys as AllKeys, Numbers, Watching, Marker, Empty, Ended, Refused}
 use Rattle.kv_model.specs.further.Meeting.{Taking, Stopping, bears_on, meets, meetings_of}
-use Rattle.kv_model.specs.Runs.{run, answers_to, items_in}
-use Rattle.kv_model.specs.State.{State, Watch as AWatch, empty, has_room, stopped}
-use Rattle.kv_model.specs.Told.{TellsOpened}
+use Rattle.kv_model.specs.Runs.{run, answers_to, exchanges, items_in}
+use Rattle.kv_model.specs.State.{State, Watch as AWatch, empty, has_room, opened, stopped}
+use Rattle.kv_model.specs.Told.{Tells}
 
 abbrev config : Configuration
 config = record { bucket = codes "kv"; history = 1; value_limit = 1048576; write_limit = 2; revision_limit = 4294967295 }
@@ -96,10 +96,10 @@ unfolding matches
 items_further = refl
 
 -- the watch theorem refuses a take that is answered Empty while something is left
-empty_too_early : TellsOpened (empty config) (watch ∷ Take 1 ∷ []) (Watching 1 ∷ Empty ∷ []) [] (codes ">" ∷ []) latest 1 → ⊥
+empty_too_early : Tells (empty config) (exchanges (watch ∷ Take 1 ∷ []) (Watching 1 ∷ Empty ∷ [])) 1 (opened (codes ">" ∷ []) latest (empty config)) → ⊥
 unfolding matches
 empty_too_early tells =
-    let none : [] ≡ EndMarker ∷ [] = tells.all (watch ∷ []) [] refl refl in cc
+    let none : [] ≡ EndMarker ∷ [] = tells.all (exchanges (watch ∷ []) (Watching 1 ∷ [])) [] refl in cc
 
 -- what the own calls of a watch meet: the acts so far, whatever the other watches do
 what_is_met : meetings_of 1 (empty config) (watch ∷ Take 1 ∷ delete ∷ watch ∷ Take 2 ∷ Stop 2 ∷ Take 1 ∷ Stop 1 ∷ [])

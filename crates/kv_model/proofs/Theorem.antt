@@ -14,13 +14,14 @@ use Rattle.kv_model.proofs.GivenLaws.{given_rises}
 use Rattle.kv_model.specs.declared.call.Call.{Call}
 use Rattle.kv_model.specs.declared.call.Call.TheVariants as ask
 use Rattle.kv_model.specs.Answers.{Watching, Empty, Ended, answer_item}
-use Rattle.kv_model.specs.Runs.{run, answers_to, item_for, items_for, items_in}
+use Rattle.kv_model.specs.Runs.{Exchange, calls_of, items_of, run, item_for, items_in, transcript}
 use Rattle.kv_model.specs.State.{State, Watch, watch_at, given_to, next_of, open_at, opened, answer_take, after, answer_to}
 use Rattle.kv_model.specs.further.Counts.{Told, TellsWatch, GoesOn}
-use Rattle.kv_model.specs.Told.{TellsOpened, TellsEachWatch}
+use Rattle.kv_model.specs.Told.{Tells, TellsEachWatch}
 use Rattle.kv_model.proofs.Numbers.{at_past, open_is}
 use Rattle.kv_model.proofs.Others.{config_run, run-append, opened_is, leaves_run, none_after_stop, stopped_now}
 use Rattle.kv_model.proofs.Told.{told_run}
+use Rattle.kv_model.proofs.Transcripts.{calls_are, splits}
 
 -- the first numbers of a rising list rise
 pub increasing_left : (xs ys : List ℕ) → IsStrictlyIncreasing (xs ++ ys) → IsStrictlyIncreasing xs
@@ -135,11 +136,6 @@ module _ (s : State) (before later : List Call) (filters : List (List ℕ)) (opt
       let same : whole.0 ≡ now.0 = cc in
       whole.2 ∙ ap (given_to t.config.history t.acts) same ∙ now.2
 
--- the answer to one of the calls
-answer_at : (s : State) (before later : List Call) (call : Call) → slice_get (answers_to s (before ++ call ∷ later)) (length before) ≡ Some (answer_to (run s before) call)
-answer_at s [] later call = refl
-answer_at s (first ∷ before) later call = answer_at (after s first) before later call
-
 -- the items of two runs, one after the other
 pub items-append : (s : State) (i : ℕ) (calls more : List Call) → items_in i s (calls ++ more) ≡ items_in i s calls ++ items_in i (run s calls) more
 items-append s i [] more = refl
@@ -147,45 +143,31 @@ items-append s i (call ∷ calls) more =
     ap (λ es. option_to_list (item_for i call (answer_to s call)) ++ es) (items-append (after s call) i calls more)
     ∙ sym (append_assoc (option_to_list (item_for i call (answer_to s call))) (items_in i (after s call) calls) (items_in i (run (after s call) calls) more))
 
--- the answers behind one of the calls
-answers_behind : (s : State) (earlier later : List Call) (call : Call) → drop (length earlier + 1) (answers_to s (earlier ++ call ∷ later)) ≡ answers_to (after (run s earlier) call) later
-answers_behind s [] later call = refl
-answers_behind s (first ∷ earlier) later call =
-    let e : suc (length earlier) + 1 ≡ suc (length earlier + 1) = omega arith in rw e (answers_behind (after s first) earlier later call)
-
--- the items of the first calls, among all the answers
-items_before : (s : State) (i : ℕ) (earlier more : List Call) → items_for i earlier (answers_to s (earlier ++ more)) ≡ items_in i s earlier
-items_before s i [] more = refl
-items_before s i (call ∷ earlier) more = ap (λ es. option_to_list (item_for i call (answer_to s call)) ++ es) (items_before (after s call) i earlier more)
-
--- where a take is answered Empty, no item is left by then, and the watch goes on
-pub empty_at : (s : State) (calls : List Call) (i : ℕ) (earlier later : List Call) → calls ≡ earlier ++ ask.Take i ∷ later → slice_get (answers_to s calls) (length earlier) ≡ Some Empty →
-    (answer_to (run s earlier) (ask.Take i) ≡ Empty) × (items_for i earlier (answers_to s calls) ≡ items_in i s earlier) × (run s calls ≡ run (run s earlier) (ask.Take i ∷ later))
-empty_at s calls i earlier later parts answer =
-    let there : Some (answer_to (run s earlier) (ask.Take i)) ≡ Some Empty = sym (answer_at s earlier later (ask.Take i)) ∙ ap (λ (cs : List Call). slice_get (answers_to s cs) (length earlier)) (sym parts) ∙ answer in
-    let empty : answer_to (run s earlier) (ask.Take i) ≡ Empty = cc in (
-      empty,
-      ap (λ (cs : List Call). items_for i earlier (answers_to s cs)) parts ∙ items_before s i earlier (ask.Take i ∷ later),
-      ap (run s) parts ∙ run-append s earlier (ask.Take i ∷ later),
+-- where a take is answered Empty, no item is left by then
+pub empty_at : (s : State) (calls : List Call) (i : ℕ) (earlier later : List Exchange) → transcript s calls ≡ earlier ++ record { call = ask.Take i; answer = Empty } ∷ later →
+    (answer_to (run s (calls_of earlier)) (ask.Take i) ≡ Empty) × (items_of i earlier ≡ items_in i s (calls_of earlier)) × (run s calls ≡ run (run s (calls_of earlier)) (ask.Take i ∷ calls_of later))
+empty_at s calls i earlier later parts =
+    let at = splits s calls earlier later (record { call = ask.Take i; answer = Empty }) parts in (
+      at.answer,
+      ap (items_of i) at.before,
+      ap (run s) at.made ∙ run-append s (calls_of earlier) (ask.Take i ∷ calls_of later),
     )
 
 -- after a stop there is no item, and the stop answers the count that stays
-pub ended_all : (s : State) (calls : List Call) (i : ℕ) (w : Watch) → watch_at i (run s calls).watches ≡ Some w → (earlier later : List Call) (n : ℕ) →
-    calls ≡ earlier ++ ask.Stop i ∷ later → slice_get (answers_to s calls) (length earlier) ≡ Some (Ended n) →
-    (n ≡ w.handed) × (items_for i later (drop (length earlier + 1) (answers_to s calls)) ≡ [])
-ended_all s calls i w here earlier later n parts answer =
-    let s₁ = run s earlier in
-    let there : Some (answer_to s₁ (ask.Stop i)) ≡ Some (Ended n) = sym (answer_at s earlier later (ask.Stop i)) ∙ ap (λ (cs : List Call). slice_get (answers_to s cs) (length earlier)) (sym parts) ∙ answer in
-    let ended : answer_to s₁ (ask.Stop i) ≡ Ended n = cc in
-    let at = stopped_now s₁ i n ended in
-    let left = leaves_run (after s₁ (ask.Stop i)) i at.0 later at.1 in
-    let last : watch_at i (run s calls).watches ≡ Some left.0 = ap (λ (cs : List Call). watch_at i (run s cs).watches) parts ∙ ap (λ (x : State). watch_at i x.watches) (run-append s earlier (ask.Stop i ∷ later)) ∙ left.1 in
+pub ended_all : (s : State) (calls : List Call) (i : ℕ) (w : Watch) → watch_at i (run s calls).watches ≡ Some w → (earlier later : List Exchange) (n : ℕ) →
+    transcript s calls ≡ earlier ++ record { call = ask.Stop i; answer = Ended n } ∷ later → (n ≡ w.handed) × (items_of i later ≡ [])
+ended_all s calls i w here earlier later n parts =
+    let split = splits s calls earlier later (record { call = ask.Stop i; answer = Ended n }) parts in
+    let before = calls_of earlier in
+    let behind = calls_of later in
+    let s₁ = run s before in
+    let at = stopped_now s₁ i n split.answer in
+    let left = leaves_run (after s₁ (ask.Stop i)) i at.0 behind at.1 in
+    let last : watch_at i (run s calls).watches ≡ Some left.0 = ap (λ (cs : List Call). watch_at i (run s cs).watches) split.made ∙ ap (λ (x : State). watch_at i x.watches) (run-append s before (ask.Stop i ∷ behind)) ∙ left.1 in
     let both : Some w ≡ Some left.0 = sym here ∙ last in
     let same : w ≡ left.0 = cc in (
       sym at.3 ∙ sym (left.2.counts_no_more at.2) ∙ ap (λ (v : Watch). v.handed) (sym same),
-      ap (λ (cs : List Call). items_for i later (drop (length earlier + 1) (answers_to s cs))) parts
-          ∙ ap (items_for i later) (answers_behind s earlier later (ask.Stop i))
-          ∙ none_after_stop (after s₁ (ask.Stop i)) i later (at.0, at.1, at.2),
+      ap (items_of i) split.behind ∙ none_after_stop (after s₁ (ask.Stop i)) i behind (at.0, at.1, at.2),
     )
 
 -- a watch is given what the one that it became is given
@@ -198,29 +180,31 @@ as_opened s calls w v {began} filters options goes b f o =
     ∙ ap (λ (os : Options). given s.config.history began (run s calls).acts filters os) (sym goes.options ∙ o)
 
 pub tells_opened : (s : State) (before later : List Call) (filters : List (List ℕ)) (options : Options) (i : ℕ) → answer_to (run s before) (ask.Watch filters options) ≡ Watching i →
-    TellsOpened s (before ++ ask.Watch filters options ∷ later) (answers_to s (before ++ ask.Watch filters options ∷ later)) (run s before).acts filters options i
+    Tells s (transcript s (before ++ ask.Watch filters options ∷ later)) i (opened filters options (run s before))
 tells_opened s before later filters options i opens =
+    let calls = before ++ ask.Watch filters options ∷ later in
+    let are : calls ≡ calls_of (transcript s calls) = sym (calls_are s calls) in
     let counted = told_counted s before later filters options i opens in
     record {
-      prefix = told_prefix s before later filters options i opens;
-      all = λ earlier rest parts answer. (
-          let at = empty_at s (before ++ ask.Watch filters options ∷ later) i earlier rest parts answer in
-          let whole = all_handed s i earlier (unknown s before later filters options i opens) at.0 in
-          let left = leaves_run (run s earlier) i whole.0 (ask.Take i ∷ rest) whole.1 in
+      prefix = subst (λ (cs : List Call). IsPrefix (items_in i s calls) (given s.config.history (run s before).acts (run s cs).acts filters options)) are (told_prefix s before later filters options i opens);
+      all = λ earlier rest parts. (
+          let at = empty_at s calls i earlier rest parts in
+          let so_far = calls_of earlier in
+          let whole = all_handed s i so_far (unknown s before later filters options i opens) at.0 in
+          let left = leaves_run (run s so_far) i whole.0 (ask.Take i ∷ calls_of rest) whole.1 in
           let n = now s before later filters options i opens in
           let both : Some left.0 ≡ Some n.0 = sym left.1 ∙ ap (λ (x : State). watch_at i x.watches) (sym at.2) ∙ n.1 in
           let same : left.0 ≡ n.0 = cc in
-          at.1 ∙ whole.2 ∙ as_opened s earlier whole.0 left.0 filters options left.2 (ap (λ (v : Watch). v.began) same ∙ n.3) (ap (λ (v : Watch). v.filters) same ∙ n.4) (ap (λ (v : Watch). v.options) same ∙ n.5));
-      counted = counted;
-      once = told_once s before later filters options i opens;
-      stopped = λ earlier rest n parts answer. (
-          let ended = ended_all s (before ++ ask.Watch filters options ∷ later) i counted.0 counted.1 earlier rest n parts answer in
-          (ended.0 ∙ counted.2, ended.1));
+          at.1 ∙ whole.2 ∙ as_opened s so_far whole.0 left.0 filters options left.2 (ap (λ (v : Watch). v.began) same ∙ n.3) (ap (λ (v : Watch). v.filters) same ∙ n.4) (ap (λ (v : Watch). v.options) same ∙ n.5));
+      counted = (counted.0, ap (λ (cs : List Call). watch_at i (run s cs).watches) (sym are) ∙ counted.1, omega (arith, counted.2));
+      once = λ lawful. told_once s before later filters options i opens (subst (λ (cs : List Call). IsLawful s.config (run s cs).acts) (sym are) lawful);
+      stopped = λ earlier rest n parts. (
+          let ended = ended_all s calls i counted.0 counted.1 earlier rest n parts in
+          (omega (arith, ended.0, counted.2), ended.1));
     }
 
-pub tells_each_watch : (s : State) (calls : List Call) → TellsEachWatch s calls (answers_to s calls)
-tells_each_watch s calls = λ before later filters options i parts answer. (
-    let there : Some (answer_to (run s before) (ask.Watch filters options)) ≡ Some (Watching i) =
-    sym (answer_at s before later (ask.Watch filters options)) ∙ ap (λ (cs : List Call). slice_get (answers_to s cs) (length before)) (sym parts) ∙ answer in
-    let opens : answer_to (run s before) (ask.Watch filters options) ≡ Watching i = cc in
-    subst (λ (cs : List Call). TellsOpened s cs (answers_to s cs) (run s before).acts filters options i) (sym parts) (tells_opened s before later filters options i opens))
+pub tells_each_watch : (s : State) (calls : List Call) → TellsEachWatch s (transcript s calls)
+tells_each_watch s calls = λ earlier later filters options i parts. (
+    let at = splits s calls earlier later (record { call = ask.Watch filters options; answer = Watching i }) parts in
+    subst (λ (cs : List Call). Tells s (transcript s cs) i (opened filters options (run s (calls_of earlier)))) (sym at.made)
+    (tells_opened s (calls_of earlier) (calls_of later) filters options i at.answer))

@@ -10,5 +10,6 @@ pub mod Given
 pub mod Answers
 pub mod State
 pub mod Runs
+pub mod Batches
 pub mod Told
 pub mod further

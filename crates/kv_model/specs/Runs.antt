@@ -1,5 +1,5 @@
 -- A run of calls, and what it hands to each watch.
-use Rattle.std.specs.Prelude.{ℕ, List, [], ◌∷◌, ◌++◌, Option, Some, None, ◌==◌, if◌then◌else◌}
+use Rattle.std.specs.Prelude.{ℕ, List, [], ◌∷◌, ◌++◌, Option, Some, None, ◌==◌, if◌then◌else◌, map}
 use Rattle.std.specs.Option.{option_to_list}
 use Rattle.kv_model.specs.Given.{Item, AnEntry, EndMarker}
 use Rattle.kv_model.specs.declared.call.Call.{Call}
@@ -28,13 +28,30 @@ abbrev pub item_for : ℕ → Call → Answer → Option Item
 item_for number (calls.Take asked) answer = if asked == number then item_in answer else None
 item_for number call answer = None
 
--- the items that the answers to calls hand to the watch of a number, in order
-abbrev pub items_for : ℕ → List Call → List Answer → List Item
-items_for number [] answers = []
-items_for number (call ∷ calls) [] = []
-items_for number (call ∷ calls) (answer ∷ answers) = option_to_list (item_for number call answer)
-    ++ items_for number calls answers
+-- a call, and its answer
+pub record Exchange : Type 0 where
+  pub call : Call
+  pub answer : Answer
+
+-- calls, each with its answer
+abbrev pub exchanges : List Call → List Answer → List Exchange
+exchanges [] answers = []
+exchanges (call ∷ calls) [] = []
+exchanges (call ∷ calls) (answer ∷ answers) = record { call = call; answer = answer } ∷ exchanges calls answers
+
+-- the calls of exchanges
+abbrev pub calls_of : List Exchange → List Call
+calls_of told = map (λ exchange. exchange.call) told
+
+-- the exchanges of a run
+abbrev pub transcript : State → List Call → List Exchange
+transcript s calls = exchanges calls (answers_to s calls)
+
+-- the items that exchanges hand to the watch of a number, in order
+abbrev pub items_of : ℕ → List Exchange → List Item
+items_of number [] = []
+items_of number (exchange ∷ told) = option_to_list (item_for number exchange.call exchange.answer) ++ items_of number told
 
 -- the items that a run hands to the watch of a number
 abbrev pub items_in : ℕ → State → List Call → List Item
-items_in number s calls = items_for number calls (answers_to s calls)
+items_in number s calls = items_of number (transcript s calls)

@@ -2,6 +2,7 @@
 //! definitions of all that a bucket of one thread is proved to do, over one list of accepted acts.
 #![tactic(auto)]
 
+mod batch;
 mod call;
 mod config;
 mod event;
@@ -12,6 +13,7 @@ mod status;
 mod stopped;
 mod write;
 
+pub use batch::BatchRefused;
 pub use call::Call;
 pub use config::Config;
 pub use event::Event;

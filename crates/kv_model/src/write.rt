@@ -55,6 +55,7 @@ pub struct Write {
     revision: u64,
 }
 
+// Field by field: a derived drop makes each proof longer that owns one.
 impl Drop for Write {
     fn drop(self) {
         let Self {

@@ -31,7 +31,7 @@ behind_same floor h acts version held watch e f =
     ∙ ap (λ (o : Options). is_behind floor watch.handed held.watch.opening.config.history watch.began acts watch.filters o) f.options
     ∙ ap (λ (k : ℕ). is_behind floor watch.handed k watch.began acts watch.filters watch.options) (ap (λ (c : Configuration). c.history) (sym f.place.place.same_config) ∙ e)
 
-held_later : GoesOnLater → (h : ℕ) (acts later : List Act) (version newer : Stored) (held : Option Holding) (watch : Option Watch) → version.config.history ≡ h → StandsFor later newer → IsPrefix acts later → newer.config ≡ version.config
+pub held_later : GoesOnLater → (h : ℕ) (acts later : List Act) (version newer : Stored) (held : Option Holding) (watch : Option Watch) → version.config.history ≡ h → StandsFor later newer → IsPrefix acts later → newer.config ≡ version.config
     → newer.floor ≤ length (writes_of acts) → ((w : Watch) → watch ≡ Some w → is_behind newer.floor w.handed h w.began acts w.filters w.options ≡ false) → IsHeld acts version held watch → IsHeld later newer held watch
 held_later on h acts later version newer None None e stands p same low ahead is = tt
 held_later on h acts later version newer (Some held) None e stands p same low ahead is = is

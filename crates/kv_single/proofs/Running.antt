@@ -7,7 +7,7 @@ use Rattle.kv_single.specs.declared.reply.Reply.{Reply}
 use Rattle.kv_single.specs.Replies.{answer_of}
 use Rattle.kv_model.specs.Answers.{Answer}
 use Rattle.kv_single.specs.Held.{Bucketed, Represents}
-use Rattle.kv_model.specs.Runs.{run, answers_to}
+use Rattle.kv_model.specs.Runs.{run, answers_to, exchanges}
 use Rattle.kv_model.specs.State.{State}
 use Rattle.kv_single.specs.Stepping.{IsRun, IsStep}
 use Rattle.kv_model.specs.Told.{TellsEachWatch}
@@ -31,14 +31,14 @@ run_push old now new calls call before replies more reply ran step pushed = (
 )
 
 pub run_tells : (old new : Bucketed) (calls : List Call) (before replies : List Reply) → IsRun old calls before replies new →
-    (state : State) → Represents state old → TellsEachWatch state calls (map answer_of (drop (length before) replies))
+    (state : State) → Represents state old → TellsEachWatch state (exchanges calls (map answer_of (drop (length before) replies)))
 run_tells old new calls before replies ran state r =
     let added : drop (length before) replies ≡ ran.0 = ap (drop (length before)) ran.1 ∙ drop-append_seam before ran.0 in
     let answers : map answer_of (drop (length before) replies) ≡ answers_to state calls = ap (map answer_of) added ∙ (ran.2 state r).0 in
-    subst (TellsEachWatch state calls) (sym answers) (tells_each_watch state calls)
+    subst (λ (told : List Answer). TellsEachWatch state (exchanges calls told)) (sym answers) (tells_each_watch state calls)
 
 -- the same of a run that ended early, of the calls that it answered
 pub tells_early : {T E : Type 0} (result : Result T E) (old new : Bucketed) (calls : List Call) (before replies : List Reply) (k : ℕ) → k < length calls → IsRun old (take k calls) before replies new →
-    OnErr result ((n : ℕ) × (n < length calls) × IsRun old (take n calls) before replies new × ((state : State) → Represents state old → TellsEachWatch state (take n calls) (map answer_of (drop (length before) replies))))
+    OnErr result ((n : ℕ) × (n < length calls) × IsRun old (take n calls) before replies new × ((state : State) → Represents state old → TellsEachWatch state (exchanges (take n calls) (map answer_of (drop (length before) replies)))))
 tells_early (Ok value) old new calls before replies k within ran = tt
 tells_early (Err error) old new calls before replies k within ran = (k, within, ran, run_tells old new (take k calls) before replies ran)

@@ -1,3 +1,4 @@
+pub mod Batches
 pub mod Held
 pub mod Replies
 pub mod Stepping

@@ -27,6 +27,7 @@ pub struct Bucket {
     pub(crate) alloc: Global,
 }
 
+// Field by field: a derived drop makes each proof longer that owns one.
 impl Drop for Bucket {
     fn drop(self) {
         let Self {

@@ -1,9 +1,11 @@
 //! A bucket: what was accepted, and the watches that are open.
 #![tactic(auto)]
 
+mod batch;
 mod bucket;
 mod compacting;
 mod held;
+pub mod laws;
 mod reading;
 mod reply;
 mod run;
@@ -13,7 +15,9 @@ mod writing;
 
 pub use bucket::Bucket;
 pub use kv_keys::{Filter, Filters, Key, KvError, Place, Short, fnv32};
-pub use kv_model::{Call, Config, Event, Op, Options, Request, Start, Status, Stopped, Write};
+pub use kv_model::{
+    BatchRefused, Call, Config, Event, Op, Options, Request, Start, Status, Stopped, Write,
+};
 pub use kv_store::{KeyHistory, Rev, Version};
 pub use kv_trie::{Trie, Visit};
 pub use kv_watch::{Cursor, Shown, Taken, given};

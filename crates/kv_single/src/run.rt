@@ -5,6 +5,7 @@ ghost use Rattle.kv_keys.specs.declared.error.KvError.TheVariants.{OutOfMemory};
 ghost use Rattle.kv_model.specs.declared.call.Call.TheVariants.{Write, Seal, Watch, Take, Stop};
 ghost use Rattle.kv_single.specs.Replies.{answer_of};
 ghost use Rattle.kv_single.specs.Held.{Represents};
+ghost use Rattle.kv_model.specs.Runs.{exchanges};
 ghost use Rattle.kv_model.specs.State.{State, after};
 ghost use Rattle.kv_single.specs.Stepping.{IsRun, IsStep};
 ghost use Rattle.kv_model.specs.Told.{TellsEachWatch};
@@ -25,14 +26,15 @@ impl Bucket {
         // Each watch that the calls opened was handed, in order, the first items of what it is given, and where a take
         // of it is answered Empty, all of them.
         ensures told { OnOk result ((state : State) → Represents state self.old →
-            TellsEachWatch state calls.now (map answer_of (drop (length replies.old.items) replies.new.items))) }
+            TellsEachWatch state
+            (exchanges calls.now (map answer_of (drop (length replies.old.items) replies.new.items)))) }
         // Where memory ran out it did the first k calls and no other, and each watch that these opened was told the
         // same.
         ensures told_early { OnErr result ((k : ℕ) × (k < length calls.now) ×
             IsRun self.old (take k calls.now) replies.old.items replies.new.items self.new ×
             ((state : State) → Represents state self.old →
-            TellsEachWatch state (take k calls.now) (map answer_of
-            (drop (length replies.old.items) replies.new.items)))) }
+            TellsEachWatch state (exchanges (take k calls.now) (map answer_of
+            (drop (length replies.old.items) replies.new.items))))) }
     {
         for call in calls {
             replies.reserve(1)?;

@@ -1,5 +1,6 @@
 pub mod Distinct
 pub mod Gathering
+pub mod Latest
 pub mod Lookups
 pub mod Naming
 pub mod Outcomes
@@ -15,3 +16,4 @@ pub mod Asking
 pub mod LookingUp
 pub mod Turned
 pub mod Following
+pub mod Batching

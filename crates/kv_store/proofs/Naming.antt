@@ -1,7 +1,7 @@
 -- The entries of the key trie name the selected writes, each once.
 use Rattle.std.proofs.Common.{◌≡◌, ℕ, ◌<◌, Bool, true, false, cond, eqb, List, [], ◌∷◌, ◌++◌, Some, length, filter, refl, sym, subst, ap, ◌∙◌, arith}
 use Rattle.std.specs.List.{Contains, IsDistinct, flat_map, AllByRecursion}
-use Rattle.std.specs.List.Sorted.{IsStrictlyIncreasing, IsPermutation, IsSorted}
+use Rattle.std.specs.List.Sorted.{IsStrictlyIncreasing, IsPermutation, IsNonDecreasingBy}
 use Rattle.std.specs.Map.{lookup, keys_of}
 use Rattle.std.specs.Ordering.{nat_cmp}
 use Rattle.std.specs.Str.{bytes_eq}
@@ -10,7 +10,7 @@ use Rattle.std.specs.declared.cmp.Ordering.TheVariants.{Less, Equal}
 use Rattle.std.proofs.lemmas.Bool.Decides.{nat_tests}
 use Rattle.std.proofs.lemmas.Cmp.{tied_itself}
 use Rattle.std.proofs.lemmas.List.{length-map}
-use Rattle.std.proofs.lemmas.List.Sorted.{IsPermutation-sym, Contains-permutation, IsNonDecreasingBy-from_sort}
+use Rattle.std.proofs.lemmas.List.Sorted.{IsPermutation-sym, Contains-permutation}
 use Rattle.std.proofs.lemmas.Map.Keys.{IsStrictlyIncreasing-from_distinct, IsDistinct-IsPermutation}
 use Rattle.std.proofs.lemmas.Map.Views.{Contains-from_lookup, lookup-from_Contains}
 use Rattle.std.proofs.lemmas.Slice.Eq.{bytes_eq-Decides}
@@ -64,7 +64,7 @@ keys_apart (e ∷ es) d = (all_keys (λ k. bytes_eq e.0 k ≡ false) es d.0, key
 
 -- ---- what is read of the key trie
 
-kept_keys : (es : List (List ℕ × KeyHistory)) → keys_of (kept_entries es) ≡ keys_of es
+pub kept_keys : (es : List (List ℕ × KeyHistory)) → keys_of (kept_entries es) ≡ keys_of es
 kept_keys [] = refl
 kept_keys (e ∷ es) = ap (λ ks. e.0 ∷ ks) (kept_keys es)
 
@@ -167,10 +167,10 @@ module _ (h : ℕ) (acts : List Act) (some : 0 < h) (counts : CountsFrom 1 (writ
       ∙ length-map ws (λ w. w.revision)
 
   -- what is named, in order, are the revisions of the selected writes of wanted keys
-  sorted_named : (xs : List ℕ) → IsPermutation (flat_map (named wants start) entries) xs → IsSorted nat_cmp xs → xs ≡ revisions (filter (λ w. wants w.key) (initial h start acts))
+  sorted_named : (xs : List ℕ) → IsPermutation (flat_map (named wants start) entries) xs → IsNonDecreasingBy (λ n. n) xs → xs ≡ revisions (filter (λ w. wants w.key) (initial h start acts))
   sorted_named xs p s =
       let all = flat_map (named wants start) entries in
-      let rising = IsStrictlyIncreasing-from_distinct xs (IsNonDecreasingBy-from_sort (λ n. n) xs s) (IsDistinct-IsPermutation eqb eqb_flips all xs p distinct_named) in
+      let rising = IsStrictlyIncreasing-from_distinct xs s (IsDistinct-IsPermutation eqb eqb_flips all xs p distinct_named) in
       same_rising xs (revisions (filter (λ w. wants w.key) (initial h start acts))) rising (increasing_initial h acts some counts start (λ w. wants w.key))
       (λ n. ((λ m. (members_named n).0 (Contains-permutation xs all n (IsPermutation-sym all xs p) m)), (λ m. Contains-permutation all xs n p ((members_named n).1 m))))
 
@@ -182,7 +182,7 @@ kept_counted h acts some counts entries keeps apart =
     ∙ ap length (filter_all (λ w. true) (retained h acts) (λ w m. refl))
 
 -- the same of the key trie
-pub gathered_are_initial : (h : ℕ) (acts : List Act) → 0 < h → CountsFrom 1 (writes_of acts) → (wants : List ℕ → Bool) (start : Start) (place : List ℕ → ℕ) (es : List (List ℕ × KeyHistory)) → ((key : List ℕ) → lookup (λ k. bytes_eq key k) (kept_entries es) ≡ unless_empty (revisions (kept h key acts))) → Ascends (order (slice_cmp nat_cmp) place 7) es → (xs : List ℕ) → IsPermutation (flat_map (initial_of wants start) es) xs → IsSorted nat_cmp xs → xs ≡ revisions (filter (λ w. wants w.key) (initial h start acts))
+pub gathered_are_initial : (h : ℕ) (acts : List Act) → 0 < h → CountsFrom 1 (writes_of acts) → (wants : List ℕ → Bool) (start : Start) (place : List ℕ → ℕ) (es : List (List ℕ × KeyHistory)) → ((key : List ℕ) → lookup (λ k. bytes_eq key k) (kept_entries es) ≡ unless_empty (revisions (kept h key acts))) → Ascends (order (slice_cmp nat_cmp) place 7) es → (xs : List ℕ) → IsPermutation (flat_map (initial_of wants start) es) xs → IsNonDecreasingBy (λ n. n) xs → xs ≡ revisions (filter (λ w. wants w.key) (initial h start acts))
 gathered_are_initial h acts some counts wants start place es keeps ascends xs p s =
     sorted_named h acts some counts wants start (kept_entries es) keeps
     (distinct_kept place es ascends)

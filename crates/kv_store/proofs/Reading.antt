@@ -1,24 +1,21 @@
 -- What a version that stands for acts has to be read from.
-use Rattle.std.proofs.Common.{◌≡◌, ℕ, ◌+◌, ◌<◌, true, false, cond, ◌&&◌, List, [], ◌∷◌, ◌++◌, Option, Some, None, length, get_or, take, map, filter, refl, sym, ap, ◌∙◌}
+use Rattle.std.proofs.Common.{◌≡◌, ℕ, ◌+◌, ◌<◌, ◌&&◌, List, [], ◌∷◌, ◌++◌, Option, Some, None, length, get_or, take, map, refl, sym, ap, ◌∙◌}
 use Rattle.std.specs.Prelude.{nat_le}
 use Rattle.std.specs.List.{Contains, filter_map, cons_option}
-use Rattle.std.specs.Option.{option_and_then, option_map, option_to_list}
+use Rattle.std.specs.Option.{option_map, option_to_list}
 use Rattle.std.proofs.lemmas.Bool.{and_parts, leb-true}
 use Rattle.std.proofs.lemmas.List.{take_more, map-append}
 use Rattle.std.proofs.lemmas.List.Elements.{filter_map-append}
-use Rattle.kv_keys.specs.Matching.{matches}
-use Rattle.kv_model.specs.Acts.{Act, Write, is_put}
+use Rattle.kv_model.specs.Acts.{Act, Write}
 use Rattle.kv_model.specs.declared.options.Start.{Start}
-use Rattle.kv_model.specs.declared.options.Start.TheVariants.{Latest}
 use Rattle.kv_model.specs.Configuration.{Configuration, IsLegal}
 use Rattle.kv_model.specs.Given.{initial}
-use Rattle.kv_model.specs.Reads.{unless_empty, history_of, keys_of, if_put}
-use Rattle.kv_model.specs.Retained.{kept, latest, revisions}
-use Rattle.kv_store.specs.inside.Selected.{key_put}
+use Rattle.kv_model.specs.Reads.{unless_empty, history_of}
+use Rattle.kv_model.specs.Retained.{kept, revisions}
 use Rattle.kv_store.specs.Standing.{StandsFor}
 use Rattle.kv_store.specs.Stored.{Stored, kept_at, write_at}
 use Rattle.kv_model.proofs.Found.{write_at_kept}
-use Rattle.kv_model.proofs.Members.{Contains-here, Contains-there, Contains-from_filter, filter-filter}
+use Rattle.kv_model.proofs.Members.{Contains-here, Contains-there}
 use Rattle.kv_model.proofs.Numbered.{counts_from_lawful}
 use Rattle.kv_store.proofs.Selecting.{initial_is_kept}
 
@@ -69,14 +66,6 @@ all_found : (ws : List Write) → filter_map Some ws ≡ ws
 all_found [] = refl
 all_found (w ∷ ws) = ap (λ vs. w ∷ vs) (all_found ws)
 
-puts_found : (ws : List Write) → filter_map (λ w. option_map (λ (v : Write). v.key) (if_put w)) ws ≡ map (λ (w : Write). w.key) (filter (λ w. is_put w.op) ws)
-puts_found [] = refl
-puts_found (w ∷ ws) =
-    elim (is_put w.op) as (λ b. cons_option (option_map (λ (v : Write). v.key) (cond b (Some w) None)) (filter_map (λ w. option_map (λ (v : Write). v.key) (if_put w)) ws) ≡ map (λ (w : Write). w.key) (cond b (w ∷ filter (λ w. is_put w.op) ws) (filter (λ w. is_put w.op) ws))) [
-      | true ↦ ap (λ ks. w.key ∷ ks) (puts_found ws)
-      | false ↦ puts_found ws
-    ]
-
 -- the writes of the kept revisions are the kept writes
 pub kept_writes : (acts : List Act) (version : Stored) (key : List ℕ) → StandsFor acts version → filter_map (λ r. write_at r version) (revisions (kept version.config.history key acts)) ≡ kept version.config.history key acts
 kept_writes acts version key s =
@@ -92,11 +81,3 @@ pub history_there : (acts : List Act) (version : Stored) (key rs : List ℕ) →
 history_there acts version key rs s h =
     let both = unless_empty-revisions (kept version.config.history key acts) rs (sym (s.kept key) ∙ h) in
     both.1 ∙ ap Some (sym (kept_writes acts version key s) ∙ ap (filter_map (λ r. write_at r version)) both.0)
-
--- the keys are those of the puts among the latest writes
-pub keys_found : (acts : List Act) (version : Stored) (filtering : List ℕ) → StandsFor acts version → filter_map (λ r. key_put r version) (revisions (filter (λ w. matches filtering w.key) (latest acts))) ≡ keys_of filtering acts
-keys_found acts version filtering s =
-    let ws = filter (λ w. matches filtering w.key) (latest acts) in
-    found_of_revisions (λ r. key_put r version) (λ w. option_map (λ (v : Write). v.key) (if_put w)) ws (λ w m. ap (λ o. option_map (λ (v : Write). v.key) (option_and_then if_put o)) (initial_stored acts version Latest w s (Contains-from_filter (λ v. matches filtering v.key) (latest acts) w m).0))
-    ∙ puts_found ws
-    ∙ ap (map (λ (w : Write). w.key)) (filter-filter (λ w. is_put w.op) (λ w. matches filtering w.key) (latest acts))

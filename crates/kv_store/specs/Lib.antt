@@ -1,4 +1,5 @@
 pub mod Asked
+pub mod Batches
 pub mod Places
 pub mod Standing
 pub mod Stored

@@ -1,10 +1,10 @@
 //! The history of a key.
 
-ghost use Rattle.std.specs.Prelude.{◌≡◌, List, Some, map, take, IfOk, IfErr, MatchResult};
+ghost use Rattle.std.specs.Prelude.{◌≡◌, List, Some, map, take, IfOk, MatchResult};
 ghost use Rattle.std.specs.List.{filter_map};
 ghost use Rattle.std.specs.Option.{ok_or};
 ghost use Rattle.kv_keys.specs.Outcome.{Refuses};
-ghost use Rattle.kv_keys.specs.declared.error.KvError.TheVariants.{KeyNotFound, OutOfMemory};
+ghost use Rattle.kv_keys.specs.declared.error.KvError.TheVariants.{KeyNotFound};
 ghost use Rattle.kv_model.specs.Acts.{Act};
 ghost use Rattle.kv_model.specs.Reads.{history_of};
 ghost use Rattle.kv_store.specs.Standing.{StandsFor};
@@ -13,14 +13,13 @@ ghost use Rattle.kv_store.specs.Stored.{write_at};
 use crate::version::Version;
 use kv_keys::{Key, KvError};
 use kv_model::Write;
-use std::alloc::Global;
+use std::alloc::{AllocError, Global};
 
 impl Version {
     // The writes that are stored of these revisions, in this order.
-    fn writes_at(&self, alloc: Global, revisions: &[u64]) -> Result<Vec<&Write>, KvError>
-        ensures ok { IfOk result
+    fn writes_at(&self, alloc: Global, revisions: &[u64]) -> Result<Vec<&Write>, AllocError>
+        ensures { IfOk result
             (λ found. map (λ w. w.now) found.items ≡ filter_map (λ r. write_at r self.now) revisions.now) }
-        ensures err { IfErr result (λ e. e ≡ OutOfMemory) }
     {
         let mut found = Vec::with_capacity(alloc, revisions.len())?;
         for revision in revisions {
@@ -40,7 +39,7 @@ impl Version {
             (λ e. Refuses e (ok_or (history_of self.now.config.history key.now acts) KeyNotFound)) }
     {
         match self.kept_at(key) {
-            Some(revisions) => self.writes_at(alloc, revisions),
+            Some(revisions) => Ok(self.writes_at(alloc, revisions)?),
             None => Err(KvError::KeyNotFound),
         }
     }

@@ -21,7 +21,7 @@ use crate::wanted::Wanted;
 use kv_keys::{Key, KvError};
 use kv_model::Start;
 use kv_trie::{Trie, Visit};
-use std::alloc::Global;
+use std::alloc::{AllocError, Global};
 
 // What was found so far, and what is looked for.
 #[derive(Drop)]
@@ -32,9 +32,8 @@ struct Gather<'w, W> {
 }
 
 // Adds the revisions from the first one on.
-fn add_from(found: &mut Vec<u64>, first: u64, revisions: &[u64]) -> Result<(), KvError>
-    ensures ok { IfOk result (λ _. found.new.items ≡ found.old.items ++ filter (λ r. nat_le first r) revisions.now) }
-    ensures err { IfErr result (λ error. error ≡ OutOfMemory) }
+fn add_from(found: &mut Vec<u64>, first: u64, revisions: &[u64]) -> Result<(), AllocError>
+    ensures { IfOk result (λ _. found.new.items ≡ found.old.items ++ filter (λ r. nat_le first r) revisions.now) }
 {
     for revision in revisions {
         if first <= *revision {
@@ -45,9 +44,8 @@ fn add_from(found: &mut Vec<u64>, first: u64, revisions: &[u64]) -> Result<(), K
 }
 
 // Adds those of a key's revisions that a watch begins with.
-fn add_selected(found: &mut Vec<u64>, start: Start, revisions: &[u64]) -> Result<(), KvError>
-    ensures ok { IfOk result (λ _. found.new.items ≡ found.old.items ++ initial_revisions start revisions.now) }
-    ensures err { IfErr result (λ error. error ≡ OutOfMemory) }
+fn add_selected(found: &mut Vec<u64>, start: Start, revisions: &[u64]) -> Result<(), AllocError>
+    ensures { IfOk result (λ _. found.new.items ≡ found.old.items ++ initial_revisions start revisions.now) }
 {
     match start {
         Start::Latest => {
@@ -103,9 +101,8 @@ fn looked_up(
     by_key: &Trie<Key, KeyHistory>,
     keys: &[Key],
     start: Start,
-) -> Result<Vec<u64>, KvError>
-    ensures same { IfOk result (λ found. found.items ≡ flat_map (initial_at start by_key.now) keys.now) }
-    ensures err { IfErr result (λ error. error ≡ OutOfMemory) }
+) -> Result<Vec<u64>, AllocError>
+    ensures { IfOk result (λ found. found.items ≡ flat_map (initial_at start by_key.now) keys.now) }
 {
     let mut found = Vec::new(alloc);
     for key in keys {
@@ -127,7 +124,7 @@ fn found_of<W: Wanted>(
     ensures err { IfErr result (λ error. error ≡ OutOfMemory) }
 {
     match wanted.literals(alloc)? {
-        Some(keys) => looked_up(alloc, by_key, &keys, start),
+        Some(keys) => Ok(looked_up(alloc, by_key, &keys, start)?),
         None => walked(alloc, by_key, wanted, start),
     }
 }

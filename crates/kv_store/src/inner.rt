@@ -29,6 +29,7 @@ pub struct Inner {
     pub sealed: bool,
 }
 
+// Field by field: a derived drop makes each proof longer that owns one.
 impl Drop for Inner {
     fn drop(self) {
         let Self {

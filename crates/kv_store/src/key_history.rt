@@ -21,6 +21,7 @@ pub struct KeyHistory {
     revisions: Revisions,
 }
 
+// Field by field: a derived drop makes each proof longer that owns one.
 impl Drop for KeyHistory {
     fn drop(self) {
         let Self {

@@ -5,6 +5,7 @@
 mod accept;
 mod accepted;
 mod apply;
+mod batch;
 mod compacting;
 mod entries;
 mod gather;

@@ -1,59 +1,184 @@
-//! The keys that have a value.
+//! The keys that have a value, and the latest writes that are puts.
 
-ghost use Rattle.std.specs.Prelude.{◌≡◌, List, map, IfOk, IfErr};
-ghost use Rattle.std.specs.List.{filter_map};
-ghost use Rattle.std.specs.Option.{option_copied};
+ghost use Rattle.std.specs.Prelude.{◌≡◌, ◌++◌, List, filter, map, IfOk, IfErr, IsPermutation};
+ghost use Rattle.std.specs.Cmp.Lexicographic.{slice_cmp};
+ghost use Rattle.std.specs.List.{flat_map};
+ghost use Rattle.std.specs.List.Sorted.{IsNonDecreasingBy};
+ghost use Rattle.std.specs.Ordering.{nat_cmp};
 ghost use Rattle.kv_keys.specs.declared.error.KvError.TheVariants.{OutOfMemory};
-ghost use Rattle.kv_model.specs.Acts.{Act};
+ghost use Rattle.kv_keys.specs.Places.{fnv32_of};
+ghost use Rattle.kv_model.specs.Acts.{Act, is_put};
 ghost use Rattle.kv_model.specs.Reads.{keys_of};
-ghost use Rattle.kv_store.specs.inside.Selected.{key_put};
+ghost use Rattle.kv_model.specs.Retained.{latest, revisions};
+ghost use Rattle.kv_store.specs.inside.Selected.{last_numbered, last_of_entry, last_at_key};
 ghost use Rattle.kv_store.specs.Standing.{StandsFor};
+ghost use Rattle.kv_trie.specs.Form.{Ascends, order};
+ghost use Rattle.kv_trie.specs.Numbered.{lent};
 
+use crate::key_history::KeyHistory;
 use crate::version::Version;
+use crate::wanted::Wanted;
 use kv_keys::{Filter, Key, KvError};
-use kv_model::{Op, Start};
-use std::alloc::Global;
+use kv_trie::{Numbers, Trie};
+use std::alloc::{AllocError, Global};
 
-impl Version {
-    // The key of the write that is stored of the revision, where that is a put.
-    fn key_put_at(&self, revision: u64) -> Option<&Key>
-        ensures { option_copied result ≡ key_put revision self.now }
-    {
-        match self.write_at(revision) {
-            Some(write) => match write.op() {
-                Op::Put => Some(write.key()),
-                Op::Delete => None,
-                Op::Purge => None,
-            },
-            None => None,
+// Asks of a key for its last revision, where the key is wanted.
+#[derive(Drop)]
+struct Latest<'w, W> {
+    wanted: &'w W,
+}
+
+impl<'w, W: Wanted> Numbers<Key, KeyHistory> for Latest<'w, W> {
+    ghost use Rattle.std.specs.Prelude.{None, if◌then◌else◌};
+    ghost use Rattle.std.specs.List.{last_or};
+
+    ghost number = { λ asker key kept. if W.wants_key asker.wanted.now key then last_or None kept.revisions else None };
+
+    fn number(&self, key: &Key, kept: &KeyHistory) -> Option<u64> {
+        if self.wanted.wants(key) {
+            kept.revisions().last().copied()
+        } else {
+            None
         }
     }
+}
 
-    // The keys of the puts among the writes of these revisions, in this order.
-    fn keys_at(&self, alloc: Global, revisions: &[u64]) -> Result<Vec<&Key>, KvError>
-        ensures ok { IfOk result
-            (λ found. map (λ k. k.now) found.items ≡ filter_map (λ r. key_put r self.now) revisions.now) }
+// Adds what is stored of a key behind its last revision. The last write itself is not looked at: it lies elsewhere.
+fn add_last<'t>(
+    found: &mut Vec<(u64, &'t KeyHistory)>,
+    kept: &'t KeyHistory,
+) -> Result<(), AllocError>
+    ensures { IfOk result (λ _. lent found.new.items ≡ lent found.old.items ++ last_numbered kept.now) }
+{
+    if let Some(revision) = kept.revisions().last() {
+        found.push((*revision, kept))?;
+    }
+    Ok(())
+}
+
+// What is stored of these keys, by one look-up for each.
+fn last_looked_up<'t>(
+    alloc: Global,
+    by_key: &'t Trie<Key, KeyHistory>,
+    keys: &[Key],
+) -> Result<Vec<(u64, &'t KeyHistory)>, AllocError>
+    ensures { IfOk result (λ found. lent found.items ≡ flat_map (last_at_key by_key.now) keys.now) }
+{
+    let mut found = Vec::new(alloc);
+    for key in keys {
+        if let Some(kept) = by_key.get(key) {
+            add_last(&mut found, kept)?;
+        }
+    }
+    Ok(found)
+}
+
+// What is stored of wanted keys, in any order.
+fn last_found<'t, W: Wanted>(
+    alloc: Global,
+    by_key: &'t Trie<Key, KeyHistory>,
+    wanted: &W,
+) -> Result<Vec<(u64, &'t KeyHistory)>, KvError>
+    requires { Ascends (order (slice_cmp nat_cmp) fnv32_of 7) by_key.now }
+    ensures same { IfOk result
+        (λ found. IsPermutation (flat_map (last_of_entry (W.wants_key wanted.now)) by_key.now) (lent found.items)) }
+    ensures err { IfErr result (λ error. error ≡ OutOfMemory) }
+{
+    match wanted.literals(alloc)? {
+        Some(keys) => Ok(last_looked_up(alloc, by_key, &keys)?),
+        None => Ok(by_key.numbered(alloc, &Latest { wanted })?),
+    }
+}
+
+// What is stored of wanted keys, in the order of their last revisions. Where there is no key, none is made.
+fn last_sorted<'t, W: Wanted>(
+    alloc: Global,
+    by_key: &'t Trie<Key, KeyHistory>,
+    wanted: &W,
+) -> Result<Vec<(u64, &'t KeyHistory)>, KvError>
+    ensures keys { Ascends (order (slice_cmp nat_cmp) fnv32_of 7) by_key.now }
+    ensures same { IfOk result
+        (λ found. IsPermutation (flat_map (last_of_entry (W.wants_key wanted.now)) by_key.now) (lent found.items)) }
+    ensures sorted { IfOk result (λ found. IsNonDecreasingBy (λ f. f.0) found.items) }
+    ensures err { IfErr result (λ error. error ≡ OutOfMemory) }
+{
+    if by_key.len() == 0 {
+        return Ok(Vec::new(alloc));
+    }
+    let mut found = last_found(alloc, by_key, wanted)?;
+    found.sort_unstable_by_key(|f| f.0);
+    Ok(found)
+}
+
+// Keeps those whose last write is a put.
+fn keep_puts(found: &mut Vec<(u64, &KeyHistory)>)
+    ensures { found.new.items ≡ filter (λ f. is_put f.1.now.last.op) found.old.items }
+{
+    found.retain(|numbered| numbered.1.last().op().is_put());
+}
+
+// The last revisions of these.
+fn revisions_in(alloc: Global, entries: &[(u64, &KeyHistory)]) -> Result<Vec<u64>, AllocError>
+    ensures { IfOk result (λ found. found.items ≡ map (λ f. f.1.now.last.revision) entries.now) }
+{
+    let mut found = Vec::with_capacity(alloc, entries.len())?;
+    for numbered in entries {
+        found.push(numbered.1.last().revision())?;
+    }
+    Ok(found)
+}
+
+// The keys of these, as their last writes have them.
+fn keys_in<'t>(alloc: Global, entries: &[(u64, &'t KeyHistory)]) -> Result<Vec<&'t Key>, AllocError>
+    ensures { IfOk result (λ found. map (λ k. k.now) found.items ≡ map (λ f. f.1.now.last.key) entries.now) }
+{
+    let mut found = Vec::with_capacity(alloc, entries.len())?;
+    for numbered in entries {
+        found.push(numbered.1.last().key())?;
+    }
+    Ok(found)
+}
+
+impl Version {
+    // What is stored of the wanted keys whose latest write is a put, in the order of those writes. Keys that are wanted by
+    // name are looked up; else it looks at each key once. It sorts what it takes of the wanted ones, and only then looks at
+    // the writes, which mostly lie in that order. None is looked up by its revision: what is stored of a key leads to it.
+    fn latest_puts<W: Wanted>(
+        &self,
+        alloc: Global,
+        wanted: &W,
+    ) -> Result<Vec<(u64, &KeyHistory)>, KvError>
+        ensures ok { IfOk result (λ found. (acts : List Act) → StandsFor acts self.now →
+            map (λ f. f.1.now.last) found.items
+            ≡ filter (λ w. is_put w.op) (filter (λ w. W.wants_key wanted.now w.key) (latest acts))) }
         ensures err { IfErr result (λ e. e ≡ OutOfMemory) }
     {
-        let mut found = Vec::new(alloc);
-        for revision in revisions {
-            if let Some(key) = self.key_put_at(*revision) {
-                found.push(key)?;
-            }
-        }
+        let mut found = last_sorted(alloc, self.by_key(), wanted)?;
+        keep_puts(&mut found);
         Ok(found)
     }
 
+    /// The revisions of the latest entries that are puts of wanted keys, in order. It costs what [`Version::keys`] does.
+    pub fn puts_where<W: Wanted>(&self, alloc: Global, wanted: &W) -> Result<Vec<u64>, KvError>
+        ensures ok { IfOk result (λ found. (acts : List Act) → StandsFor acts self.now →
+            found.items ≡ revisions (filter (λ w. is_put w.op)
+            (filter (λ w. W.wants_key wanted.now w.key) (latest acts)))) }
+        ensures err { IfErr result (λ e. e ≡ OutOfMemory) }
+    {
+        let puts = self.latest_puts(alloc, wanted)?;
+        Ok(revisions_in(alloc, &puts)?)
+    }
+
     /// The keys that match and whose latest entry is a put, in the order of those puts' revisions. It looks up the key
-    /// of a filter without a wildcard, and else looks at each key once, sorts the latest revisions of those that match,
-    /// and looks up one write for each.
+    /// of a filter without a wildcard, and else looks at each key once, and sorts those that match by their latest
+    /// revisions. No write is looked up by its revision.
     pub fn keys(&self, alloc: Global, filter: &Filter) -> Result<Vec<&Key>, KvError>
         ensures ok { IfOk result
             (λ found. (acts : List Act) → StandsFor acts self.now →
             map (λ k. k.now) found.items ≡ keys_of filter.now acts) }
         ensures err { IfErr result (λ e. e ≡ OutOfMemory) }
     {
-        let revisions = self.revisions_where(alloc, filter, Start::Latest)?;
-        self.keys_at(alloc, &revisions)
+        let puts = self.latest_puts(alloc, filter)?;
+        Ok(keys_in(alloc, &puts)?)
     }
 }

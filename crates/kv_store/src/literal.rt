@@ -9,7 +9,7 @@ ghost use Rattle.kv_keys.specs.Matching.{any_matches};
 ghost use Rattle.kv_store.specs.Asked.{AreAsked};
 
 use kv_keys::{Key, KvError};
-use std::alloc::Global;
+use std::alloc::{AllocError, Global};
 
 // The filter as a key, where it is one. One with a wildcard takes no memory.
 fn literal(alloc: Global, filter: &str) -> Result<Option<Key>, KvError>
@@ -24,10 +24,9 @@ fn literal(alloc: Global, filter: &str) -> Result<Option<Key>, KvError>
 }
 
 // Adds the key, unless it is there.
-fn add_once(keys: &mut Vec<Key>, key: Key) -> Result<(), KvError>
-    ensures ok { OnOk result (keys.new.items
+fn add_once(keys: &mut Vec<Key>, key: Key) -> Result<(), AllocError>
+    ensures { OnOk result (keys.new.items
         ≡ (if list_any (λ k. bytes_eq k key) keys.old.items then keys.old.items else keys.old.items ++ key ∷ [])) }
-    ensures err { IfErr result (λ error. error ≡ OutOfMemory) }
 {
     if !keys.contains(&key) {
         keys.push(key)?;

@@ -12,7 +12,7 @@ use crate::version::Version;
 use kv_keys::{Key, KvError};
 use kv_model::Write;
 use kv_trie::NewPair;
-use std::alloc::Global;
+use std::alloc::{AllocError, Global};
 use std::marker::Model;
 use std::sync::Arc;
 
@@ -24,6 +24,7 @@ pub(crate) struct Made {
     values: u64,
 }
 
+// Field by field: a derived drop makes each proof longer that owns one.
 impl Drop for Made {
     fn drop(self) {
         let Self {
@@ -73,9 +74,8 @@ impl Made {
     }
 
     /// The same, for one version more.
-    pub fn share(&self) -> Result<Made, KvError>
-        ensures ok { IfOk result (λ made. made ≡ self.now) }
-        ensures err { IfErr result (λ e. e ≡ OutOfMemory) }
+    pub fn share(&self) -> Result<Made, AllocError>
+        ensures { IfOk result (λ made. made ≡ self.now) }
     {
         Ok(Made {
             of_key: Arc::try_clone(&self.of_key)?,

@@ -69,6 +69,7 @@ pub struct Ring {
     oldest: Option<Older>,
 }
 
+// Field by field: a derived drop makes each proof longer that owns one.
 impl Drop for Ring {
     fn drop(self) {
         let Self {

@@ -1,6 +1,6 @@
 //! Versions of a bucket.
 
-ghost use Rattle.std.specs.Prelude.{◌≡◌, ℕ, ◌==◌, [], ◌∷◌, ◌++◌, List, true, length, IfErr, IfOk};
+ghost use Rattle.std.specs.Prelude.{◌≡◌, ◌<◌, ◌^◌, ℕ, ◌==◌, [], ◌∷◌, ◌++◌, List, true, length, IfErr, IfOk};
 ghost use Rattle.std.specs.Map.{lookup};
 ghost use Rattle.std.specs.Option.{option_copied, option_map};
 ghost use Rattle.std.specs.Str.{bytes_eq};
@@ -32,6 +32,7 @@ pub struct Version {
     pub(crate) inner: Arc<Inner>,
 }
 
+// Field by field: a derived drop makes each proof longer that owns one.
 impl Drop for Version {
     fn drop(self) {
         let Self { inner: _ } = self;
@@ -127,6 +128,7 @@ impl Version {
     /// The last revision, 0 where nothing was written.
     pub fn revision(&self) -> u64
         ensures value { result ≡ self.now.last }
+        ensures small { result < 2 ^ 32 }
         ensures acts { (acts : List Act) → StandsFor acts self.now → result ≡ length (writes_of acts) }
     {
         self.inner.last

@@ -24,6 +24,7 @@ pub struct Pending<K, V> {
     what: Snapshot<Pair<K, V>>,
 }
 
+// Field by field: a derived drop makes each proof longer that owns one.
 impl<K: Drop, V: Drop> Drop for Pending<K, V> {
     fn drop(self) {
         let Self {

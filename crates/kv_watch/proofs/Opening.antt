@@ -22,19 +22,34 @@ use Rattle.kv_watch.proofs.Walks.{counts, behind_counted}
 
 -- ---- what is owed
 
--- of writes that are stored, the revisions of the puts are those of what is shown where deletes are ignored
-puts_shown : (base : Stored) (start : Start) (headers_only : Bool) (ws : List Write) → ((w : Write) → Contains ws w → write_at w.revision base ≡ Some w)
-    → filter (is_put_at base) (revisions ws) ≡ item_revisions (all_shown (record { start = start; ignore_deletes = true; headers_only = headers_only }) ws)
-puts_shown base start headers_only [] h = refl
-puts_shown base start headers_only (w ∷ ws) h =
+-- of writes that are stored, the revisions that a look-up tells to be those of puts
+puts_stored : (base : Stored) (ws : List Write) → ((w : Write) → Contains ws w → write_at w.revision base ≡ Some w) → filter (is_put_at base) (revisions ws) ≡ revisions (filter (λ w. is_put w.op) ws)
+puts_stored base [] h = refl
+puts_stored base (w ∷ ws) h =
     let here : is_put_at base w.revision ≡ is_put w.op = ap (λ o. option_map_or (λ v. is_put v.op) o false) (h w (Contains-here w ws)) in
-    let rest = puts_shown base start headers_only ws (λ v m. h v (Contains-there w ws v m)) in
+    let rest = puts_stored base ws (λ v m. h v (Contains-there w ws v m)) in
     ap (λ b. cond b (w.revision ∷ filter (is_put_at base) (revisions ws)) (filter (is_put_at base) (revisions ws))) here
     ∙ by_put (is_put w.op) rest
   where
+    by_put : (b : Bool) → filter (is_put_at base) (revisions ws) ≡ revisions (filter (λ v. is_put v.op) ws) → cond b (w.revision ∷ filter (is_put_at base) (revisions ws)) (filter (is_put_at base) (revisions ws)) ≡ revisions (cond b (w ∷ filter (λ v. is_put v.op) ws) (filter (λ v. is_put v.op) ws))
+    by_put true rest = ap (λ rs. w.revision ∷ rs) rest
+    by_put false rest = rest
+
+-- so of the initial writes
+pub puts_selected : (acts : List Act) (base : Stored) → StandsFor acts base → (filters : List (List ℕ)) (start : Start)
+    → let ws = matching filters (initial base.config.history start acts) in
+    filter (is_put_at base) (revisions ws) ≡ revisions (filter (λ w. is_put w.op) ws)
+puts_selected acts base s filters start =
+    puts_stored base (matching filters (initial base.config.history start acts)) (λ w m. initial_stored acts base start w s (Contains-from_filter (λ v. any_matches filters v.key) (initial base.config.history start acts) w m).0)
+
+-- the puts are what is shown where deletes are ignored
+puts_shown : (start : Start) (headers_only : Bool) (ws : List Write) → revisions (filter (λ w. is_put w.op) ws) ≡ item_revisions (all_shown (record { start = start; ignore_deletes = true; headers_only = headers_only }) ws)
+puts_shown start headers_only [] = refl
+puts_shown start headers_only (w ∷ ws) = by_put (is_put w.op) (puts_shown start headers_only ws)
+  where
     by_put : (b : Bool)
-        → filter (is_put_at base) (revisions ws) ≡ item_revisions (all_shown (record { start = start; ignore_deletes = true; headers_only = headers_only }) ws)
-        → cond b (w.revision ∷ filter (is_put_at base) (revisions ws)) (filter (is_put_at base) (revisions ws))
+        → revisions (filter (λ v. is_put v.op) ws) ≡ item_revisions (all_shown (record { start = start; ignore_deletes = true; headers_only = headers_only }) ws)
+        → revisions (cond b (w ∷ filter (λ v. is_put v.op) ws) (filter (λ v. is_put v.op) ws))
         ≡ item_revisions (cons_option (cond (not b) None (Some (AnEntry (entry_of headers_only w)))) (all_shown (record { start = start; ignore_deletes = true; headers_only = headers_only }) ws))
     by_put true rest = ap (λ rs. w.revision ∷ rs) rest
     by_put false rest = rest
@@ -43,13 +58,11 @@ all_revisions : (start : Start) (headers_only : Bool) (ws : List Write) → revi
 all_revisions start headers_only [] = refl
 all_revisions start headers_only (w ∷ ws) = ap (λ rs. w.revision ∷ rs) (all_revisions start headers_only ws)
 
--- without markers where deletes are ignored, the initial revisions are those of what is shown
-pub owed_shown : (acts : List Act) (base : Stored) → StandsFor acts base → (filters : List (List ℕ)) (start : Start) (ignore_deletes headers_only : Bool)
-    → let ws = matching filters (initial base.config.history start acts) in
-    cond ignore_deletes (filter (is_put_at base) (revisions ws)) (revisions ws) ≡ item_revisions (all_shown (record { start = start; ignore_deletes = ignore_deletes; headers_only = headers_only }) ws)
-owed_shown acts base s filters start true headers_only =
-    puts_shown base start headers_only (matching filters (initial base.config.history start acts)) (λ w m. initial_stored acts base start w s (Contains-from_filter (λ v. any_matches filters v.key) (initial base.config.history start acts) w m).0)
-owed_shown acts base s filters start false headers_only = all_revisions start headers_only (matching filters (initial base.config.history start acts))
+-- without markers where deletes are ignored, the revisions of writes are those of what is shown
+pub owed_shown : (start : Start) (ignore_deletes headers_only : Bool) (ws : List Write)
+    → cond ignore_deletes (revisions (filter (λ w. is_put w.op) ws)) (revisions ws) ≡ item_revisions (all_shown (record { start = start; ignore_deletes = ignore_deletes; headers_only = headers_only }) ws)
+owed_shown start true headers_only ws = puts_shown start headers_only ws
+owed_shown start false headers_only ws = all_revisions start headers_only ws
 
 -- ---- in place at the opening
 

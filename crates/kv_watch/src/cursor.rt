@@ -40,6 +40,7 @@ pub struct Cursor {
     handed: u64,
 }
 
+// Field by field: a derived drop makes each proof longer that owns one.
 impl Drop for Cursor {
     fn drop(self) {
         let Self {

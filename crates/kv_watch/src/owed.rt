@@ -3,7 +3,7 @@
 ghost use Rattle.std.specs.Prelude.{◌≡◌, false, List, filter, reverse, IfOk, IfErr};
 ghost use Rattle.std.specs.Option.{option_map_or};
 ghost use Rattle.kv_keys.specs.declared.error.KvError.TheVariants.{OutOfMemory};
-ghost use Rattle.kv_model.specs.Acts.{Act};
+ghost use Rattle.kv_model.specs.Acts.{Act, is_put};
 ghost use Rattle.kv_model.specs.Retained.{revisions};
 ghost use Rattle.kv_store.specs.Standing.{StandsFor};
 ghost use Rattle.kv_watch.specs.Following.{marker_if};
@@ -29,10 +29,7 @@ pub(crate) fn owed_at_opening(
         (initial base.now.config.history options.start acts)))) }
     ensures err { IfErr result (λ e. e ≡ OutOfMemory) }
 {
-    let mut owed = initial_revisions(alloc, base, filters, options.start)?;
-    if options.ignore_deletes {
-        drop_markers(base, &mut owed);
-    }
+    let mut owed = shown_revisions(alloc, base, filters, options)?;
     owed.reverse();
     Ok(owed)
 }
@@ -46,6 +43,26 @@ pub(crate) fn owes_marker(start: Start) -> bool
         Start::History => true,
         Start::Updates => false,
         Start::From(_) => true,
+    }
+}
+
+// The revisions of the entries that a watch begins with and shows, in order.
+fn shown_revisions(
+    alloc: Global,
+    base: &Version,
+    filters: &Filters,
+    options: Options,
+) -> Result<Vec<u64>, KvError>
+    ensures ok { IfOk result (λ found. (acts : List Act) → StandsFor acts base.now →
+        found.items
+        ≡ item_revisions (all_shown options (matching filters.now
+        (initial base.now.config.history options.start acts)))) }
+    ensures err { IfErr result (λ e. e ≡ OutOfMemory) }
+{
+    if options.ignore_deletes {
+        initial_puts(alloc, base, filters, options.start)
+    } else {
+        initial_revisions(alloc, base, filters, options.start)
     }
 }
 
@@ -65,6 +82,29 @@ fn initial_revisions(
             base.revisions_where(alloc, filters, start)
         }
         Start::Updates => Ok(Vec::new(alloc)),
+    }
+}
+
+// The revisions of the puts among the entries that a watch begins with, in order. The latest entries are in the hand once
+// the keys are; of earlier ones each is looked up.
+fn initial_puts(
+    alloc: Global,
+    base: &Version,
+    filters: &Filters,
+    start: Start,
+) -> Result<Vec<u64>, KvError>
+    ensures ok { IfOk result (λ found. (acts : List Act) → StandsFor acts base.now →
+        found.items ≡ revisions (filter (λ w. is_put w.op)
+        (matching filters.now (initial base.now.config.history start acts)))) }
+    ensures err { IfErr result (λ e. e ≡ OutOfMemory) }
+{
+    match start {
+        Start::Latest => base.puts_where(alloc, filters),
+        Start::History | Start::Updates | Start::From(_) => {
+            let mut found = initial_revisions(alloc, base, filters, start)?;
+            drop_markers(base, &mut found);
+            Ok(found)
+        }
     }
 }
 

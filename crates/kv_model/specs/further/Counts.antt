@@ -1,13 +1,9 @@
--- What a watch counts, and how it goes on through calls that it was there before.
-use Rattle.std.specs.Prelude.{◌≡◌, ℕ, ◌+◌, ◌≤◌, false, List, [], ◌∷◌, ◌++◌, Option, Some, None, ⊤, length, take, drop, slice_get}
-use Rattle.std.specs.List.Sorted.{IsStrictlyIncreasing}
-use Rattle.kv_model.specs.Acceptance.{IsLawful}
+-- What a watch counts, and how it goes on through calls.
+use Rattle.std.specs.Prelude.{◌≡◌, ℕ, ◌≤◌, false, List, [], Option, Some, None, ⊤, length, take}
 use Rattle.kv_model.specs.Acts.{Act, IsPrefix}
-use Rattle.kv_model.specs.Given.{Item, item_revisions}
+use Rattle.kv_model.specs.Given.{Item}
 use Rattle.kv_model.specs.declared.call.Call.{Call}
 use Rattle.kv_model.specs.declared.call.Call.TheVariants as ask
-use Rattle.kv_model.specs.Answers.{Answer, Empty, Ended}
-use Rattle.kv_model.specs.Runs.{run, items_for}
 use Rattle.kv_model.specs.State.{State, Watch, watch_at, given_to}
 
 -- a watch was handed the first items of what it is given, as many as it counts
@@ -40,22 +36,3 @@ pub record GoesOn (before watch : Watch) : Type 0 where
   pub handed : before.handed ≤ watch.handed
   pub stays_stopped : before.is_open ≡ false → watch.is_open ≡ false
   pub counts_no_more : before.is_open ≡ false → watch.handed ≡ before.handed
-
--- the watch theorem for one watch that was there before the calls: among the answers, the items from its takes are, in
--- order, the next of what it is given by the acts so far, behind those that it counted before; where a take is answered
--- Empty, none is left by then; it counts them on; a stop of it answers the count, and none comes after; and no entry
--- comes twice
-pub record TellsOn (s : State) (calls : List Call) (answers : List Answer) (number : ℕ) (watch : Watch) : Type 0 where
-  pub prefix : IsPrefix (items_for number calls answers)
-      (drop watch.handed (given_to s.config.history (run s calls).acts watch))
-  pub all : (earlier later : List Call) → calls ≡ earlier ++ ask.Take number ∷ later →
-      slice_get answers (length earlier) ≡ Some Empty →
-      items_for number earlier answers ≡ drop watch.handed (given_to s.config.history (run s earlier).acts watch)
-  pub counted : (now : Watch) × (watch_at number (run s calls).watches ≡ Some now) ×
-      (now.handed ≡ watch.handed + length (items_for number calls answers))
-  pub stopped : (earlier later : List Call) (handed : ℕ) → calls ≡ earlier ++ ask.Stop number ∷ later →
-      slice_get answers (length earlier) ≡ Some (Ended handed) →
-      (handed ≡ watch.handed + length (items_for number calls answers)) ×
-      (items_for number later (drop (length earlier + 1) answers) ≡ [])
-  pub once : IsLawful s.config (run s calls).acts →
-      IsStrictlyIncreasing (item_revisions (items_for number calls answers))

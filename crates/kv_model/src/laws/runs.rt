@@ -10,11 +10,11 @@ ghost use Rattle.kv_model.specs.Given.{given};
 ghost use Rattle.kv_model.specs.declared.call.Call.{Call};
 ghost use Rattle.kv_model.specs.declared.call.Call.TheVariants.{Watch, Take, Stop};
 ghost use Rattle.kv_model.specs.Answers.{Watching, Empty, Ended, Refused};
-ghost use Rattle.kv_model.specs.Runs.{run, answers_to, items_in};
+ghost use Rattle.kv_model.specs.Runs.{run, answers_to, items_in, transcript};
 ghost use Rattle.kv_model.specs.further.Meeting.{may_add_act, compacts, bears_on, meetings_of};
 ghost use Rattle.kv_model.specs.State.{State, Watch as AWatch, watch_at, open_count, empty, after, answer_to};
-ghost use Rattle.kv_model.specs.further.Counts.{GoesOn, IsOther, TellsWatch, TellsOn};
-ghost use Rattle.kv_model.specs.Told.{TellsEachWatch};
+ghost use Rattle.kv_model.specs.further.Counts.{GoesOn, IsOther, TellsWatch};
+ghost use Rattle.kv_model.specs.Told.{Tells, TellsEachWatch};
 
 /// Each watch was handed the first items of what it is given, as many as it counts.
 pub fn counts_what_is_told()
@@ -56,7 +56,7 @@ pub fn others_leave_it()
 
 /// The watch theorem: what is said of each watch that calls opened.
 pub fn tells_each_watch()
-    ensures { (state : State) (calls : List Call) → TellsEachWatch state calls (answers_to state calls) }
+    ensures { (state : State) (calls : List Call) → TellsEachWatch state (transcript state calls) }
 {}
 
 /// No call is answered with want of memory: where it is met, there is no reply.
@@ -78,7 +78,7 @@ pub fn runs_join()
 pub fn tells_on()
     ensures { (config : Configuration) (before calls : List Call) (number : ℕ) (watch : AWatch) →
         watch_at number (run (empty config) before).watches ≡ Some watch →
-        TellsOn (run (empty config) before) calls (answers_to (run (empty config) before) calls) number watch }
+        Tells (run (empty config) before) (transcript (run (empty config) before) calls) number watch }
 {}
 
 /// A call that is no write, no seal and no compaction leaves the acts as they are.

@@ -1,26 +1,18 @@
-use Rattle.std.proofs.Common.{◌≡◌, ℕ, sym, subst, ap, ◌∙◌}
+use Rattle.std.proofs.Common.{sym, subst, ap, ◌∙◌}
 use Rattle.std.specs.List.{flat_map}
 use Rattle.std.specs.List.Sorted.{IsPermutation}
-use Rattle.std.specs.declared.alloc.Global.{Global}
-use Rattle.std.specs.declared.vec.Vec.{Vec}
 use Rattle.kv_keys.specs.Places.{fnv32_of}
 use Rattle.kv_store.specs.Asked.{AreAsked}
 use Rattle.kv_store.specs.inside.Selected.{initial_at, initial_of}
 use Rattle.kv_store.proofs.LookingUp.{looked_up_all}
-use Rattle.kv_store.proofs.Outcomes.{then_ok}
 use Rattle.kv_store.proofs.gather.found_of.Goals as goal
 
-pub returns-in-Some-clause-same : goal.returns-in-Some-clause-same
-returns-in-Some-clause-same g c =
+pub returns-in_ok-looked_up-in-Some-clause-same : goal.returns-in_ok-looked_up-in-Some-clause-same
+returns-in_ok-looked_up-in-Some-clause-same g c =
     let wants = g.W.Wanted.wants_key c.args.wanted.now in
     let start = c.args.start in
     let entries = c.args.by_key.now in
     let keys = c.in-Some.keys.items in
     let asked : AreAsked wants keys = rw c.in-Some.is at c.in_ok-keys.ensures.asked in
-    let all = looked_up_all wants start keys fnv32_of entries asked c.requires in
-    then_ok c.looked_up.result
-    (λ (found : Vec ℕ Global). found.items ≡ flat_map (initial_at c.args.start c.args.by_key.now) c.deref.result.now)
-    (λ (found : Vec ℕ Global). IsPermutation (flat_map (initial_of (g.W.Wanted.wants_key c.args.wanted.now) c.args.start) c.args.by_key.now) found.items)
-    c.looked_up.ensures.same
-    (λ found same.
-    subst (λ l. IsPermutation (flat_map (initial_of wants start) entries) l) (sym (same ∙ ap (flat_map (initial_at start entries)) c.deref.ensures.value)) all)
+    subst (λ l. IsPermutation (flat_map (initial_of wants start) entries) l) (sym (c.in_ok-looked_up-in-Some.ensures ∙ ap (flat_map (initial_at start entries)) c.deref.ensures.value))
+    (looked_up_all wants start keys fnv32_of entries asked c.requires)

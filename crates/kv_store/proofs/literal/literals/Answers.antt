@@ -18,7 +18,7 @@ loop-filter-preserved c =
     let keys = c.loop-filter.keys.items in
     let f = c.in-Some.filter in
     let both = rw c.in-Some-2.is at c.in_ok-key.ensures.ok in
-    let added = c.in_ok-add_once-in-Some-2.ensures.ok ∙ ap (λ k. cond (list_any (λ x. bytes_eq x k) keys) keys (keys ++ k ∷ [])) both.0 in
+    let added = c.in_ok-add_once-in-Some-2.ensures ∙ ap (λ k. cond (list_any (λ x. bytes_eq x k) keys) keys (keys ++ k ∷ [])) both.0 in
     subst (λ fs. AreAsked (any_matches fs) c.add_once.new.keys.items) (sym (map-append (λ g. g.now) before (f ∷ [])))
     (subst (AreAsked (any_matches (map (λ g. g.now) before ++ f.now ∷ []))) (sym added) (asked_once (map (λ g. g.now) before) keys f.now both.1 c.loop-filter.invariant))
 

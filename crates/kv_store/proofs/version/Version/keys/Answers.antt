@@ -1,14 +1,15 @@
 use Rattle.std.proofs.Common.{ap, ◌∙◌}
-use Rattle.std.specs.List.{filter_map}
-use Rattle.kv_store.specs.inside.Selected.{key_put}
-use Rattle.kv_store.proofs.Outcomes.{then_ok}
-use Rattle.kv_store.proofs.Reading.{keys_found}
+use Rattle.std.specs.Prelude.{map}
+use Rattle.kv_keys.specs.Matching.{matches}
+use Rattle.kv_model.specs.Acts.{Write, is_put}
+use Rattle.kv_model.specs.Retained.{latest}
+use Rattle.kv_model.proofs.Members.{filter-filter}
+use Rattle.kv_store.proofs.Latest.{read_through}
 use Rattle.kv_store.proofs.version.Version.keys.Goals as goal
 
 pub returns-clause-ok : goal.returns-clause-ok
-returns-clause-ok c =
-    let version = c.args.self.now in
-    then_ok c.keys_at.result _ _ c.keys_at.ensures.ok (λ found same acts stands.
-    same
-    ∙ ap (filter_map (λ r. key_put r version)) (c.deref.ensures.value ∙ c.in_ok-revisions.ensures.ok acts stands)
-    ∙ keys_found acts version c.args.filter.now stands)
+returns-clause-ok c = λ acts stands.
+    c.in_ok-keys_in.ensures
+    ∙ ap (map (λ f. f.1.now.last.key)) c.deref.ensures.value
+    ∙ read_through (λ w. w.key) c.in_ok-puts.puts.items
+    ∙ ap (map (λ (w : Write). w.key)) (c.in_ok-puts.ensures.ok acts stands ∙ filter-filter (λ w. is_put w.op) (λ w. matches c.args.filter.now w.key) (latest acts))
