@@ -21,7 +21,7 @@ only_none : {A : Type 0} (xs : List A) → IsPrefix xs [] → [] ≡ xs
 only_none [] p = refl
 only_none (x ∷ xs) p = absurd (cc (p.1))
 
-lawful_under : (config : Configuration) (acts : List Act) (version : Stored) → version.config ≡ config → StandsFor acts version → IsLawful config acts
+pub lawful_under : (config : Configuration) (acts : List Act) (version : Stored) → version.config ≡ config → StandsFor acts version → IsLawful config acts
 lawful_under config acts version same stands = subst (λ (c : Configuration). IsLawful c acts) same stands.lawful
 
 -- with no acts it has the empty version

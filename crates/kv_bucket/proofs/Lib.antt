@@ -7,3 +7,4 @@ pub mod Once
 pub mod Owing
 pub mod Sent
 pub mod Somewhere
+pub mod Batching

@@ -1,3 +1,4 @@
+pub mod Batches
 pub mod Feeding
 pub mod Histories
 pub mod Keeping

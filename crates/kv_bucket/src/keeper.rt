@@ -89,11 +89,14 @@ impl<N: LiveName> Keeper<N> {
         self.publisher.history();
     }
 
-    /// The bucket.
+    /// The bucket. What is published is one lawful history, of which all that was seen or told of N is a beginning: a list
+    /// of acts, and a version for each beginning of it.
     pub fn bucket(&self) -> &Bucket
         ensures value { result.now ≡ self.now.bucket }
         ensures state { IsSomewhere N.opening.config self.now }
+        ensures history { IsPublishedHistory N.opening.config self.now.published }
     {
+        self.publisher.history();
         &self.bucket
     }
 

@@ -2,6 +2,7 @@
 //! the log of `kv_publish`. It hands on the names of `kv_single`, so that one crate is enough for who shares a bucket.
 #![tactic(auto)]
 
+mod batch;
 mod cached;
 mod feed;
 mod keeper;
@@ -12,14 +13,15 @@ mod publisher;
 mod reader;
 mod receipt;
 
+pub use batch::BatchReceipt;
 pub use cached::Cached;
 pub use feed::Feed;
 pub use keeper::Keeper;
 pub use kv_publish::{LiveName, Woken};
 pub use kv_single::{
-    Bucket, Call, Config, Cursor, Event, Filter, Filters, Key, KeyHistory, KvError, Op, Options,
-    Place, Reply, Request, Rev, Seen, Short, Shown, Start, Status, Stopped, Taken, Trie, Version,
-    Visit, Write, fnv32, given,
+    BatchRefused, Bucket, Call, Config, Cursor, Event, Filter, Filters, Key, KeyHistory, KvError,
+    Op, Options, Place, Reply, Request, Rev, Seen, Short, Shown, Start, Status, Stopped, Taken,
+    Trie, Version, Visit, Write, fnv32, given,
 };
 pub use live::{Live, Opened};
 pub use reader::Reader;

@@ -36,6 +36,7 @@ pub struct Opened {
     readers: usize,
 }
 
+// Field by field: a derived drop makes each proof longer that owns one.
 impl Drop for Opened {
     fn drop(self) {
         let Self {
@@ -65,7 +66,7 @@ impl Model for Opened {
 
 /// The bucket of the opening N. Threads share it by reference. It is not `Drop`: end it by `close`.
 pub struct Live<N: LiveName> {
-    keeper: Mutex<Keeper<N>>,
+    pub(crate) keeper: Mutex<Keeper<N>>,
     /// It tells the readers that sleep.
     notifier: Notifier<N>,
 }

@@ -22,6 +22,7 @@ pub struct Progress<N: LiveName> {
     taken_in: u64,
 }
 
+// Field by field: a derived drop makes each proof longer that owns one.
 impl<N: LiveName> Drop for Progress<N> {
     fn drop(self) {
         let Self {

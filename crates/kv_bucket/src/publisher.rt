@@ -8,13 +8,16 @@ ghost use Rattle.kv_bucket.specs.Known.{IsUnread};
 ghost use Rattle.kv_bucket.specs.Histories.{IsPublishedHistory};
 ghost use Rattle.kv_bucket.specs.Receipts.{EndsAt};
 ghost use Rattle.kv_publish.specs.Publications.{IsOf};
+ghost use Rattle.kv_publish.specs.Steps.{acts_from, step_of};
+ghost use Rattle.kv_bucket.specs.inside.Beginnings.{HasBeginnings};
 
 use crate::reader::Reader;
 use crate::receipt::{Mark, Receipt};
 use kv_keys::KvError;
+use kv_model::Request;
 use kv_publish::{
     DoubleBuffer, FreshJournal, GhostAct, Journal, LastPublished, LiveName, Notifier, Prefix,
-    Publication, Right,
+    Publication, Right, Step,
 };
 use kv_store::Version;
 use std::alloc::Global;
@@ -105,6 +108,28 @@ fn show<N: LiveName, R: Wait>(
     buffer.publish(rt, publication)
 }
 
+// Adds the writes of a batch to the history in one step, and publishes the version after it.
+fn show_all<N: LiveName, R: Wait>(
+    rt: &R,
+    journal: &mut Journal<N>,
+    buffer: DoubleBuffer<N>,
+    requests: &[Request],
+    revision: u64,
+    version: Version,
+) -> (DoubleBuffer<N>, Step<N>)
+    requires room { length journal.old < 2 ^ 62 }
+    requires small { revision < 2 ^ 32 }
+    requires stands { StandsFor (journal.old ++ acts_from revision requests.now) version }
+    requires config { version.config ≡ N.opening.config }
+    ensures added { journal.new ≡ journal.old ++ acts_from revision requests.now }
+    ensures shown { result.0 ≡ journal.new }
+    ensures step { result.1 ≡ step_of journal.old journal.new }
+{
+    let step = journal.add_all(requests, revision);
+    let publication = Publication::new(version, journal.raw_prefix());
+    (buffer.publish(rt, publication), step)
+}
+
 // Puts the copies in their place, which is empty. What stands there would end.
 fn put<N: LiveName, R: Wait>(
     rt: &R,
@@ -174,6 +199,42 @@ impl<N: LiveName> Publisher<N> {
         put(rt, &mut self.buffer, Some(buffer));
         self.notifier.notify();
         Ok(())
+    }
+
+    /// Publishes the writes of a batch in one step, the first with this revision, with the version after them: as
+    /// `publish`. Nobody sees what is published between two of them.
+    pub fn publish_all<R: Wait>(
+        &mut self,
+        rt: &R,
+        requests: &[Request],
+        revision: u64,
+        next: &Version,
+    ) -> Result<Step<N>, KvError>
+        requires small { revision < 2 ^ 32 }
+        requires stands { StandsFor (self.old ++ acts_from revision requests.now) next.now }
+        requires config { next.now.config ≡ N.opening.config }
+        requires each { HasBeginnings N.opening.config self.old (acts_from revision requests.now) }
+        ensures ok { OnOk result (self.new ≡ self.old ++ acts_from revision requests.now) }
+        ensures step { IfOk result (λ step. step ≡ step_of self.old self.new) }
+        ensures err { IfErr result (λ e. e ≡ OutOfMemory) }
+        ensures unchanged { OnErr result (self.new ≡ self.old) }
+    {
+        let version = next.snapshot()?;
+        await_room(rt, &self.journal);
+        let Some(buffer) = self.buffer.take() else {
+            unreachable!()
+        };
+        let (shown, step) = show_all(rt, &mut self.journal, buffer, requests, revision, version);
+        put(rt, &mut self.buffer, Some(shown));
+        self.notifier.notify_of(requests.len() as u64);
+        Ok(step)
+    }
+
+    /// The step of no act, behind all that is published.
+    pub fn no_step(&self) -> Step<N>
+        ensures { result ≡ step_of self.now self.now }
+    {
+        self.journal.no_step()
     }
 
     // It does nothing: who calls it knows that what is published is a published history.

@@ -33,6 +33,7 @@ pub struct Reader<N: LiveName> {
     empty: Publication,
 }
 
+// Field by field: a derived drop makes each proof longer that owns one.
 impl<N: LiveName> Drop for Reader<N> {
     fn drop(self) {
         let Self {

@@ -3,3 +3,4 @@ pub mod Publishing
 pub mod Seeing
 pub mod Sent
 pub mod Stepping
+pub mod Steps

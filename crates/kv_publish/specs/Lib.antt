@@ -1,5 +1,6 @@
 pub mod Prefixes
 pub mod Openings
 pub mod Rules
+pub mod Steps
 pub mod Publications
 pub mod inside

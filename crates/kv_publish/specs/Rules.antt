@@ -1,19 +1,32 @@
 -- The rule of the history, and what its steps tell.
-use Rattle.std.specs.Prelude.{ℕ, ◌≡◌, ◌<◌, true, List, [], ◌∷◌, ◌++◌, length, map}
+use Rattle.std.specs.Prelude.{ℕ, ◌≡◌, ◌+◌, ◌-◌, ◌≤◌, ◌<◌, Bool, true, false, List, [], ◌∷◌, ◌++◌, length, map, slice_get}
+use Rattle.std.specs.Option.{option_map_or}
 use Rattle.logbook.specs.Pages.{Cell, Step, View, Book, Named, cell, nib, may_make, may_write}
 use Rattle.kv_model.specs.Acts.{Act, Seal, IsPrefix}
 use Rattle.kv_publish.specs.declared.entry.Entry.{Entry}
 
-abbrev pub entry : Act → ℕ → Entry
-entry act next = record { ghost_act = act; next = next }
+abbrev pub entry : Act → Bool → ℕ → Entry
+entry act ends next = record { ghost_act = act; ends = ends; next = next }
 
 -- stands where a step asks for nothing
 abbrev pub no_entry : Entry
-no_entry = entry Seal 0
+no_entry = entry Seal true 0
 
 -- the acts of a history
 abbrev pub acts_in : List Entry → List Act
 acts_in log = map (λ e. e.ghost_act) log
+
+-- whether a step ends with the entry at a place; where there is none, none goes on
+abbrev pub ends_at : List Entry → ℕ → Bool
+ends_at log i = option_map_or (λ e. e.ends) (slice_get log i) true
+
+-- the last of these entries ends a step, if there is one
+abbrev pub IsWhole : List Entry → Type 0
+IsWhole log = ends_at log (length log - 1) ≡ true
+
+-- from this place on they are one step: none of them ends one but the last
+abbrev pub IsStepFrom : ℕ → List Entry → Type 0
+IsStepFrom before log = (i : ℕ) → before ≤ i → i + 1 < length log → ends_at log i ≡ false
 
 -- the cell whose pen is the right to add an entry behind these, where the one behind nothing is `first`
 abbrev pub right_behind : ℕ → List Entry → ℕ

@@ -1,34 +1,21 @@
 //! The history, with the one right to add to it.
 
-ghost use Rattle.std.specs.Prelude.{◌≡◌, ◌<◌, ◌^◌, ◌++◌, ◌∷◌, [], true, false, length};
+ghost use Rattle.std.specs.Prelude.{◌≡◌, ◌≤◌, ◌<◌, ◌^◌, ◌+◌, ◌++◌, ◌∷◌, [], true, false, length};
 ghost use Rattle.logbook.specs.Pages.{nib, may_write};
 ghost use Rattle.kv_model.specs.Acts.{IsPrefix};
-ghost use Rattle.kv_publish.specs.Rules.{IsSide, head_of};
+ghost use Rattle.kv_publish.specs.Rules.{IsSide, IsStepFrom, IsWhole, acts_in, head_of};
+ghost use Rattle.kv_publish.specs.Steps.{acts_from, step_of};
 
 use crate::entry::Entry;
 use crate::ghost_act::GhostAct;
 use crate::prefix::{Prefix, RawPrefix};
-use crate::protocol::{
-    Adds, Anchor, Claim, Empty, LiveName, Looks, Makes, Noted, Nothing, Witness,
-};
+use crate::protocol::{Anchor, Empty, LiveName, Witness};
+use crate::raw_journal::{RawJournal, make_right};
 use crate::side::Right;
-use logbook::{Offer, Pen, Seen, Start};
-use std::marker::{Model, PhantomData};
-
-// A right to add an entry, once it is named as the one for the next entry; and whether no right was ever made before.
-fn make_right(head: &Anchor, witness: &Witness) -> (Pen, bool)
-    requires { head.now ≡ head_of witness.now.book }
-    ensures book { result.0.book ≡ witness.now.book }
-    ensures right { result.0.nib ≡ nib may_write result.0.nib.key 0 }
-    ensures first { result.1 ≡ true → result.0.nib.key ≡ 3 }
-{
-    let mut look = witness.again();
-    let mut offer: Offer<Entry, u64, Noted, Nothing> = look.plain::<Nothing, (), Makes>(&());
-    let mut pen = look.no_pen();
-    let found = head.compare_exchange::<Makes, Nothing>(0, 1, &mut look, &mut offer, &mut pen);
-    drop(Anchor::tracked(0, &mut pen));
-    (pen, found == 0)
-}
+use crate::step::Step;
+use kv_model::Request;
+use logbook::{Pen, Seen, Start};
+use std::marker::Model;
 
 /// An empty history, which has no name yet.
 #[derive(Drop)]
@@ -81,40 +68,47 @@ impl FreshJournal {
             witness,
         } = self;
         let journal = Journal {
-            acts: 0,
-            witness,
-            head,
-            pen,
-            of: PhantomData,
+            raw: RawJournal::new(witness, head, pen),
         };
         (journal, Right::new(first), Right::new(second))
     }
 }
 
 /// The history of N, with the one right to add to it. So it is known whole: nothing is in it that is not here. It lies
-/// under the lock. Contracts see it as its acts.
+/// under the lock. It grows by steps: of one act, or of several that are published in one. Contracts see it as its acts.
 #[derive(Drop)]
 pub struct Journal<N: LiveName> {
-    acts: u64,
-    witness: Witness,
-    head: Anchor,
-    pen: Pen,
-    of: PhantomData<N>,
+    raw: RawJournal<N>,
 }
 
 impl<N: LiveName> Model for Journal<N> {
-    ghost use Rattle.std.specs.Prelude.{◌≡◌, List, length};
+    ghost use Rattle.std.specs.Prelude.{List};
     ghost use Rattle.kv_model.specs.Acts.{Act};
-    ghost use Rattle.logbook.specs.Pages.{nib, may_write};
-    ghost use Rattle.kv_publish.specs.Rules.{acts_in, head_of, right_behind};
+    ghost use Rattle.kv_publish.specs.Rules.{IsWhole, acts_in};
 
     ghost Value = { List Act };
 
-    ghost view = { λ w. acts_in w.witness.log };
+    ghost view = { λ w. acts_in w.raw };
 
-    ghost invariant = { λ w. (w.acts ≡ length w.witness.log) × (w.witness.book ≡ N.opening.book) ×
-        (w.head ≡ head_of N.opening.book) × (w.pen.book ≡ N.opening.book) ×
-        (w.pen.nib ≡ nib may_write (right_behind 3 w.witness.log) 0) };
+    ghost invariant = { λ w. IsWhole w.raw };
+}
+
+// Adds the writes for these requests, the first with this revision, to a history that so many acts were in: the last of
+// them ends the step.
+fn add_writes<N: LiveName>(raw: &mut RawJournal<N>, requests: &[Request], revision: u64)
+    requires whole { IsWhole raw.old }
+    requires room { length raw.old < 2 ^ 62 }
+    requires small { revision < 2 ^ 32 }
+    ensures added { acts_in raw.new ≡ acts_in raw.old ++ acts_from revision requests.now }
+    ensures whole { IsWhole raw.new }
+    ensures step { IsStepFrom (length raw.old) raw.new }
+{
+    let mut at: usize = 0;
+    for request in requests {
+        let ghost_act = GhostAct::wrote(request, revision + at as u64);
+        at += 1;
+        raw.add(ghost_act, at == requests.len());
+    }
 }
 
 impl<N: LiveName> Journal<N> {
@@ -122,7 +116,7 @@ impl<N: LiveName> Journal<N> {
     pub fn len(&self) -> u64
         ensures { result ≡ length self.now }
     {
-        self.acts
+        self.raw.len()
     }
 
     /// What is in it by now.
@@ -136,24 +130,36 @@ impl<N: LiveName> Journal<N> {
     pub fn raw_prefix(&self) -> RawPrefix
         ensures { (result.acts ≡ self.now) × (result.book ≡ N.opening.book) }
     {
-        RawPrefix::new(self.acts, self.witness.again())
+        RawPrefix::new(self.raw.len(), self.raw.witness())
     }
 
-    /// Adds an act. It always does: nobody else has the right to.
+    /// Adds an act, which is a step. It always does: nobody else has the right to.
     pub fn add(&mut self, ghost_act: GhostAct)
         requires { length self.old < 2 ^ 62 }
         ensures { self.new ≡ self.old ++ ghost_act ∷ [] }
     {
-        let (pen, _) = make_right(&self.head, &self.witness);
-        let claim = Claim { ghost_act, pen };
-        let mut offer: Offer<Entry, u64, Noted, Nothing> = self
-            .witness
-            .plain::<Nothing, Claim, Adds>(&claim);
-        self.head
-            .compare_exchange::<Adds, Nothing>(0, 0, &mut self.witness, &mut offer, &mut self.pen);
-        let Claim { ghost_act: _, pen } = claim;
-        self.pen = pen;
-        self.acts += 1;
+        self.raw.add(ghost_act, true);
+    }
+
+    /// Adds the writes for these requests in one step, the first with this revision and the others with those from there
+    /// on. What anybody sees of the history has all of them or none.
+    pub fn add_all(&mut self, requests: &[Request], revision: u64) -> Step<N>
+        requires room { length self.old < 2 ^ 62 }
+        requires small { revision < 2 ^ 32 }
+        ensures added { self.new ≡ self.old ++ acts_from revision requests.now }
+        ensures step { result ≡ step_of self.old self.new }
+    {
+        let before = self.raw.len();
+        add_writes(&mut self.raw, requests, revision);
+        Step::new(before, self.raw.len(), self.raw.witness())
+    }
+
+    /// The step of no act, behind all that is in it.
+    pub fn no_step(&self) -> Step<N>
+        ensures { result ≡ step_of self.now self.now }
+    {
+        let acts = self.raw.len();
+        Step::new(acts, acts, self.raw.witness())
     }
 
     /// Whether all of it was seen. What was seen of it is always a beginning of it.
@@ -163,10 +169,6 @@ impl<N: LiveName> Journal<N> {
         ensures yes { result ≡ true → prefix.now ≡ self.old }
         ensures no { result ≡ false → length prefix.now < length self.old }
     {
-        let mut both = prefix.raw_prefix().with(&self.witness);
-        let mut offer: Offer<Entry, u64, Noted, Nothing> = both.plain::<Nothing, (), Looks>(&());
-        self.head
-            .compare_exchange::<Looks, Nothing>(0, 0, &mut both, &mut offer, &mut self.pen);
-        prefix.len() == self.acts
+        self.raw.is_seen(prefix)
     }
 }

@@ -3,6 +3,7 @@
 //! bucket and no reader: those stand above it, in `kv_bucket`.
 #![tactic(auto)]
 
+mod adaptive_spin;
 mod double_buffer;
 mod entry;
 mod ghost_act;
@@ -12,8 +13,10 @@ mod notifier;
 mod prefix;
 mod protocol;
 mod publication;
+mod raw_journal;
 mod rule;
 mod side;
+mod step;
 
 pub use double_buffer::DoubleBuffer;
 pub use ghost_act::GhostAct;
@@ -25,3 +28,4 @@ pub use protocol::{LiveName, Witness};
 pub use publication::Publication;
 pub use rule::{Gets, PublishRule};
 pub use side::{Right, Side};
+pub use step::Step;

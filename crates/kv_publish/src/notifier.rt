@@ -3,6 +3,7 @@
 ghost use Rattle.std.specs.Prelude.{◌≡◌, IfErr};
 ghost use Rattle.kv_keys.specs.declared.error.KvError.TheVariants.{OutOfMemory};
 
+use crate::adaptive_spin::AdaptiveSpin;
 use crate::last_published::LastPublished;
 use crate::protocol::LiveName;
 use kv_keys::KvError;
@@ -10,15 +11,19 @@ use std::alloc::Global;
 use std::rt::Clock;
 use std::sync::atomic::{AtomicBool, AtomicU64, Ordering};
 use std::sync::{Arc, OnceLock, Wait};
+use std::thread;
 use std::time::{Duration, Instant};
 
-// One word: whether the opening was closed, how often something was published, and how many sleep. The high bits are so
+// One word: whether the opening was closed, how many acts are published, and how many sleep. The high bits are so
 // few that no opening has so many readers, and the middle ones so many that no opening publishes so often.
 const CLOSED: u64 = 1;
 
 const PUBLISHED: u64 = 2;
 
 const SLEEPER: u64 = 1 << 48;
+
+// So often a wait looks again, behind a yield each time, before it sleeps. A writer without pauses publishes meanwhile.
+const LOOKS: u32 = 4;
 
 /// Why a wait ended.
 #[derive(Clone, Copy, Debug, PartialEq, Eq)]
@@ -37,9 +42,11 @@ struct Shared<N: LiveName> {
 }
 
 /// What the publisher and the readers of the opening N share. Contracts see of it that what was published last is of N.
+/// Each of them has one of its own, which also knows whether it was of use to look again before a sleep.
 #[derive(Drop)]
 pub struct Notifier<N: LiveName> {
     board: Arc<Shared<N>, Global>,
+    spin: AdaptiveSpin,
 }
 
 // What a word says, the sleepers aside.
@@ -47,7 +54,7 @@ fn said(word: u64) -> u64 {
     word % SLEEPER
 }
 
-// What there is to wake for who has taken in so many acts. Each act rings once, so that the word counts acts.
+// What there is to wake for who has taken in so many acts. The word counts acts: a batch adds as many as it has.
 fn what_woke(said: u64, acts: u64) -> Option<Woken> {
     if said / PUBLISHED > acts {
         Some(Woken::Changed)
@@ -69,8 +76,15 @@ impl<N: LiveName> Notifier<N> {
             last: OnceLock::new(),
         };
         match Arc::new(alloc, board) {
-            Ok(board) => Ok(Notifier { board }),
+            Ok(board) => Ok(Notifier::on(board)),
             Err(_) => Err(KvError::OutOfMemory),
+        }
+    }
+
+    fn on(board: Arc<Shared<N>, Global>) -> Notifier<N> {
+        Notifier {
+            board,
+            spin: AdaptiveSpin::new(),
         }
     }
 
@@ -79,7 +93,7 @@ impl<N: LiveName> Notifier<N> {
         ensures { IfErr result (λ e. e ≡ OutOfMemory) }
     {
         match Arc::try_clone(&self.board) {
-            Ok(board) => Ok(Notifier { board }),
+            Ok(board) => Ok(Notifier::on(board)),
             Err(_) => Err(KvError::OutOfMemory),
         }
     }
@@ -108,6 +122,11 @@ impl<N: LiveName> Notifier<N> {
         self.add(PUBLISHED);
     }
 
+    /// Tells that so many acts were published in one step. Those who sleep are woken once.
+    pub fn notify_of(&self, acts: u64) {
+        self.add(PUBLISHED.wrapping_mul(acts));
+    }
+
     /// Tells that nothing will be published any more.
     pub fn close(&self) {
         if !self.board.closed.swap(true, Ordering::SeqCst) {
@@ -118,6 +137,36 @@ impl<N: LiveName> Notifier<N> {
     /// Whether more acts are published than so many. It writes nothing.
     pub fn has_more(&self, acts: u64) -> bool {
         said(self.board.word.load(Ordering::SeqCst)) / PUBLISHED > acts
+    }
+
+    // What there is to wake for by now.
+    fn woken(&self, acts: u64) -> Option<Woken> {
+        what_woke(said(self.board.word.load(Ordering::SeqCst)), acts)
+    }
+
+    // Looks several times, and lets others run before each.
+    fn look(&self, acts: u64) -> Option<Woken> {
+        for _ in 0..LOOKS {
+            thread::yield_now();
+            let woken = self.woken(acts);
+            if woken.is_some() {
+                return woken;
+            }
+        }
+        None
+    }
+
+    // What there is to wake for, where that shows without a sleep: at once, or behind a few looks where these are due.
+    fn look_again(&self, acts: u64) -> Option<Woken> {
+        let woken = self.woken(acts);
+        if woken.is_some() {
+            self.spin.hit();
+            return woken;
+        }
+        if self.spin.is_due() {
+            return self.look(acts);
+        }
+        None
     }
 
     // Sleeps once, for no longer than the limit, unless there is something to wake for. It may wake for no reason.
@@ -138,8 +187,12 @@ impl<N: LiveName> Notifier<N> {
         woken
     }
 
-    /// Sleeps until more acts are published than so many, or it is closed.
+    /// Sleeps until more acts are published than so many, or it is closed. Before that it looks again for a moment, where
+    /// that was of use lately: so a follower of a busy writer seldom sleeps, and the writer seldom has to wake it.
     pub fn wait<R: Wait>(&self, rt: &R, acts: u64) -> Woken {
+        if let Some(woken) = self.look_again(acts) {
+            return woken;
+        }
         for _ in rt.forever() {
             if let Some(woken) = self.sleep(rt, acts, None) {
                 return woken;

@@ -1,13 +1,13 @@
 //! A beginning of a history that was seen.
 
-ghost use Rattle.std.specs.Prelude.{◌≡◌, ◌⊎◌, [], true, false, length};
+ghost use Rattle.std.specs.Prelude.{◌≡◌, ◌≤◌, ◌⊎◌, [], true, false, length, take};
 ghost use Rattle.kv_model.specs.Acts.{IsPrefix};
-ghost use Rattle.kv_publish.specs.Rules.{acts_in};
+ghost use Rattle.kv_publish.specs.Rules.{IsStepFrom, IsWhole, acts_in};
 
 use crate::protocol::{LiveName, Witness};
 use std::marker::{Model, PhantomData};
 
-/// A beginning of some history, with its length. Contracts see its acts, and which history it is of.
+/// A beginning of some history that ends with a step, with its length. Contracts see its acts, and which history it is of.
 #[derive(Drop)]
 pub struct RawPrefix {
     acts: u64,
@@ -16,19 +16,20 @@ pub struct RawPrefix {
 
 impl Model for RawPrefix {
     ghost use Rattle.std.specs.Prelude.{◌≡◌, length};
-    ghost use Rattle.kv_publish.specs.Rules.{acts_in};
+    ghost use Rattle.kv_publish.specs.Rules.{IsWhole, acts_in};
     ghost use Rattle.kv_publish.specs.Prefixes.{JournalPrefix};
 
     ghost Value = { JournalPrefix };
 
     ghost view = { λ g. record { acts = acts_in g.witness.log; book = g.witness.book } };
 
-    ghost invariant = { λ g. g.acts ≡ length g.witness.log };
+    ghost invariant = { λ g. (g.acts ≡ length g.witness.log) × IsWhole g.witness.log };
 }
 
 impl RawPrefix {
     pub(crate) fn new(acts: u64, witness: Witness) -> RawPrefix
-        requires { acts ≡ length witness.log }
+        requires acts { acts ≡ length witness.log }
+        requires whole { IsWhole witness.log }
         ensures { (result.acts ≡ acts_in witness.log) × (result.book ≡ witness.book) }
     {
         RawPrefix { acts, witness }
@@ -72,6 +73,20 @@ impl RawPrefix {
         let mut both = self.witness.again();
         both.learn(&other.witness);
         other.acts <= self.acts
+    }
+
+    // Whether it has the last step of a beginning of the same history, which so many acts are before. It has all of it
+    // or nothing.
+    pub(crate) fn has_step(&self, step: &Witness, before: u64, acts: u64) -> bool
+        requires book { step.now.book ≡ self.now.book }
+        requires acts { (acts ≡ length step.now.log) × (before ≤ acts) }
+        requires step { IsStepFrom before step.now.log }
+        ensures yes { result ≡ true → IsPrefix (acts_in step.now.log) self.now.acts }
+        ensures no { result ≡ false → IsPrefix self.now.acts (take before (acts_in step.now.log)) }
+    {
+        let mut both = self.witness.again();
+        both.learn(step);
+        acts <= self.acts
     }
 }
 

@@ -64,10 +64,11 @@ impl Plain<(), Entry, u64> for Makes {
     ghost state = { λ about. None };
 }
 
-/// An act, and the right to add the next one.
+/// An act, whether it ends a step, and the right to add the next one.
 #[derive(Drop)]
 pub struct Claim {
     pub ghost_act: GhostAct,
+    pub ends: bool,
     pub pen: Pen,
 }
 
@@ -85,7 +86,7 @@ impl Plain<Claim, Entry, u64> for Adds {
     ghost use Rattle.std.specs.Prelude.{None};
     ghost use Rattle.kv_publish.specs.Rules.{entry};
 
-    ghost ask = { λ claim. entry claim.ghost_act claim.pen.nib.key };
+    ghost ask = { λ claim. entry claim.ghost_act claim.ends claim.pen.nib.key };
 
     ghost state = { λ claim. None };
 }

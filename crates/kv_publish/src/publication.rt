@@ -15,6 +15,7 @@ pub struct Publication {
     raw_prefix: RawPrefix,
 }
 
+// Field by field: a derived drop makes each proof longer that owns one.
 impl Drop for Publication {
     fn drop(self) {
         let Self {

@@ -39,6 +39,7 @@ pub struct Side {
     ghost is_side: { IsSide right.book right },
 }
 
+// Field by field: a derived drop makes each proof longer that owns one.
 impl Drop for Side {
     fn drop(self) {
         let Self {

@@ -27,6 +27,7 @@ pub(crate) struct Script {
     line: Vec<u8>,
 }
 
+// Field by field: a derived drop makes each proof longer that owns one.
 impl Drop for Script {
     fn drop(self) {
         let Self { bucket: _, line: _ } = self;

@@ -19,6 +19,7 @@ pub(crate) struct Notes {
     line: Vec<u8>,
 }
 
+// Field by field: a derived drop makes each proof longer that owns one.
 impl Drop for Notes {
     fn drop(self) {
         let Self { plan: _, line: _ } = self;

@@ -23,6 +23,7 @@ pub struct Plan {
     watches: Vec<(Filters, Options)>,
 }
 
+// Field by field: a derived drop makes each proof longer that owns one.
 impl Drop for Plan {
     fn drop(self) {
         let Self {

@@ -3,7 +3,7 @@ use Rattle.kv_model.specs.Acts.{Act, IsPrefix}
 use Rattle.kv_publish.specs.Rules.{acts_in}
 use Rattle.kv_publish.proofs.Stepping.{looks_moves}
 use Rattle.kv_publish.proofs.Seeing.{seen_within, seen_whole}
-use Rattle.kv_publish.proofs.journal.Journal.is_seen.Goals as goal
+use Rattle.kv_publish.proofs.raw_journal.RawJournal.is_seen.Goals as goal
 
 pub compare_exchange-requires : goal.compare_exchange-requires
 compare_exchange-requires g c =
@@ -21,10 +21,10 @@ returns-clause-within g c =
     let inv = c.self.invariant in
     let done = c.compare_exchange.ensures in
     let journal = c.self.inside.witness.log in
-    seen_within c.args.prefix.now c.args.self.now journal c.with-both.result.log c.compare_exchange.new.seen.log c.self.view_is
+    seen_within c.args.prefix.now (acts_in c.args.self.now) journal c.with-both.result.log c.compare_exchange.new.seen.log (ap acts_in c.self.view_is)
     (subst (λ (acts : List Act). IsPrefix acts (acts_in c.with-both.result.log)) c.raw_prefix.ensures.0 c.with-both.ensures.this) done.6
     (done.7.1 journal c.with-both.ensures.that inv.4)
 
 pub returns-clause-yes : goal.returns-clause-yes
 returns-clause-yes g c is =
-    seen_whole c.args.prefix.now c.args.self.now c.self.inside.witness.log c.len.result c.self.inside.acts c.self.view_is (returns-clause-within g c) c.len.ensures c.self.invariant.0 is
+    seen_whole c.args.prefix.now (acts_in c.args.self.now) c.self.inside.witness.log c.len.result c.self.inside.acts (ap acts_in c.self.view_is) (returns-clause-within g c) c.len.ensures c.self.invariant.0 is

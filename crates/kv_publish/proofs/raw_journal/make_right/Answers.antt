@@ -1,7 +1,7 @@
 use Rattle.std.proofs.Common.{◌≡◌, ap, sym, ◌∙◌}
 use Rattle.kv_publish.specs.Rules.{no_entry}
 use Rattle.kv_publish.proofs.Stepping.{makes_moves}
-use Rattle.kv_publish.proofs.journal.make_right.Goals as goal
+use Rattle.kv_publish.proofs.raw_journal.make_right.Goals as goal
 
 pub compare_exchange-found-requires : goal.compare_exchange-found-requires
 compare_exchange-found-requires c =

@@ -1,0 +1,125 @@
+//! The entries of a history, with the one right to add to it.
+
+ghost use Rattle.std.specs.Prelude.{◌≡◌, ◌<◌, ◌^◌, ◌+◌, ◌++◌, ◌∷◌, [], ℕ, true, false, length};
+ghost use Rattle.logbook.specs.Pages.{nib, may_write};
+ghost use Rattle.kv_model.specs.Acts.{IsPrefix};
+ghost use Rattle.kv_publish.specs.Rules.{acts_in, entry, head_of};
+
+use crate::entry::Entry;
+use crate::ghost_act::GhostAct;
+use crate::prefix::Prefix;
+use crate::protocol::{Adds, Anchor, Claim, LiveName, Looks, Makes, Noted, Nothing, Witness};
+use logbook::{Offer, Pen};
+use std::marker::{Model, PhantomData};
+
+// A right to add an entry, once it is named as the one for the next entry; and whether no right was ever made before.
+pub(crate) fn make_right(head: &Anchor, witness: &Witness) -> (Pen, bool)
+    requires { head.now ≡ head_of witness.now.book }
+    ensures book { result.0.book ≡ witness.now.book }
+    ensures right { result.0.nib ≡ nib may_write result.0.nib.key 0 }
+    ensures first { result.1 ≡ true → result.0.nib.key ≡ 3 }
+{
+    let mut look = witness.again();
+    let mut offer: Offer<Entry, u64, Noted, Nothing> = look.plain::<Nothing, (), Makes>(&());
+    let mut pen = look.no_pen();
+    let found = head.compare_exchange::<Makes, Nothing>(0, 1, &mut look, &mut offer, &mut pen);
+    drop(Anchor::tracked(0, &mut pen));
+    (pen, found == 0)
+}
+
+/// The entries of the history of N, with the one right to add to it. So it is known whole: nothing is in it that is not
+/// here. Contracts see it as its entries.
+#[derive(Drop)]
+pub(crate) struct RawJournal<N: LiveName> {
+    acts: u64,
+    witness: Witness,
+    head: Anchor,
+    pen: Pen,
+    of: PhantomData<N>,
+}
+
+impl<N: LiveName> Model for RawJournal<N> {
+    ghost use Rattle.std.specs.Prelude.{◌≡◌, List, length};
+    ghost use Rattle.logbook.specs.Pages.{nib, may_write};
+    ghost use Rattle.kv_publish.specs.Rules.{head_of, right_behind};
+    ghost use Rattle.kv_publish.specs.declared.entry.Entry.{Entry};
+
+    ghost Value = { List Entry };
+
+    ghost view = { λ w. w.witness.log };
+
+    ghost invariant = { λ w. (w.acts ≡ length w.witness.log) × (w.witness.book ≡ N.opening.book) ×
+        (w.head ≡ head_of N.opening.book) × (w.pen.book ≡ N.opening.book) ×
+        (w.pen.nib ≡ nib may_write (right_behind 3 w.witness.log) 0) };
+}
+
+impl<N: LiveName> RawJournal<N> {
+    /// An empty one, of this book and with the first right.
+    pub fn new(witness: Witness, head: Anchor, pen: Pen) -> RawJournal<N>
+        requires empty { (witness.log ≡ []) × (witness.book ≡ N.opening.book) }
+        requires head { head ≡ head_of N.opening.book }
+        requires right { (pen.book ≡ N.opening.book) × (pen.nib ≡ nib may_write 3 0) }
+        ensures { result ≡ [] }
+    {
+        RawJournal {
+            acts: 0,
+            witness,
+            head,
+            pen,
+            of: PhantomData,
+        }
+    }
+
+    /// How many entries it has.
+    pub fn len(&self) -> u64
+        ensures { result ≡ length self.now }
+    {
+        self.acts
+    }
+
+    /// What was seen of it, which is all.
+    pub fn witness(&self) -> Witness
+        ensures { (result.log ≡ self.now) × (result.book ≡ N.opening.book) }
+    {
+        self.witness.again()
+    }
+
+    /// Adds an act, which ends a step or doesn't. It always does: nobody else has the right to.
+    pub fn add(&mut self, ghost_act: GhostAct, ends: bool)
+        requires { length self.old + 1 < 2 ^ 64 }
+        ensures { (next : ℕ) × (self.new ≡ self.old ++ entry ghost_act ends next ∷ []) }
+    {
+        let (pen, _) = make_right(&self.head, &self.witness);
+        let claim = Claim {
+            ghost_act,
+            ends,
+            pen,
+        };
+        let mut offer: Offer<Entry, u64, Noted, Nothing> = self
+            .witness
+            .plain::<Nothing, Claim, Adds>(&claim);
+        self.head
+            .compare_exchange::<Adds, Nothing>(0, 0, &mut self.witness, &mut offer, &mut self.pen);
+        let Claim {
+            ghost_act: _,
+            ends: _,
+            pen,
+        } = claim;
+        self.pen = pen;
+        self.acts += 1;
+    }
+
+    /// Whether all of it was seen. What was seen of it is always a beginning of it.
+    pub fn is_seen(&mut self, prefix: &Prefix<N>) -> bool
+        ensures same { self.new ≡ self.old }
+        ensures within { IsPrefix prefix.now (acts_in self.old) }
+        ensures yes { result ≡ true → prefix.now ≡ acts_in self.old }
+        ensures no { result ≡ false → length prefix.now < length (acts_in self.old) }
+    {
+        let mut both = prefix.raw_prefix().with(&self.witness);
+        let mut offer: Offer<Entry, u64, Noted, Nothing> = both.plain::<Nothing, (), Looks>(&());
+        self.head
+            .compare_exchange::<Looks, Nothing>(0, 0, &mut both, &mut offer, &mut self.pen);
+        prefix.len() == self.acts
+    }
+}
