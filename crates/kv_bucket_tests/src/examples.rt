@@ -7,6 +7,5 @@ use std::test::Fail;
 
 mod clients;
 mod compacting;
-mod first_look;
 mod service;
 mod threads;

@@ -6,3 +6,4 @@ pub mod Feeding
 pub mod Named
 pub mod Refusing
 pub mod Taken
+pub mod Whoever

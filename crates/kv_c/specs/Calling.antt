@@ -1,5 +1,5 @@
 -- What C is told by a call, in the words of the model.
-use Rattle.std.specs.Prelude.{◌≡◌, ℕ, ◌<◌, Bool, true, false, List, Option, Some, None, ◌==◌, if◌then◌else◌, Result, Ok, Err, IsTrue, take, length, slice_get, nat_le}
+use Rattle.std.specs.Prelude.{◌≡◌, ℕ, ◌<◌, Bool, true, false, List, [], ◌∷◌, Option, Some, None, ◌==◌, if◌then◌else◌, Result, Ok, Err, IsTrue, take, length, slice_get, nat_le}
 use Rattle.kv_model.specs.Answers.{Answer, Revision}
 use Rattle.kv_model.specs.Given.{Item as Given}
 use Rattle.kv_model.specs.declared.call.Call.{Call}
@@ -16,6 +16,7 @@ use Rattle.kv_keys.specs.declared.error.KvError.TheVariants.{BadKey, OutOfMemory
 use Rattle.kv_model.specs.Acts.{Act, Write}
 use Rattle.kv_store.specs.Standing.{StandsFor}
 use Rattle.kv_store.specs.Stored.{Stored}
+use Rattle.kv_model.specs.Runs.{Exchange}
 use Rattle.kv_model.specs.State.{State, may_compact}
 use Rattle.kv_single.specs.Stepping.{IsStep}
 use Rattle.kv_model.specs.declared.call.Call.TheVariants as calls
@@ -77,6 +78,12 @@ Accepts what old revision new = ⊥
 abbrev pub Steps : Call → Answer → Option Content → Option Content → Type 0
 Steps call answer (Some (Bucket old)) (Some (Bucket new)) = IsStep old call answer new
 Steps call answer old new = ⊥
+
+-- steps of what a handle holds in a row: each call with its answer
+abbrev pub AreSteps : Option Content → List Exchange → Option Content → Type 0
+AreSteps old [] new = new ≡ old
+AreSteps old (exchange ∷ told) new = (next : Option Content) × Steps exchange.call exchange.answer old next ×
+    AreSteps next told new
 
 -- the highest floor for which a compaction is not refused, 0 where there is none
 abbrev pub IsReach : State → ℕ → Type 0

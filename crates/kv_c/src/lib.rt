@@ -11,6 +11,7 @@ mod feed;
 mod feeds;
 mod handing;
 mod handle;
+pub mod laws;
 mod names;
 mod naming;
 mod numbers;

@@ -57,6 +57,20 @@ impl<F: JournalFile> Appender<F> {
         &self.file
     }
 
+    /// The file, which is added to no more.
+    pub fn into_file(self) -> F
+        ensures { result ≡ self.file }
+    {
+        let Appender {
+            file,
+            sync: _,
+            place: _,
+            loose: _,
+            waiting: _,
+        } = self;
+        file
+    }
+
     /// Where the file ends.
     pub fn place(&self) -> u64
         ensures { result ≡ self.now.place }

@@ -69,7 +69,7 @@ lawful_parts config before (y ∷ ys) a zs h =
     ((h.0, more.0), subst (λ (xs : List Act). IsLawfulEntry config xs a) (append_assoc before (acts_in y.content) (acts_of ys)) more.1)
 
 -- and one more that can be added behind lawful ones
-lawful_push : (config : Configuration) (before : List Act) (ys : List Entry) (a : Entry) → AreLawful config before ys → IsLawfulEntry config (before ++ acts_of ys) a → AreLawful config before (ys ++ a ∷ [])
+pub lawful_push : (config : Configuration) (before : List Act) (ys : List Entry) (a : Entry) → AreLawful config before ys → IsLawfulEntry config (before ++ acts_of ys) a → AreLawful config before (ys ++ a ∷ [])
 lawful_push config before [] a each one = (subst (λ (xs : List Act). IsLawfulEntry config xs a) (append-nil before) one, tt)
 lawful_push config before (y ∷ ys) a each one =
     (each.0, lawful_push config (before ++ acts_in y.content) ys a each.1 (subst (λ (xs : List Act). IsLawfulEntry config xs a) (sym (append_assoc before (acts_in y.content) (acts_of ys))) one))

@@ -49,7 +49,7 @@ compaction_is_no_write request bytes floor says e =
     omega (arith, d, kind_low (op_of request))
 
 -- of lawful acts the last one is accepted behind the others
-last_is_accepted : (config : Configuration) (before acts : List Act) (act : Act) → LawfulFrom config before (acts ++ act ∷ []) → IsAccepted config (before ++ acts) act
+pub last_is_accepted : (config : Configuration) (before acts : List Act) (act : Act) → LawfulFrom config before (acts ++ act ∷ []) → IsAccepted config (before ++ acts) act
 last_is_accepted config before [] act h = subst (λ (xs : List Act). IsAccepted config xs act) (sym (append-nil before)) h.0
 last_is_accepted config before (a ∷ acts) act h =
     subst (λ (xs : List Act). IsAccepted config xs act) (append_assoc before (a ∷ []) acts) (last_is_accepted config (before ++ a ∷ []) acts act h.1)

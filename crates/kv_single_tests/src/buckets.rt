@@ -11,6 +11,7 @@ use std::process::Abort;
 use std::test::Fail;
 
 mod asking;
+mod batches;
 mod making;
 mod passing;
 mod rows;

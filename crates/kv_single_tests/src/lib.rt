@@ -1,5 +1,5 @@
-//! Tests of the bucket of one thread and of what it stands on: names, tries, versions, watches and buckets, each by worked
-//! rows, and nothing else. They use public calls alone.
+//! Tests of the bucket of one thread and of what it stands on: names, versions, watches and buckets, each by worked rows,
+//! and nothing else. They use public calls alone.
 #![tactic(auto)]
 
 #[cfg(test)]
@@ -14,8 +14,6 @@ mod limits;
 mod names;
 #[cfg(test)]
 mod same;
-#[cfg(test)]
-mod tries;
 #[cfg(test)]
 mod versions;
 #[cfg(test)]

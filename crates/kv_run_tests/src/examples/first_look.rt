@@ -1,13 +1,8 @@
 //! What README.md shows first: a put, a watch, a change that is asked to find the key as it was.
 
 use super::*;
-use kv_single::{Bucket, Config, Filters, Key, KvError, Options, Request, Start, Taken};
-
-const LATEST: Options = Options {
-    start: Start::Latest,
-    ignore_deletes: false,
-    headers_only: false,
-};
+use kv_single::{Bucket, Config, Filters, Key, KvError, Request, Taken};
+use kv_test_tools::LATEST;
 
 // Sets a value where nobody has written the key since this revision of it; 0: where nobody ever has.
 fn set(
@@ -48,8 +43,5 @@ fn watched(rt: &impl Abort, alloc: Global) -> Result<(), KvError> {
 
 #[test]
 fn a_watch_hands_out_each_change(rt: HostRuntime) -> Result<(), Fail> {
-    match watched(&rt, rt.alloc()) {
-        Err(KvError::OutOfMemory) => Ok(watched(&rt, rt.alloc())?),
-        done => Ok(done?),
-    }
+    Ok(again(|| watched(&rt, rt.alloc()))?)
 }

@@ -1,0 +1,4 @@
+pub mod Once
+pub mod Bytes
+pub mod Crashing
+pub mod Recovery

@@ -1,0 +1,128 @@
+-- Entries that can be added to a file are told apart by their payloads.
+use Rattle.std.proofs.Common.{◌≡◌, ℕ, ◌+◌, ◌^◌, ◌<◌, ◌≤◌, Bool, true, false, cond, List, [], ◌∷◌, ◌++◌, length, get_or, take, drop, append-nil, Err, Ok, refl, sym, ap, ◌∙◌, subst, arith, length-append}
+use Rattle.std.specs.Prelude.{nat_lt, nat_le, ◌&&◌, Result}
+use Rattle.std.proofs.lemmas.Bool.{or_parts, and_parts, leb-true, leb-false}
+use Rattle.kv_frames.proofs.Fronts.{same_number as same_length}
+use Rattle.kv_keys.specs.declared.error.KvError.TheVariants.{ValueTooLarge, Sealed, JournalFull}
+use Rattle.kv_model.specs.Acceptance.{accept, objection, next_write, unless, is_full, IsAccepted, IsLawful}
+use Rattle.kv_model.specs.Acts.{Act, Wrote, Seal, Compact, Write, writes_of, is_sealed}
+use Rattle.kv_model.specs.Compaction.{stored_writes}
+use Rattle.kv_model.specs.Configuration.{Configuration, IsLegal}
+use Rattle.kv_model.specs.Requests.{Asked, value_of}
+use Rattle.kv_model.specs.declared.write.Op.{Op}
+use Rattle.kv_model.proofs.Numbered.{writes_of-wrote, writes_of-seal, writes_of-compact}
+use Rattle.kv_model.proofs.Storing.{lawful_by, next_revision, good_floor}
+use Rattle.kv_store.proofs.Standings.{lawful-push}
+use Rattle.kv_journal.specs.Records.{Content, did, closed, kind_of, record_of}
+use Rattle.kv_journal.specs.Entries.{Entry, payload_of, payloads_of, acts_in, IsLawfulContent, IsLawfulEntry, AreLawful}
+use Rattle.kv_journal.proofs.Saying.{kind_low, same_write, same_number}
+
+-- ---- lawful writes are fewer than 2^32
+
+not_so : {X E : Type 0} (b : Bool) (e : E) (r : Result X E) (x : X) → cond b (Err e) r ≡ Ok x → (b ≡ false) × (r ≡ Ok x)
+not_so true e r x h = absurd cc
+not_so false e r x h = (refl, h)
+
+not_full : (config : Configuration) (a : Asked) (acts : List Act) (w : Write) → accept config a acts ≡ Ok w → is_full config acts ≡ false
+not_full config a acts w h =
+    let w₃ = unless (objection a acts) (next_write a acts) in
+    let w₂ = cond (is_full config acts) (Err JournalFull) w₃ in
+    let w₁ = cond (is_sealed acts) (Err Sealed) w₂ in
+    (not_so (is_full config acts) JournalFull w₃ w (not_so (is_sealed acts) Sealed w₂ w (not_so (nat_lt config.value_limit (length (value_of a))) ValueTooLarge w₁ w h).1).1).0
+
+below_limit : (config : Configuration) (acts : List Act) → IsLawful config acts → length (writes_of acts) ≤ config.revision_limit
+below_limit config acts lawful = lawful_by (λ (xs : List Act). length (writes_of xs) ≤ config.revision_limit) config (omega arith) step acts lawful
+  where
+    step : (before : List Act) (act : Act) → length (writes_of before) ≤ config.revision_limit → IsAccepted config before act → length (writes_of (before ++ act ∷ [])) ≤ config.revision_limit
+    step before (Wrote w) few h =
+        let parts = or_parts (nat_le config.write_limit (length (stored_writes config.history before))) (nat_le config.revision_limit (length (writes_of before))) (not_full config h.0 before w h.1.1) in
+        omega (arith, leb-false config.revision_limit (length (writes_of before)) parts.1, ap length (writes_of-wrote before w), length-append (writes_of before) (w ∷ []))
+    step before Seal few h = omega (arith, few, ap length (writes_of-seal before))
+    step before (Compact floor) few h = omega (arith, few, ap length (writes_of-compact before floor))
+
+legal_limit : (config : Configuration) → IsLegal config → config.revision_limit < 2 ^ 32
+legal_limit config l =
+    let history = nat_le 1 config.history && nat_le config.history 64 in
+    let value = nat_le config.value_limit 1048576 in
+    let writes = nat_le 1 config.write_limit && nat_le config.write_limit 1000000 in
+    let revision = nat_le 1 config.revision_limit && nat_le config.revision_limit 4294967295 in
+    let four = and_parts (history && value && writes) revision l.1 in
+    let both = and_parts (nat_le 1 config.revision_limit) (nat_le config.revision_limit 4294967295) four.1 in
+    omega (arith, leb-true config.revision_limit 4294967295 both.1)
+
+pub few_writes : (config : Configuration) (acts : List Act) → IsLegal config → IsLawful config acts → length (writes_of acts) < 2 ^ 64
+few_writes config acts legal lawful = omega (arith, below_limit config acts lawful, legal_limit config legal)
+
+-- ---- one entry
+
+abbrev first : List ℕ → ℕ
+first xs = get_or xs 0 0
+
+made : (key : List ℕ) (op : Op) (value : List ℕ) (revision : ℕ) → Write
+made key op value revision = record { key = key; op = op; value = value; revision = revision }
+
+same_fields : (v w : Write) → v.key ≡ w.key → v.op ≡ w.op → v.value ≡ w.value → v.revision ≡ w.revision → v ≡ w
+unfolding made
+same_fields v w k o x r =
+    ap (λ (z : List ℕ). made z v.op v.value v.revision) k
+    ∙ ap (λ (z : Op). made w.key z v.value v.revision) o
+    ∙ ap (λ (z : List ℕ). made w.key w.op z v.revision) x
+    ∙ ap (λ (z : ℕ). made w.key w.op w.value z) r
+
+write_is : (n : ℕ) (op : Op) → 3 < n → kind_of op ≡ n → ⊥
+write_is n op high e = omega (arith, high, e, kind_low op)
+
+one_content : (config : Configuration) (before : List Act) → length (writes_of before) < 2 ^ 64 → (a b : Content) → record_of a ≡ record_of b → IsLawfulContent config before a → IsLawfulContent config before b → a ≡ b
+one_content config before few (did (Wrote v)) (did (Wrote w)) e h k =
+    let parts = same_write v.op w.op v.key w.key v.value w.value e in
+    ap (λ (x : Write). did (Wrote x)) (same_fields v w parts.1 parts.0 parts.2 (next_revision config before v h ∙ sym (next_revision config before w k)))
+one_content config before few (did (Wrote v)) (did Seal) e h k = absurd (write_is 4 v.op (omega arith) (ap first e))
+one_content config before few (did (Wrote v)) (did (Compact floor)) e h k = absurd (write_is 5 v.op (omega arith) (ap first e))
+one_content config before few (did (Wrote v)) (closed last) e h k = absurd (write_is 9 v.op (omega arith) (ap first e))
+one_content config before few (did Seal) (did (Wrote w)) e h k = absurd (write_is 4 w.op (omega arith) (sym (ap first e)))
+one_content config before few (did Seal) (did Seal) e h k = refl
+one_content config before few (did Seal) (did (Compact floor)) e h k = let d : 4 ≡ 5 = ap first e in absurd (omega (arith, d))
+one_content config before few (did Seal) (closed last) e h k = let d : 4 ≡ 9 = ap first e in absurd (omega (arith, d))
+one_content config before few (did (Compact f)) (did (Wrote w)) e h k = absurd (write_is 5 w.op (omega arith) (sym (ap first e)))
+one_content config before few (did (Compact f)) (did Seal) e h k = let d : 5 ≡ 4 = ap first e in absurd (omega (arith, d))
+one_content config before few (did (Compact f)) (did (Compact g)) e h k =
+    let low : f < 2 ^ 64 = omega (arith, (good_floor f before h).0, few) in
+    let low_too : g < 2 ^ 64 = omega (arith, (good_floor g before k).0, few) in
+    ap (λ (n : ℕ). did (Compact n)) (same_number f g low low_too (ap (λ (xs : List ℕ). drop 1 xs) e))
+one_content config before few (did (Compact f)) (closed last) e h k = let d : 5 ≡ 9 = ap first e in absurd (omega (arith, d))
+one_content config before few (closed last) (did (Wrote w)) e h k = absurd (write_is 9 w.op (omega arith) (sym (ap first e)))
+one_content config before few (closed last) (did Seal) e h k = let d : 9 ≡ 4 = ap first e in absurd (omega (arith, d))
+one_content config before few (closed last) (did (Compact floor)) e h k = let d : 9 ≡ 5 = ap first e in absurd (omega (arith, d))
+one_content config before few (closed last) (closed other) e h k = ap closed (h ∙ sym k)
+
+abbrev entry_of : ℕ → Content → Entry
+entry_of loose content = record { loose = loose; content = content }
+
+one_entry : (config : Configuration) (before : List Act) → length (writes_of before) < 2 ^ 64 → (a b : Entry) → payload_of a ≡ payload_of b → IsLawfulEntry config before a → IsLawfulEntry config before b → a ≡ b
+one_entry config before few a b e h k =
+    let loose : a.loose ≡ b.loose = same_length a.loose b.loose h.0 k.0 (ap (λ (xs : List ℕ). take 4 xs) e) in
+    let content : a.content ≡ b.content = one_content config before few a.content b.content (ap (λ (xs : List ℕ). drop 4 xs) e) h.1 k.1 in
+    ap (λ (n : ℕ). entry_of n a.content) loose ∙ ap (λ (c : Content). entry_of b.loose c) content
+
+-- ---- all entries
+
+lawful_on : (config : Configuration) (before : List Act) (content : Content) → IsLawful config before → IsLawfulContent config before content → IsLawful config (before ++ acts_in content)
+lawful_on config before (did act) lawful h = lawful-push config before act lawful h
+lawful_on config before (closed last) lawful h = subst (IsLawful config) (sym (append-nil before)) lawful
+
+pub one_list : (config : Configuration) (before : List Act) → IsLegal config → IsLawful config before → (xs ys : List Entry) → AreLawful config before xs → AreLawful config before ys → payloads_of xs ≡ payloads_of ys → xs ≡ ys
+one_list config before legal lawful [] [] h k e = refl
+one_list config before legal lawful [] (y ∷ ys) h k e = absurd cc
+one_list config before legal lawful (x ∷ xs) [] h k e = absurd cc
+one_list config before legal lawful (x ∷ xs) (y ∷ ys) h k e =
+    let head : payload_of x ≡ payload_of y = cc in
+    let tail : payloads_of xs ≡ payloads_of ys = cc in
+    let same = one_entry config before (few_writes config before legal lawful) x y head h.0 k.0 in
+    let rest = subst (λ (z : Entry). AreLawful config (before ++ acts_in z.content) xs) same h.1 in
+    let more = one_list config (before ++ acts_in y.content) legal (lawful_on config before y.content lawful k.0.1) xs ys rest k.1 tail in
+    ap (λ (z : Entry). z ∷ xs) same ∙ ap (λ (zs : List Entry). y ∷ zs) more
+
+-- of lawful entries the first ones are lawful
+pub lawful_front : (config : Configuration) (before : List Act) (xs ys : List Entry) → AreLawful config before (xs ++ ys) → AreLawful config before xs
+lawful_front config before [] ys h = tt
+lawful_front config before (x ∷ xs) ys h = (h.0, lawful_front config (before ++ acts_in x.content) xs ys h.1)
