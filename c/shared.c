@@ -1,11 +1,12 @@
 /* The functions of vilgoued_shared.h: a bucket behind one mutex, and a number that counts what is published, which
- * readers and followers look at without the mutex. Each step on a bucket, a view or a feed is a call of an export of
- * vilgoued.h. */
+ * readers and followers look at without the mutex. Readers that keep up are offered a view of each act, which they take
+ * without it too. Each step on a bucket, a view or a feed is a call of an export of vilgoued.h. */
 #define _GNU_SOURCE
 #include "vilgoued_shared.h"
 #include <errno.h>
 #include <pthread.h>
 #include <stdatomic.h>
+#include <stddef.h>
 #include <stdlib.h>
 #include <sys/eventfd.h>
 #include <time.h>
@@ -17,6 +18,12 @@ enum { OPEN = 1, INSIDE = 2 };
 /* The sequence: two flags, and above them how many acts are published. It changes under the mutex alone. */
 enum { CLOSED = 1, FINISHED = 2, ONE_ACT = 4 };
 
+/* A place in a list, and what stands in it. */
+struct place {
+    struct place *next, **link;
+};
+#define STANDS_IN(type, name, place) ((type *)((char *)(place)-offsetof(type, name)))
+
 /* What the handles of one bucket refer to: its own, and those of its readers and followers. It is freed with the last
  * reference. */
 struct core {
@@ -26,7 +33,7 @@ struct core {
     kv_bucket bucket;
     uint64_t last, floor; /* the bucket's last revision, and the floor that it was compacted to */
     _Atomic size_t references;
-    struct follower *followers;
+    struct place *followers, *readers, *keeping_up;
     bool has_waiters; /* whether a follower may be asleep, or a descriptor wait to become readable */
     /* Readers load the sequence all the time, so it has a cache line for itself. */
     char before[64];
@@ -34,10 +41,32 @@ struct core {
     char behind[64];
 };
 
+/* A view, with the sequence and the bucket's last revision when it was opened. Two threads use the two pages of a
+ * reader at one time, so each has cache lines of its own. */
+struct page {
+    kv_view view;
+    uint64_t seen, last;
+    char behind[96];
+};
+
+/* Which page a reader is not at, and whether a view is offered to it there. Where none is, that page is the writers',
+ * who hold the mutex; where one is, whoever takes the offer away has the page. */
+enum { OFFERED = 2 };
+
+/* How often a reader that is to be offered a view looks for it before it takes the mutex. */
+enum { LOOKS = 64 };
+
 struct reader {
     struct core *core;
-    kv_view view;
-    uint64_t seen; /* the sequence, when the view was opened */
+    unsigned at;           /* which page it reads */
+    _Atomic uint64_t last; /* that of this page */
+    struct place among_all;
+    char before[64];
+    _Atomic unsigned offer;
+    _Atomic bool is_keeping_up; /* it changes under the mutex */
+    struct place among_keeping_up;
+    char behind[64];
+    struct page pages[2];
 };
 
 struct follower {
@@ -48,8 +77,23 @@ struct follower {
     _Atomic bool is_stopped;
     int fd;
     bool is_armed; /* whether the descriptor is there and not readable */
-    struct follower *next, **link;
+    struct place among_all;
 };
+
+/* Under the mutex. */
+static void join(struct place **list, struct place *place) {
+    place->next = *list;
+    place->link = list;
+    if (place->next)
+        place->next->link = &place->next;
+    *list = place;
+}
+
+static void part(struct place *place) {
+    *place->link = place->next;
+    if (place->next)
+        place->next->link = place->link;
+}
 
 static uint64_t sequence_of(struct core *core) {
     return atomic_load_explicit(&core->sequence, memory_order_acquire);
@@ -76,6 +120,70 @@ static void rearm_fd(struct follower *follower) {
     }
 }
 
+static struct reader *keeping_up(struct place *place) {
+    return STANDS_IN(struct reader, among_keeping_up, place);
+}
+
+/* A reader that keeps up is offered a view of each act. Under the mutex. */
+static void keep_up(struct reader *reader) {
+    if (atomic_load_explicit(&reader->is_keeping_up, memory_order_relaxed))
+        return;
+    join(&reader->core->keeping_up, &reader->among_keeping_up);
+    atomic_store_explicit(&reader->is_keeping_up, true, memory_order_relaxed);
+}
+
+static void fall_behind(struct reader *reader) {
+    if (!atomic_load_explicit(&reader->is_keeping_up, memory_order_relaxed))
+        return;
+    part(&reader->among_keeping_up);
+    atomic_store_explicit(&reader->is_keeping_up, false, memory_order_relaxed);
+}
+
+/* Puts a number for an offer that is there. It is false where the other side was there first. */
+static bool take_away(struct reader *reader, unsigned *offer, unsigned page) {
+    return *offer & OFFERED && atomic_compare_exchange_strong_explicit(&reader->offer, offer, page,
+                                                                       memory_order_acq_rel, memory_order_acquire);
+}
+
+/* The reader goes on to the view that it is offered, where there is one, and leaves its own page to the writers. */
+static bool take_offer(struct reader *reader) {
+    unsigned offer = atomic_load_explicit(&reader->offer, memory_order_relaxed);
+    if (!take_away(reader, &offer, reader->at))
+        return false;
+    reader->at = offer & ~OFFERED;
+    atomic_store_explicit(&reader->last, reader->pages[reader->at].last, memory_order_relaxed);
+    return true;
+}
+
+/* Before what changes the sequence: frees the views that readers left, and those that they did not take, so that the
+ * nodes of these are changed in place. Who did not take the last one falls behind: a reader that looks less often than
+ * others write takes the mutex, and has them copy nothing meanwhile. Under the mutex. */
+static void end_offers(struct core *core) {
+    struct place *next;
+    for (struct place *it = core->keeping_up; it; it = next) {
+        struct reader *reader = keeping_up(it);
+        unsigned offer = atomic_load_explicit(&reader->offer, memory_order_acquire);
+        next = it->next;
+        if (take_away(reader, &offer, offer & ~OFFERED))
+            fall_behind(reader);
+        kv_view_close(&reader->pages[offer & ~OFFERED].view);
+    }
+}
+
+/* Opens the views that are offered next. Who gets none for want of memory falls behind. Under the mutex. */
+static void open_offers(struct core *core, uint64_t sequence) {
+    struct place *next;
+    for (struct place *it = core->keeping_up; it; it = next) {
+        struct reader *reader = keeping_up(it);
+        struct page *page = &reader->pages[atomic_load_explicit(&reader->offer, memory_order_relaxed)];
+        next = it->next;
+        page->seen = sequence;
+        page->last = core->last;
+        if (kv_snapshot(&core->bucket, &page->view) != KV_OK)
+            fall_behind(reader);
+    }
+}
+
 /* Changes the sequence, and wakes who waits for that: where nobody does, that is one store. Under the mutex. */
 static void publish(struct core *core, uint64_t sequence) {
     atomic_store_explicit(&core->sequence, sequence, memory_order_release);
@@ -83,8 +191,17 @@ static void publish(struct core *core, uint64_t sequence) {
         return;
     core->has_waiters = false;
     pthread_cond_broadcast(&core->changed);
-    for (struct follower *it = core->followers; it; it = it->next)
-        signal_fd(it);
+    for (struct place *it = core->followers; it; it = it->next)
+        signal_fd(STANDS_IN(struct follower, among_all, it));
+}
+
+/* The same where end_offers came before. A view is offered behind the change: once one reader has what is new, every
+ * other that asks goes on to it. Under the mutex. */
+static void publish_and_offer(struct core *core, uint64_t sequence) {
+    open_offers(core, sequence);
+    publish(core, sequence);
+    for (struct place *it = core->keeping_up; it; it = it->next)
+        atomic_fetch_or_explicit(&keeping_up(it)->offer, OFFERED, memory_order_release);
 }
 
 /* Lets the mutex go and leaves. A close waits for that, under the mutex. */
@@ -98,7 +215,7 @@ static uint64_t leave(kv_shared *shared, struct core *core, uint64_t code) {
 /* The same behind an act, which is published where it was accepted. */
 static uint64_t leave_published(kv_shared *shared, struct core *core, uint64_t code) {
     if (code == KV_OK)
-        publish(core, sequence_of(core) + ONE_ACT);
+        publish_and_offer(core, sequence_of(core) + ONE_ACT);
     return leave(shared, core, code);
 }
 
@@ -123,6 +240,14 @@ static struct core *enter(kv_shared *shared) {
             break;
         }
     return NULL;
+}
+
+/* The same before an act. */
+static struct core *enter_to_act(kv_shared *shared) {
+    struct core *core = enter(shared);
+    if (core)
+        end_offers(core);
+    return core;
 }
 
 /* Drops one reference. */
@@ -172,10 +297,10 @@ uint64_t kv_shared_open(kv_shared *shared, const uint8_t *name, size_t name_size
 }
 
 uint64_t kv_shared_finish(kv_shared *shared) {
-    struct core *core = enter(shared);
+    struct core *core = enter_to_act(shared);
     if (!core)
         return KV_CLOSED;
-    publish(core, sequence_of(core) | FINISHED);
+    publish_and_offer(core, sequence_of(core) | FINISHED);
     return leave(shared, core, KV_OK);
 }
 
@@ -197,7 +322,7 @@ void kv_shared_close(kv_shared *shared) {
 
 uint64_t kv_shared_put(kv_shared *shared, const uint8_t *key, size_t key_size, const uint8_t *value, size_t value_size,
                        uint64_t *revision) {
-    struct core *core = enter(shared);
+    struct core *core = enter_to_act(shared);
     return !core ? KV_CLOSED
                  : leave_written(shared, core, kv_put(&core->bucket, key, key_size, value, value_size, revision),
                                  revision);
@@ -205,7 +330,7 @@ uint64_t kv_shared_put(kv_shared *shared, const uint8_t *key, size_t key_size, c
 
 uint64_t kv_shared_create(kv_shared *shared, const uint8_t *key, size_t key_size, const uint8_t *value,
                           size_t value_size, uint64_t *revision) {
-    struct core *core = enter(shared);
+    struct core *core = enter_to_act(shared);
     return !core ? KV_CLOSED
                  : leave_written(shared, core, kv_create(&core->bucket, key, key_size, value, value_size, revision),
                                  revision);
@@ -213,7 +338,7 @@ uint64_t kv_shared_create(kv_shared *shared, const uint8_t *key, size_t key_size
 
 uint64_t kv_shared_update(kv_shared *shared, const uint8_t *key, size_t key_size, const uint8_t *value,
                           size_t value_size, uint64_t last, uint64_t *revision) {
-    struct core *core = enter(shared);
+    struct core *core = enter_to_act(shared);
     return !core ? KV_CLOSED
                  : leave_written(shared, core,
                                  kv_update(&core->bucket, key, key_size, value, value_size, last, revision), revision);
@@ -221,7 +346,7 @@ uint64_t kv_shared_update(kv_shared *shared, const uint8_t *key, size_t key_size
 
 uint64_t kv_shared_delete(kv_shared *shared, const uint8_t *key, size_t key_size, bool has_last, uint64_t last,
                           uint64_t *revision) {
-    struct core *core = enter(shared);
+    struct core *core = enter_to_act(shared);
     return !core ? KV_CLOSED
                  : leave_written(shared, core, kv_delete(&core->bucket, key, key_size, has_last, last, revision),
                                  revision);
@@ -229,19 +354,19 @@ uint64_t kv_shared_delete(kv_shared *shared, const uint8_t *key, size_t key_size
 
 uint64_t kv_shared_purge(kv_shared *shared, const uint8_t *key, size_t key_size, bool has_last, uint64_t last,
                          uint64_t *revision) {
-    struct core *core = enter(shared);
+    struct core *core = enter_to_act(shared);
     return !core ? KV_CLOSED
                  : leave_written(shared, core, kv_purge(&core->bucket, key, key_size, has_last, last, revision),
                                  revision);
 }
 
 uint64_t kv_shared_seal(kv_shared *shared) {
-    struct core *core = enter(shared);
+    struct core *core = enter_to_act(shared);
     return !core ? KV_CLOSED : leave_published(shared, core, kv_seal(&core->bucket));
 }
 
 uint64_t kv_shared_compact(kv_shared *shared, uint64_t floor, uint64_t *watch) {
-    struct core *core = enter(shared);
+    struct core *core = enter_to_act(shared);
     uint64_t code;
     if (!core)
         return KV_CLOSED;
@@ -249,6 +374,13 @@ uint64_t kv_shared_compact(kv_shared *shared, uint64_t floor, uint64_t *watch) {
     if (code == KV_OK)
         core->floor = floor;
     return leave_published(shared, core, code);
+}
+
+/* Lowers a floor to the last revision that a reader or a follower has gone on to, unless the bucket was compacted past
+ * that already. */
+static void lower(struct core *core, uint64_t *floor, uint64_t last) {
+    if (last >= core->floor && last < *floor)
+        *floor = last;
 }
 
 /* A follower goes on where it has handed out all that it went on to. So it lags behind a floor exactly where that is
@@ -259,11 +391,13 @@ uint64_t kv_shared_reach(kv_shared *shared, uint64_t *floor) {
     if (!core)
         return KV_CLOSED;
     code = kv_reach(&core->bucket, &least);
-    for (struct follower *it = core->followers; it; it = it->next) {
-        uint64_t last = atomic_load(&it->last);
-        if (!atomic_load(&it->is_stopped) && last >= core->floor && last < least)
-            least = last;
+    for (struct place *it = core->followers; it; it = it->next) {
+        struct follower *follower = STANDS_IN(struct follower, among_all, it);
+        if (!atomic_load(&follower->is_stopped))
+            lower(core, &least, atomic_load(&follower->last));
     }
+    for (struct place *it = core->readers; it; it = it->next)
+        lower(core, &least, atomic_load(&STANDS_IN(struct reader, among_all, it)->last));
     if (code == KV_OK)
         *floor = least;
     return leave(shared, core, code);
@@ -336,73 +470,97 @@ uint64_t kv_reader_open(kv_shared *shared, kv_reader *handle) {
     reader = malloc(sizeof *reader);
     if (!reader)
         return leave(shared, core, KV_OUT_OF_MEMORY);
-    *reader = (struct reader){.core = core, .seen = sequence_of(core)};
-    code = kv_snapshot(&core->bucket, &reader->view);
+    *reader = (struct reader){.core = core, .last = core->last, .offer = 1};
+    reader->pages[0].seen = sequence_of(core);
+    code = kv_snapshot(&core->bucket, &reader->pages[0].view);
     if (code == KV_OK) {
         atomic_fetch_add(&core->references, 1);
+        join(&core->readers, &reader->among_all);
         *handle = (kv_reader){true, reader};
     } else
         free(reader);
     return leave(shared, core, code);
 }
 
-/* The reader of a handle, gone on to all that is published; NULL where it can't, and the code says why. */
-static struct reader *refreshed(kv_reader *handle, uint64_t *code) {
-    struct reader *reader = handle->at;
-    struct core *core;
-    kv_view later = {0};
-    uint64_t sequence;
-    if (!handle->is_open) {
-        *code = KV_CLOSED;
-        return NULL;
-    }
-    core = reader->core;
-    if (sequence_of(core) == reader->seen)
-        return reader;
+/* Goes on under the mutex: to a view that was offered meanwhile, or to one of its own, from which on it keeps up. */
+static uint64_t go_on(struct reader *reader) {
+    struct core *core = reader->core;
+    struct page *page;
+    kv_view later = {0}, left = {0};
+    uint64_t sequence, code = KV_OK;
     pthread_mutex_lock(&core->lock);
     sequence = sequence_of(core);
-    *code = sequence & CLOSED ? KV_CLOSED : kv_snapshot(&core->bucket, &later);
+    if (sequence & CLOSED)
+        code = KV_CLOSED;
+    else if (!take_offer(reader)) {
+        code = kv_snapshot(&core->bucket, &later);
+        if (code == KV_OK) {
+            page = &reader->pages[reader->at];
+            left = page->view;
+            *page = (struct page){.view = later, .seen = sequence, .last = core->last};
+            atomic_store_explicit(&reader->last, core->last, memory_order_relaxed);
+            keep_up(reader);
+        }
+    }
     pthread_mutex_unlock(&core->lock);
-    if (*code != KV_OK)
+    kv_view_close(&left);
+    return code;
+}
+
+/* The view of a handle's reader, gone on to all that is published; NULL where it can't, and the code says why. What was
+ * offered is taken away before the sequence changes again: so an offer that is there is of no older one. */
+static kv_view *refreshed(kv_reader *handle, uint64_t *code) {
+    struct reader *reader = handle->at;
+    uint64_t sequence;
+    *code = KV_CLOSED;
+    if (!handle->is_open)
         return NULL;
-    kv_view_close(&reader->view);
-    reader->view = later;
-    reader->seen = sequence;
-    return reader;
+    sequence = sequence_of(reader->core);
+    if (sequence == reader->pages[reader->at].seen)
+        return &reader->pages[reader->at].view;
+    if (sequence & CLOSED)
+        return NULL;
+    for (int i = 0; i < LOOKS && atomic_load_explicit(&reader->is_keeping_up, memory_order_relaxed); i++) {
+        if (take_offer(reader))
+            return &reader->pages[reader->at].view;
+        __builtin_ia32_pause();
+    }
+    *code = go_on(reader);
+    return *code == KV_OK ? &reader->pages[reader->at].view : NULL;
 }
 
 uint64_t kv_reader_get(kv_reader *handle, const uint8_t *key, size_t key_size, uint8_t *room, size_t room_size,
                        size_t *size, uint64_t *revision) {
     uint64_t code;
-    struct reader *reader = refreshed(handle, &code);
-    return reader ? kv_view_get(&reader->view, key, key_size, room, room_size, size, revision) : code;
+    kv_view *view = refreshed(handle, &code);
+    return view ? kv_view_get(view, key, key_size, room, room_size, size, revision) : code;
 }
 
 uint64_t kv_reader_get_at(kv_reader *handle, const uint8_t *key, size_t key_size, uint64_t at, uint8_t *room,
                           size_t room_size, size_t *size, uint64_t *revision) {
     uint64_t code;
-    struct reader *reader = refreshed(handle, &code);
-    return reader ? kv_view_get_at(&reader->view, key, key_size, at, room, room_size, size, revision) : code;
+    kv_view *view = refreshed(handle, &code);
+    return view ? kv_view_get_at(view, key, key_size, at, room, room_size, size, revision) : code;
 }
 
 uint64_t kv_reader_history(kv_reader *handle, const uint8_t *key, size_t key_size, size_t index, uint8_t *room,
                            size_t room_size, kv_item *item, size_t *count) {
     uint64_t code;
-    struct reader *reader = refreshed(handle, &code);
-    return reader ? kv_view_history(&reader->view, key, key_size, index, room, room_size, item, count) : code;
+    kv_view *view = refreshed(handle, &code);
+    return view ? kv_view_history(view, key, key_size, index, room, room_size, item, count) : code;
 }
 
 uint64_t kv_reader_keys(kv_reader *handle, const uint8_t *filter, size_t filter_size, uint8_t *room, size_t room_size,
                         size_t *size, size_t *count) {
     uint64_t code;
-    struct reader *reader = refreshed(handle, &code);
-    return reader ? kv_view_keys(&reader->view, filter, filter_size, room, room_size, size, count) : code;
+    kv_view *view = refreshed(handle, &code);
+    return view ? kv_view_keys(view, filter, filter_size, room, room_size, size, count) : code;
 }
 
 uint64_t kv_reader_get_status(kv_reader *handle, kv_status *status) {
     uint64_t code;
-    struct reader *reader = refreshed(handle, &code);
-    return reader ? kv_view_get_status(&reader->view, status) : code;
+    kv_view *view = refreshed(handle, &code);
+    return view ? kv_view_get_status(view, status) : code;
 }
 
 void kv_reader_close(kv_reader *handle) {
@@ -410,29 +568,21 @@ void kv_reader_close(kv_reader *handle) {
     if (!handle->is_open)
         return;
     *handle = (kv_reader){0};
-    kv_view_close(&reader->view);
+    pthread_mutex_lock(&reader->core->lock);
+    fall_behind(reader);
+    part(&reader->among_all);
+    pthread_mutex_unlock(&reader->core->lock);
+    kv_view_close(&reader->pages[0].view);
+    kv_view_close(&reader->pages[1].view);
     release(reader->core);
     free(reader);
 }
 
-/* Puts a follower among those of its core. Under the mutex. */
-static void link_follower(struct follower *follower) {
-    struct core *core = follower->core;
-    follower->next = core->followers;
-    follower->link = &core->followers;
-    if (follower->next)
-        follower->next->link = &follower->next;
-    core->followers = follower;
-    atomic_fetch_add(&core->references, 1);
-}
-
-/* Takes it out, and frees it. */
+/* Takes a follower out from those of its core, and frees it. */
 static void free_follower(struct follower *follower) {
     struct core *core = follower->core;
     pthread_mutex_lock(&core->lock);
-    *follower->link = follower->next;
-    if (follower->next)
-        follower->next->link = follower->link;
+    part(&follower->among_all);
     pthread_mutex_unlock(&core->lock);
     if (follower->fd >= 0)
         close(follower->fd);
@@ -462,7 +612,8 @@ uint64_t kv_follower_open(kv_shared *shared, const uint8_t *filters, size_t filt
         free(follower);
         return leave(shared, core, code);
     }
-    link_follower(follower);
+    join(&core->followers, &follower->among_all);
+    atomic_fetch_add(&core->references, 1);
     leave(shared, core, KV_OK);
     code = kv_feed_open(&view, filters, filters_size, options, &follower->feed);
     kv_view_close(&view);

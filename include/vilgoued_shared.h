@@ -86,9 +86,11 @@ uint64_t kv_shared_seal(kv_shared *shared);
  * as the floor lags from then on. */
 uint64_t kv_shared_compact(kv_shared *shared, uint64_t floor, uint64_t *watch);
 
-/* The highest floor to which a compaction is refused by no held watch and makes no follower lag, 0 where there is
- * none. What others write, take, open or close meanwhile can only raise it. A follower that lags already, or was
- * stopped, does not count, and readers never lag. Any thread. It looks at each follower under the mutex. */
+/* The highest floor to which a compaction is refused by no held watch, makes no follower lag, and is above nothing that
+ * a reader has gone on to, 0 where there is none. What others write, take, read, open or close meanwhile can only raise
+ * it. A follower that lags already or was stopped does not count, and neither does a reader that an earlier compaction
+ * went past: readers never lag. So a reader that reads nothing holds the floor back; its owner closes it. Any thread.
+ * It looks at each follower and each reader under the mutex. */
 uint64_t kv_shared_reach(kv_shared *shared, uint64_t *floor);
 
 /* Reads under the mutex, as the calls of vilgoued.h that they are named after. Any thread. Who reads often, or many
@@ -119,9 +121,11 @@ uint64_t kv_shared_stop(kv_shared *shared, uint64_t number, uint64_t *handed);
 uint64_t kv_reader_open(kv_shared *shared, kv_reader *reader);
 
 /* Reads, as the calls of views in vilgoued.h that they are named after. One call at a time. Each first goes on to all
- * that is published: it reads every write that had returned when it began, and nothing older than this reader read
- * before. That is one atomic load where nothing is new, and else a snapshot under the mutex; then it also lets go of
- * its view, and frees what nobody else has of it. */
+ * that is published: it reads every write that had returned when it began, and nothing older than what a reader of this
+ * bucket had read by then. That is one atomic load where nothing is new. A reader that looks at each act is offered a
+ * view of the next one by whoever writes that, and takes it by one exchange; one that does not look as often takes a
+ * snapshot under the mutex. A write takes some 0.1 microseconds more for each reader that keeps up; it frees the views
+ * that these left. */
 uint64_t kv_reader_get(kv_reader *reader, const uint8_t *key, size_t key_size, uint8_t *room, size_t room_size,
                        size_t *size, uint64_t *revision);
 uint64_t kv_reader_get_at(kv_reader *reader, const uint8_t *key, size_t key_size, uint64_t at, uint8_t *room,

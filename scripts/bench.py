@@ -1,20 +1,21 @@
 #!/usr/bin/env python3
 """bench.py BENCH KVBUCKET [FOLDER]: measures the bucket and what a user would take in its place, by the programs
-kv_bench and kvbucket, within five minutes, and writes into the folder (docs/bench where none is given) the figures as
-figures.tsv, a page of tables as README.md, and charts where matplotlib is there (scripts/charts.py). It tells on standard
-error what it is doing. tests/test_bench.py looks at whether that works."""
+kv_bench and kvbucket, within five minutes, and Rust's own crates by the program of peers/, where that can be built (scripts/peers.py),
+in two more. It writes into the folder (docs/bench where none is given) the figures as figures.tsv, a page of tables as README.md,
+charts where matplotlib is there (scripts/charts.py), and where no folder is given the table of the repository's README.md
+(scripts/compared.py). It tells on standard error what it is doing. tests/test_bench.py looks at whether that works."""
 import collections, datetime, os, platform, random, subprocess, sys, time
+from typing import Optional
 
 if __name__ == "__main__":
     sys.dont_write_bytecode = True
     sys.path.insert(0, os.path.dirname(os.path.dirname(os.path.realpath(__file__))))
-from scripts import kit, top
-from scripts.figures import NAME, Figure, grouped, in_digits, lines_of, parsed
+from scripts import compared, kit, peers, top
+from scripts.figures import NAME, Figure, grouped, in_digits, in_words, lines_of, parsed
 from scripts.lines import VALUE, Program
 
-started = time.monotonic()
-# The seconds after which nothing is begun that may be left out.
-BUDGET = 270
+# The seconds after which nothing is begun that may be left out: of the bucket, and of Rust's own crates.
+BUDGET, BUDGET_OF_PEERS = 270, 120
 # The machine counts as calm where a probe takes at most so many times the least that one took, of which so many are made
 # first; and for how many seconds a calm moment is waited for, once and in all.
 CALM = 1.25
@@ -24,6 +25,8 @@ WAITING = 30
 SIZES = (1_000, 10_000, 100_000, 1_000_000)
 # Of so many keys a bucket that stores a million writes has two of each.
 WRITTEN_TWICE = (1_000, 10_000, 100_000, 500_000)
+# Where what reads all keys is measured: where the caches have most of them, and where they have few.
+BOTH_ENDS = (10_000, 1_000_000)
 # Of keys of one place kv_bench makes 16,384.
 OF_ONE_PLACE = (1_000, 10_000)
 # How often the bench goes through its groups: what disturbs for some seconds meets one pass of these.
@@ -37,6 +40,7 @@ RUNS = (
     ("calls-growth", SIZES),
     ("calls-reads", SIZES),
     ("calls-writes", SIZES),
+    ("calls-long", SIZES),
     ("beside-reads", SIZES),
     ("beside-writes", SIZES),
     ("beside-maps", SIZES),
@@ -47,9 +51,21 @@ RUNS = (
     ("memory-held", WRITTEN_TWICE),
     ("memory-compacted", SIZES),
     ("threads", SIZES),
+    ("threads-all", BOTH_ENDS),
     ("delay", SIZES),
     ("feeds", SIZES),
 )
+# Those that the program of peers/ measures, each beside the one of this name.
+RUNS_OF_PEERS = (
+    ("beside", SIZES),
+    ("threads", SIZES),
+    ("threads-all", BOTH_ENDS),
+    ("delay", BOTH_ENDS),
+    ("feeds", SIZES),
+)
+# What is measured once more with pages of 2 MiB, and among how many keys.
+LARGE_PAGES = {"GLIBC_TUNABLES": "glibc.malloc.hugetlb=1"}
+IN_LARGE_PAGES = (("calls-reads", 1_000_000), ("calls-writes", 1_000_000))
 # The rounds of lines through the program, which are spread over the whole run: what disturbs for a second meets few of them.
 LINE_ROUNDS = 9
 # The lines of a batch: so many gets that the first ones, which find no key in the caches, don't count; and so many puts that
@@ -63,17 +79,34 @@ def say(text):
     print("bench: " + text, file=sys.stderr, flush=True)
 
 
-def elapsed():
-    return time.monotonic() - started
+class Watch:
+    """How long the bench has taken, and how much of that Rust's own crates."""
+
+    def __init__(self):
+        self.begin()
+
+    def begin(self):
+        self.started = time.monotonic()
+        self.of_peers = 0.0
+
+    def elapsed(self):
+        return time.monotonic() - self.started
+
+    def of_bucket(self):
+        return self.elapsed() - self.of_peers
+
+
+watch = Watch()
 
 
 # The figures.
 
 
-def run(bench, group, keys, rounds):
-    done = subprocess.run([bench, group, str(keys), str(rounds)], stdin=subprocess.DEVNULL, capture_output=True, text=True)
+def run(bench, group, keys, rounds, **more):
+    done = subprocess.run([bench, group, str(keys), str(rounds)], stdin=subprocess.DEVNULL, capture_output=True, text=True,
+                          env={**os.environ, **more})
     if done.returncode != 0:
-        say("%s %d %d ended with status %d: %s" % (group, keys, rounds, done.returncode, done.stderr.strip()))
+        say("%s %s %d %d ended with status %d: %s" % (os.path.basename(bench), group, keys, rounds, done.returncode, done.stderr.strip()))
         sys.exit(1)
     return [parsed(line, tenths=True) for line in done.stdout.splitlines()]
 
@@ -85,20 +118,34 @@ def merged(figures):
 
 
 def measured(bench, group, keys, rounds):
-    say("%s at %s, after %d s" % (group, in_digits(keys), elapsed()))
+    say("%s at %s, after %d s" % (group, in_digits(keys), watch.elapsed()))
     return run(bench, group, keys, rounds)
 
 
+def in_large_pages(bench, group, keys, rounds):
+    """The same with pages of 2 MiB, as figures of a group of their own."""
+    say("%s at %s in large pages, after %d s" % (group, in_digits(keys), watch.elapsed()))
+    return [it._replace(group="pages", of=LARGE) for it in run(bench, group, keys, rounds, **LARGE_PAGES)]
+
+
+# What is run: by which of these, a group, a size, and how many rounds.
+Run = collections.namedtuple("Run", "by group keys rounds")
+OF_BUCKET, OF_PEERS, IN_PAGES = "kv_bench", "peers", "pages"
+
+
+def rounds_of(by, group, keys):
+    """The rounds of a process, in the passes in which it is run."""
+    is_once = keys > MOST_KEYS or group == "delay"
+    is_brief = group.startswith("memory-") or (not is_once and (group == "feeds" or by == OF_PEERS))
+    return 1 if is_brief or by == IN_PAGES else ROUNDS
+
+
 def runs_of(number):
-    """What is measured in the pass of this number: groups, sizes and rounds. The largest sizes, which take longest, are last."""
-    runs = []
-    for group, sizes in RUNS:
-        is_weighed = group.startswith("memory-")
-        for keys in sizes:
-            is_once = keys > MOST_KEYS or group == "delay"
-            if number == 0 or not is_once:
-                runs.append((group, keys, 1 if is_weighed or (group == "feeds" and not is_once) else ROUNDS))
-    return sorted(runs, key=lambda it: min(it[1], WRITTEN_TWICE[-1]))
+    """What is measured in the pass of this number. The largest sizes, which take longest, are last."""
+    of_all = ((OF_BUCKET, RUNS), (OF_PEERS, RUNS_OF_PEERS), (IN_PAGES, [(group, [keys]) for group, keys in IN_LARGE_PAGES]))
+    runs = [Run(by, group, keys, rounds_of(by, group, keys)) for by, groups in of_all for group, sizes in groups for keys in sizes
+            if number == 0 or not (keys > MOST_KEYS or group == "delay")]
+    return sorted(runs, key=lambda it: min(it.keys, WRITTEN_TWICE[-1]))
 
 
 class Machine:
@@ -148,7 +195,7 @@ class Lines:
         self.gets, self.puts = gets, puts
         self.read = set(sizes)
         self.written = {min(size, MOST_WRITTEN) for size in sizes}
-        self.programs = {keys: Program(kvbucket) for keys in sorted(self.read | self.written)}
+        self.programs = {keys: Program(kvbucket, os.environ) for keys in sorted(self.read | self.written)}
         # The last revisions, and the nanoseconds of each round.
         self.revisions = {keys: keys for keys in self.programs}
         self.times = collections.defaultdict(list)
@@ -210,16 +257,6 @@ class Lines:
 # The page.
 
 
-def in_words(value, unit):
-    """A value with three digits, in the unit of its size."""
-    steps = {"ns": (("ns", 1), ("µs", 1e3), ("ms", 1e6), ("s", 1e9)), "a second": (("", 1), ("k", 1e3), ("M", 1e6)),
-             "bytes": (("B", 1),)}[unit]
-    name, size = next((it for it in reversed(steps) if value >= it[1]), steps[0])
-    scaled = value / size
-    digits = 0 if scaled >= 100 or unit == "bytes" else 1 if scaled >= 10 else 2
-    return ("%.*f %s" % (digits, scaled, name)).strip()
-
-
 def column_of(keys):
     """The size in whose column a figure stands: what is written to has fewer keys than a bucket stores at most."""
     return min((size for size in (*SIZES, *WRITTEN_TWICE) if size >= keys), default=keys)
@@ -236,7 +273,7 @@ def cell(figure):
 def row_of(figure):
     """What was measured, of what, and how many threads were beside the writer."""
     name = ", ".join(filter(None, (figure.what, figure.of)))
-    return name + " (%d)" % figure.others if figure.group in ("threads", "delay", "feeds") else name
+    return name + " (%d)" % figure.others if figure.group.removeprefix("rust-") in ("threads", "threads-all", "delay", "feeds") else name
 
 
 def table(figures, heading):
@@ -252,10 +289,17 @@ def table(figures, heading):
 GROUPS = (
     ("calls", "Calls on one thread", "By keys",
      "A bucket of one thread. A round is the mean of up to 5,000 calls, on keys that are spread over all; a listing, or the "
-     "opening of a watch, by `a.*` or `>` is one call. `a.*` matches one key of a hundred, `>` all. A put of a new key is one "
+     "opening of a watch, by `*.17`, `a.*` or `>` is one call. `*.17` matches one key of all, `a.*` one of a hundred, `>` all. Where "
+     "no size is told values have 16 bytes, and lie beside their revisions; those of 100 take a block of their own. A get is by a key "
+     "that was parsed before. A put of a new key is one "
      "of the last tenth of those that fill an empty bucket. A watch that was opened is stopped within the time of a literal "
-     "filter; a snapshot is let go at once. New keys, what changes nothing and what writes are three processes."),
-    ("compact", "A compaction", "By stored writes", "So many writes to a thousand keys, then one compaction to the last revision."),
+     "filter; a snapshot is let go at once. New keys, what changes nothing, what writes and long values are four processes."),
+    ("pages", "Pages of 4 KiB and of 2 MiB", "By keys",
+     "The calls of one thread once more in a process with `GLIBC_TUNABLES=glibc.malloc.hugetlb=1`, by which the C library asks for pages "
+     "of 2 MiB; whether it gets them the system decides. All other figures are without, those of lines and of Rust's crates too."),
+    ("compact", "A compaction", "By stored writes",
+     "So many writes, to a thousand keys or one to each of as many keys, then one compaction to the last revision. It looks at each "
+     "write and its key, and a bucket that threads share is locked meanwhile."),
     ("collide", "Keys of one place", "By keys",
      "A bucket of one thread, all of whose keys share a place, as somebody can choose them who knows the hash: they are 56 bytes "
      "long, and lie in one list. A put of a new key is one of the last tenth. That they share a place is checked."),
@@ -263,18 +307,32 @@ GROUPS = (
      "A `Live` with one reader: a get refreshes the version that it keeps and reads the key in that, a copy is the reader's "
      "version, let go at once; in another one, a put publishes a version. The maps are the kit's `HashMap` and `BTreeMap` under its `RwLock`; a put "
      "copies its key and value first, as a put of a bucket does, and a copy is a clone under the lock."),
+    ("rust-beside", "Beside Rust's own crates, on one thread", "By keys",
+     "The same of maps of Rust's own crates. `HashMap` is std's, with its own hash; im's shares its keys and values, by `Arc`. A put of an "
+     "`ArcSwap` makes the next map of a copy and stores it; a get is by its `load` or by a `Cache` of the thread; a copy is the map that it "
+     "has, or else a clone. None of them has revisions, a history, watches, or writes that ask for the last revision."),
     ("threads", "A writer beside readers", "By keys",
      "One thread writes without a pause for 0.15 s, the others read; in brackets how many read, in each round one number after "
-     "the other. Reads are of all readers "
-     "together; each refreshes the version that its thread keeps. The processor time of a write is that of the writer's thread alone."),
+     "the other. **Writer and readers ask for the same 500 keys, again and again**, spread over all, so the caches have most of what they "
+     "look at, also where there are a million. Reads are of all readers together; each refreshes the version that its thread keeps. What "
+     "a map's readers read stands beside what its writer writes meanwhile: each has the lock while the other has not. The processor time "
+     "of a write is that of the writer's thread alone."),
+    ("rust-threads", "A writer beside readers, of Rust's own crates", "By keys", "The same of maps of Rust's own crates."),
+    ("threads-all", "A writer beside readers of all keys", "By keys",
+     "The same, but writer and readers go through all keys, each reader from another one on."),
+    ("rust-threads-all", "A writer beside readers of all keys, of Rust's own crates", "By keys", "The same of maps of Rust's own crates."),
     ("delay", "From a write's return to its delivery", "By keys",
      "One thread makes 1,000 writes with a pause of 0.1 ms after each; in brackets how many follow, each asleep until there "
      "is something. 0 ns is an item that came before the write returned. What stands last in a cell is what 99 of 100 items are "
      "not above. Beside a map the watch is an unbounded channel of the kit's `crossbeam_channel` to each follower, into "
      "which the writer sends while it has the lock."),
+    ("rust-delay", "From a write's return to its delivery, of Rust's own crates", "By keys",
+     "The same of std's `HashMap` and `RwLock`, and a channel to each follower, std's or `crossbeam_channel`'s unbounded one, or tokio's "
+     "broadcast with room for 16,384, each follower with a runtime of its own thread."),
     ("feeds", "Followers of one writer", "By keys",
      "One thread makes 10,000 writes without a pause; in brackets how many follow. Items are of all followers together, up to "
-     "the end of the last."),
+     "the end of the last. The processor time of a write is that of the writer's thread alone: who wakes sleepers pays for that."),
+    ("rust-feeds", "Followers of one writer, of Rust's own crates", "By keys", "The same of the maps and channels above."),
     ("memory", "Memory", "By keys or writes",
      "Resident memory after, less before, for each key or write; each a process of its own. Of fewer than 100,000 as many "
      "buckets are weighed at once as have so many. What a compaction frees stays with the process, for later writes."),
@@ -282,9 +340,26 @@ GROUPS = (
      "Processor time of `kvbucket` for a line and its answer, as `scripts/lines.py` measures it: batches of 20,000 gets and of "
      "2,000 puts, where the keys are new of a fifth of the keys at most. Nine rounds, spread over the whole run of the bench; "
      "each program waits with its keys in between, so a round begins with as many gets as there are keys (100,000 of 990,000), "
-     "and ends with deletes of its new keys and a compaction, which are not measured. The program asks for pages of 2 MiB, as `./kvbucket` has it do; `kv_bench`, of which all other figures are, "
-     "does not. A refused line ends the bench."),
+     "and ends with deletes of its new keys and a compaction, which are not measured. The program has pages of 4 KiB here, as `kv_bench` "
+     "has; `./kvbucket` asks for pages of 2 MiB. A refused line ends the bench."),
 )
+
+
+# What stands in a table beside what is measured.
+LARGE, SMALL = "pages of 2 MiB", "pages of 4 KiB"
+
+
+def figures_of(group, figures):
+    """The figures of a group's table: those of Rust's own crates stand below the bucket's, of the same sizes."""
+    found = [it for it in figures if it.group == group]
+    if group == "pages":
+        beside = [it._replace(group=group, of=SMALL) for it in figures if it.group == "calls"]
+        return sorted((it for it in found + beside if (it.what, it.keys) in {(it.what, it.keys) for it in found}), key=lambda it: it.what)
+    if group.startswith("rust-"):
+        sizes = {it.keys for it in found}
+        mine = [it for it in figures if it.group == group.removeprefix("rust-") and it.of == compared.OWN and column_of(it.keys) in sizes]
+        return mine + found
+    return found
 
 
 def of_file(path, key):
@@ -302,14 +377,14 @@ def page(figures, load, machine, left_out, charts):
     yield "# Measured"
     yield ""
     yield ("By `./bench`, on %s, in %d s. It goes through all groups in three passes; a cell has the median of their medians, and in "
-           "brackets the least and the most of all rounds." % (datetime.date.today().isoformat(), elapsed()))
+           "brackets the least and the most of all rounds." % (datetime.date.today().isoformat(), watch.elapsed()))
     yield ""
     yield "- The machine: %s." % machine_of(load)
     yield "- %s" % machine.told()
     yield ("- The programs: `kv_bench` and `kvbucket`, proved and built by LLVM with %s. Times are of the system's monotonic "
            "clock, unless they are called processor time." % (kit.version() or "an unknown kit"))
     yield ("- Values of 16 bytes; keys of 3 to 8, and five entries of a key kept, but of lines keys of 14 to 19, and one entry. A pass "
-           "has three rounds, one of followers and where memory is weighed; more than 100,000 keys, and the delays, have all their "
+           "has three rounds, one of followers, of Rust's own crates and where memory is weighed; more than 100,000 keys, and the delays, have all their "
            "rounds in the first pass. What is read back is checked: a wrong answer ends the bench.")
     yield ("- A bucket stores at most 1,000,000 writes, and a full one takes none. So what is written to while it is measured has fewer "
            "keys in the last column, as its cells tell.")
@@ -317,12 +392,13 @@ def page(figures, load, machine, left_out, charts):
     if left_out:
         yield "- Left out: %s." % "; ".join(left_out)
     yield ("- Not claimed: that it is so on another machine, with other keys or values, or beside other work. No proof "
-           "speaks of time or memory. The maps, the lock and the channels are the kit's, and not those of Rust's library. "
-           "Where there are more threads than processors, they share them.")
+           "speaks of time or memory. Where no other is named, the maps, the lock and the channels are the kit's, and not those of Rust's "
+           "library; Rust's own crates, which are faster at most of it, have tables of their own, by rustc's release build. Where there "
+           "are more threads than processors, they share them.")
     yield ""
     yield "All figures are in [figures.tsv](figures.tsv), drawn by `scripts/charts.py` where matplotlib is there."
     for group, title, heading, how in GROUPS:
-        found = [it for it in figures if it.group == group]
+        found = figures_of(group, figures)
         if found:
             yield from ("", "## " + title, "", how, "")
             yield from table(found, heading)
@@ -368,39 +444,89 @@ def tell(figures, folder, load, machine, left_out):
     return charts
 
 
+def peers_program(left_out):
+    """The program of peers/, or None where it can't be built, which is told."""
+    say("builds what measures Rust's own crates")
+    try:
+        return peers.built()
+    except (peers.Missing, OSError) as error:
+        left_out.append("Rust's own crates (%s)" % error)
+        return None
+
+
+class Bench:
+    """A whole run: the programs, what was found, and what was left out."""
+
+    def __init__(self, bench, kvbucket):
+        self.left_out: list[str] = []
+        self.found: list[Figure] = []
+        self.bench, self.peers = bench, peers_program(self.left_out)
+        watch.begin()
+        self.machine = Machine(lambda: map_get(bench))
+        self.lines: Optional[Lines] = None
+        if os.access(kvbucket, os.X_OK):
+            say("lines, after %d s" % watch.elapsed())
+            self.lines = Lines(kvbucket, SIZES, GETS, PUTS)
+        else:
+            self.left_out.append("lines, as kvbucket was not built")
+
+    def leave_out(self, what, minutes):
+        self.left_out.append("%s, as the %s minutes were over" % (what, minutes))
+
+    def round_of_lines(self):
+        if self.lines is None:
+            return
+        if watch.of_bucket() > BUDGET:
+            self.leave_out("a round of lines", "five")
+        else:
+            self.lines.round(self.machine)
+
+    def of_bucket(self, it):
+        if watch.of_bucket() > BUDGET:
+            self.leave_out("%s at %s, once" % (it.group, in_digits(it.keys)), "five")
+            return
+        self.machine.wait()
+        self.found += (in_large_pages if it.by == IN_PAGES else measured)(self.bench, it.group, it.keys, it.rounds)
+
+    def of_peers(self, it):
+        if self.peers is None:
+            return
+        if watch.of_peers > BUDGET_OF_PEERS:
+            self.leave_out("%s of Rust's own crates at %s, once" % (it.group, in_digits(it.keys)), "two")
+            return
+        began = watch.elapsed()
+        self.machine.wait()
+        self.found += measured(self.peers, it.group, it.keys, it.rounds)
+        watch.of_peers += watch.elapsed() - began
+
+    def run(self):
+        runs = [it for number in range(PASSES) for it in runs_of(number)]
+        for place, it in enumerate(runs):
+            # So many of the runs as there are rounds of lines begin with one.
+            if place * LINE_ROUNDS // len(runs) != (place - 1) * LINE_ROUNDS // len(runs):
+                self.round_of_lines()
+            (self.of_peers if it.by == OF_PEERS else self.of_bucket)(it)
+
+    def figures(self):
+        of_passes = grouped(self.found, lambda it: (it.group, it.what, it.of, it.others, it.keys)).values()
+        return [*map(merged, of_passes), *(self.lines.figures() if self.lines else ())]
+
+
 def whole(bench, kvbucket, folder):
     load = os.getloadavg()[0]
-    left_out: list[str] = []
-    machine, lines = Machine(lambda: map_get(bench)), None
-    if os.access(kvbucket, os.X_OK):
-        say("lines, after %d s" % elapsed())
-        lines = Lines(kvbucket, SIZES, GETS, PUTS)
-    else:
-        left_out.append("lines, as kvbucket was not built")
-    runs = [it for number in range(PASSES) for it in runs_of(number)]
-    found = []
-    for place, (group, keys, rounds) in enumerate(runs):
-        # So many of the runs as there are rounds of lines begin with one.
-        if lines and place * LINE_ROUNDS // len(runs) != (place - 1) * LINE_ROUNDS // len(runs):
-            if elapsed() > BUDGET:
-                left_out.append("a round of lines, as the five minutes were over")
-            else:
-                lines.round(machine)
-        if elapsed() > BUDGET:
-            left_out.append("%s at %s, once, as the five minutes were over" % (group, in_digits(keys)))
-        else:
-            machine.wait()
-            found += measured(bench, group, keys, rounds)
-    of_passes = grouped(found, lambda it: (it.group, it.what, it.of, it.others, it.keys)).values()
-    figures = [*map(merged, of_passes), *(lines.figures() if lines else ())]
+    it = Bench(bench, kvbucket)
+    it.run()
+    figures = it.figures()
     os.makedirs(folder, exist_ok=True)
-    tell(figures, folder, load, machine, left_out)
-    say("%d figures, %d s" % (len(figures), elapsed()))
+    tell(figures, folder, load, it.machine, it.left_out)
+    if folder == compared.FOLDER:
+        compared.write(figures)
+    say("%d figures, %d s, %d s of these for Rust's own crates" % (len(figures), watch.elapsed(), watch.of_peers))
 
 
 def main():
     bench, kvbucket, *folder = sys.argv[1:]
-    whole(bench, kvbucket, *(folder or [os.path.join(top, "docs", "bench")]))
+    whole(bench, kvbucket, *(folder or [compared.FOLDER]))
 
 
 if __name__ == "__main__":

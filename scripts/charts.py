@@ -14,7 +14,9 @@ if __name__ == "__main__":
 from scripts import figures
 
 STYLE = {"svg.hashsalt": "bench", "font.size": 9, "axes.grid": True, "grid.alpha": 0.3, "svg.fonttype": "none"}
-COLOURS = {"Vilgoued": "#0b6e4f", "HashMap": "#b5541c", "BTreeMap": "#5b4b9a"}
+# The first of these names that stands in another one gives it its colour.
+COLOURS = {"Vilgoued": "#0b6e4f", "Cache": "#1f77b4", "load": "#7fb3d9", "DashMap": "#8c2d5a", "parking_lot": "#c9a227", "crossbeam": "#1f77b4",
+           "tokio": "#8c2d5a", "HashMap": "#b5541c", "BTreeMap": "#5b4b9a"}
 MARKS = "os^vD*Ppx+<>hH1"
 LINES = (":", "-.", "--", "-")
 
@@ -94,6 +96,35 @@ def chart_of_others(folder, name, group, of_group, title, across, up, scale):
         axes.set(xticks=sorted({it.others for it in of_group}))
 
 
+def at_both_ends(found):
+    """The figures of 10,000 keys and of the most, where there are such: more curves could not be told apart."""
+    return [it for it in found if it.keys == 10_000 or it.keys > 500_000] or found
+
+
+def beside(of, group, what):
+    """The figures of Rust's own crates in a group, with the bucket's of the same."""
+    found = [it for it in of["rust-" + group] if it.what == what]
+    return [it for it in of[group] if it.what == what and it.of == "Vilgoued"] + found if found else []
+
+
+def draw_peers(folder, of):
+    """The charts of Rust's own crates beside the bucket."""
+    for word, title in (("get", "A get"), ("put", "A put")):
+        if found := beside(of, "beside", word):
+            chart(folder, "rust-beside-%s.svg" % word, "rust-beside", found, title + ", beside Rust's own crates, on one thread", "keys",
+                  "µs a call", 1e3)
+    for group, words in (("threads", ("reads", "writes")), ("threads-all", ("reads",)), ("feeds", ("items", "processor time of a write"))):
+        for word in words:
+            if found := at_both_ends(beside(of, group, word)):
+                is_rate = found[0].unit == "a second"
+                chart_of_others(folder, "rust-%s-%s.svg" % (group, word.split(" ")[0]), "rust-" + group, found,
+                                "%s%s, beside Rust's own crates" % (word.capitalize(), " a second" if is_rate else ""),
+                                "followers" if group == "feeds" else "readers", "thousands a second" if is_rate else "µs", 1e3)
+    if found := beside(of, "delay", "delay"):
+        chart_of_others(folder, "rust-delay.svg", "rust-delay", [it._replace(least=it.median) for it in at_both_ends(found)],
+                        "From a write's return to its delivery (bars: 99 of 100 are below)", "followers", "µs", 1e3)
+
+
 def draw(folder, of):
     lists = lambda it: it.what.startswith(("keys of", "open a watch"))
     calls = of["calls"]
@@ -103,7 +134,7 @@ def draw(folder, of):
         chart(folder, "lists.svg", "calls", [it for it in calls if lists(it)], "Lists of keys, and watches that are opened",
               "keys in the bucket", "µs a call", 1e3)
     if of["compact"]:
-        chart(folder, "compact.svg", "compact", of["compact"], "A compaction to the last revision, of 1,000 keys",
+        chart(folder, "compact.svg", "compact", of["compact"], "A compaction to the last revision",
               "stored writes", "ms", 1e6)
     for word, title in (("get", "A get"), ("put", "A put"), ("copy", "A snapshot, or a copy of the map")):
         found = [it for it in of["beside"] if it.what == word]
@@ -115,6 +146,9 @@ def draw(folder, of):
         if found:
             chart_of_others(folder, "threads-%s.svg" % word, "threads", found, "%s a second, a writer beside readers" % word.capitalize(),
                             "readers", "thousands a second", 1e3)
+    if reads := [it for it in of["threads-all"] if it.what == "reads"]:
+        chart_of_others(folder, "threads-all-reads.svg", "threads-all", reads, "Reads a second of all keys, a writer beside readers", "readers",
+                        "thousands a second", 1e3)
     # Bars from the median up: the least is nothing, where an item came before the write returned.
     delays = [it._replace(least=it.median) for it in of["delay"]]
     if delays:
@@ -124,6 +158,8 @@ def draw(folder, of):
     if items:
         chart_of_others(folder, "feeds.svg", "feeds", items, "Items a second, of all followers of one writer", "followers",
                         "thousands a second", 1e3)
+    if busy := [it for it in of["feeds"] if it.what == "processor time of a write"]:
+        chart_of_others(folder, "feeds-busy.svg", "feeds", busy, "The writer's processor time of a write, beside followers", "followers", "µs", 1e3)
     if of["memory"]:
         chart(folder, "memory.svg", "memory", of["memory"], "Resident memory", "keys or writes", "bytes for each", 1)
     if of["lines"]:
@@ -133,8 +169,10 @@ def draw(folder, of):
 
 def main():
     folder = sys.argv[1]
+    of = figures.grouped(figures.read(folder), lambda it: it.group)
     with matplotlib.rc_context(STYLE):
-        draw(folder, figures.grouped(figures.read(folder), lambda it: it.group))
+        draw(folder, of)
+        draw_peers(folder, of)
 
 
 if __name__ == "__main__":

@@ -32,3 +32,13 @@ def grouped(figures, name):
 
 def in_digits(number):
     return "{:,}".format(number)
+
+
+def in_words(value, unit):
+    """A value with three digits, in the unit of its size."""
+    steps = {"ns": (("ns", 1), ("µs", 1e3), ("ms", 1e6), ("s", 1e9)), "a second": (("", 1), ("k", 1e3), ("M", 1e6)),
+             "bytes": (("B", 1),)}[unit]
+    name, size = next((it for it in reversed(steps) if value >= it[1]), steps[0])
+    scaled = value / size
+    digits = 0 if scaled >= 100 or unit == "bytes" else 1 if scaled >= 10 else 2
+    return ("%.*f %s" % (digits, scaled, name)).strip()

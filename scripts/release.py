@@ -2,15 +2,15 @@
 """release.py [--check]: makes dist/vilgoued-VERSION-linux-x86_64.tar.gz from the program and the library that were proved and built last,
 which have to be of the sources as they are now, and tells its size.
 
-With --check it compares the release that lies in dist/ with what would be made now, byte for byte; the library, which the machine's own C
-compiler makes, where that is the one of the release, and else by the sums of its sources. Where there is no dist/ it says so, and
-that is right."""
+With --check it compares the release that lies in dist/ with what would be made now, byte for byte. What the machine's own C compiler makes
+of the library it compares so where that is the compiler of the release, and else by the sums of its sources; what the kit makes of it by
+its sum, whatever compiler there is. Where there is no dist/ it says that this is left out."""
 import os, subprocess, sys, tempfile
 
 if __name__ == "__main__":
     sys.dont_write_bytecode = True
     sys.path.insert(0, os.path.dirname(os.path.dirname(os.path.realpath(__file__))))
-from scripts import archive, current, kit, top
+from scripts import archive, current, kit, objects, top
 from scripts.current import LIBRARY, PROGRAM
 
 # How what is not current is built.
@@ -69,6 +69,11 @@ def libraries():
     return [static, shared, shared]
 
 
+def kit_part():
+    """The sum of what the kit made of the static library that was built last, before anything was stripped of it."""
+    return objects.sum_of_kit(read(current.built(LIBRARY).made[0]))
+
+
 def package():
     """The files of the Python package."""
     paths = [path for path in current.files_in(PACKAGE) if "__pycache__" not in path and not path.endswith(".so")]
@@ -90,7 +95,8 @@ def needs(name):
 def wanted(compiler, libraries):
     """The name of the release that has to be there now, and its members by path, with the libraries that this compiler made."""
     release = version()
-    build = "version: %s\nkit: %s\ncompiler: %s\nsources:\n%s" % (release, kit.version(), compiler, sources())
+    build = "version: %s\nkit: %s\ncompiler: %s\nlibvilgoued.a, what the kit made: %s\nsources:\n%s" % (
+        release, kit.version(), compiler, kit_part(), sources())
     files = {"BUILD": build.encode(), "LICENSE": read("LICENSE"), "lib/pkgconfig/vilgoued.pc": (PKG_CONFIG % release).encode(),
              **{path: read(path) for path in current.files_in("include")}, **manual(), **package(), **dict(zip(LIBRARIES, libraries))}
     members = {path: archive.Member(data) for path, data in files.items()}
@@ -119,7 +125,7 @@ def older(build):
 
 def check():
     if not os.path.isdir(archive.FOLDER):
-        print("there is no dist/, and so no release to compare")
+        print("left out: there is no dist/, and so no release to compare")
         return
     name = archive.only()
     there = dict(archive.each(name))
@@ -130,13 +136,10 @@ def check():
     if told(build, "kit") != kit.version():
         raise Refused("the release is of %s, and the kit is %s: run ./release" % (told(build, "kit"), kit.version() or "not there"))
     needs(PROGRAM)
+    needs(LIBRARY)
     compiler = told(build, "compiler")
     is_by_another = compiler != current.compiler()
-    if is_by_another:
-        made = [there.get(path, archive.Member(b"")).data for path in LIBRARIES]
-    else:
-        needs(LIBRARY)
-        made = libraries()
+    made = [there.get(path, archive.Member(b"")).data for path in LIBRARIES] if is_by_another else libraries()
     now, members = wanted(compiler, made)
     wrong = sorted(path for path in {*there, *members} if there.get(path) != members.get(path))
     if wrong:
@@ -145,7 +148,7 @@ def check():
         raise Refused("the release has not the form that ./release gives it: run ./release")
     print("the release is what was built: %d files" % len(members))
     if is_by_another:
-        print("of the libraries the sources were compared, since another compiler made them: " + compiler)
+        print("of the libraries what the kit made was compared, and the sources of the rest, since another compiler made them: " + compiler)
 
 
 def main():
@@ -153,7 +156,7 @@ def main():
         if sys.argv[1:] not in ([], ["--check"]):
             raise Refused("the only argument is --check")
         check() if sys.argv[1:] else make()
-    except (Refused, archive.Missing, OSError, subprocess.CalledProcessError) as error:
+    except (Refused, archive.Missing, OSError, ValueError, subprocess.CalledProcessError) as error:
         sys.exit("release: %s" % error)
 
 

@@ -2,17 +2,16 @@
 from __future__ import annotations
 
 import ctypes
-from typing import List, Optional, SupportsIndex, TypeVar, Union, overload
+from typing import List, Optional, SupportsIndex
 
 from ._arguments import Name, name_of, number_of
+from ._finding import Finds
 from ._items import Status, Value
 from ._library import KEY_NOT_FOUND, TOO_LITTLE_ROOM, Function, Handle, Room, StatusStruct, check, give_back, room
 from .refusals import refusal
 
-_T = TypeVar("_T")
 
-
-class Reads:
+class Reads(Finds):
     """Reads by functions of the library, which are handed the handle's address first."""
 
     def __init__(
@@ -48,28 +47,6 @@ class Reads:
                 used.grow(used.size.value)
         finally:
             give_back(used)
-
-    @overload
-    def get(self, key: Name, default: None = None, *, at: Optional[SupportsIndex] = None) -> Optional[Value]:
-        ...
-
-    @overload
-    def get(self, key: Name, default: _T, *, at: Optional[SupportsIndex] = None) -> Union[Value, _T]:
-        ...
-
-    def get(self, key: Name, default: Optional[_T] = None, *, at: Optional[SupportsIndex] = None) -> Union[Value, Optional[_T]]:
-        """The value of the key with its revision, or `default`; with `at`, the put of that revision, if retained."""
-        found = self._find(key, at)
-        return default if found is None else found
-
-    def __getitem__(self, key: Name) -> bytes:
-        found = self._find(key)
-        if found is None:
-            raise KeyError(key)
-        return found.value
-
-    def __contains__(self, key: Name) -> bool:
-        return self._find(key) is not None
 
     def keys(self, filter: Name = ">") -> List[str]:
         """The keys that match and have a value, in the order of their last puts."""

@@ -37,6 +37,10 @@ class Snapshot(Reads):
         super().__init__(*(_in_turn(lock, call) for call in calls))
         check(reader._kv_snapshot(reader._at, self._at))
 
+    def snapshot(self) -> Snapshot:
+        """The same moment once more."""
+        return Snapshot(self)
+
     def history(self, key: Name) -> List[Entry]:
         """The retained entries of the key, oldest first; none where it was never written."""
         name, used = name_of(key), room()
@@ -53,10 +57,6 @@ class Snapshot(Reads):
                 entries.append(used.entry_of(name))
         finally:
             give_back(used)
-
-    def snapshot(self) -> Snapshot:
-        """The same moment once more."""
-        return Snapshot(self)
 
     def watch(
         self,

@@ -36,6 +36,7 @@ pub fn of_word(word: &str) -> Option<Group> {
         "calls-growth" => Some(Group::Calls(calls::Part::Growth)),
         "calls-reads" => Some(Group::Calls(calls::Part::Reads)),
         "calls-writes" => Some(Group::Calls(calls::Part::Writes)),
+        "calls-long" => Some(Group::Calls(calls::Part::Long)),
         "compact" => Some(Group::Compact),
         "collide" => Some(Group::Collide),
         "beside-reads" => Some(Group::Beside(beside::Part::Live(beside::Asked::Reads))),
@@ -46,6 +47,7 @@ pub fn of_word(word: &str) -> Option<Group> {
         "memory-held" => Some(Group::Memory(memory::What::Held)),
         "memory-compacted" => Some(Group::Memory(memory::What::Compacted)),
         "threads" => Some(Group::Threads(Task::Read)),
+        "threads-all" => Some(Group::Threads(Task::ReadAll)),
         "feeds" => Some(Group::Threads(Task::Follow)),
         "delay" => Some(Group::Threads(Task::Delay)),
         "check" => Some(Group::Check),
@@ -77,7 +79,8 @@ fn weigh_all<R: Print + Files + AllocGlobal>(
 fn all_calls<R: Clock + Print>(rt: &R, alloc: Global, plan: Plan) -> Result<(), Fault> {
     calls::run(rt, alloc, plan, calls::Part::Growth)?;
     calls::run(rt, alloc, plan, calls::Part::Reads)?;
-    calls::run(rt, alloc, plan, calls::Part::Writes)
+    calls::run(rt, alloc, plan, calls::Part::Writes)?;
+    calls::run(rt, alloc, plan, calls::Part::Long)
 }
 
 fn all_beside<R: Clock + Print + Wait>(rt: &R, alloc: Global, plan: Plan) -> Result<(), Fault> {
@@ -96,6 +99,7 @@ fn all<R: Clock + CpuClock + Print + Wait + Threads + Sync + Files + AllocGlobal
     colliding::run(rt, alloc, plan)?;
     all_beside(rt, alloc, plan)?;
     rounds(rt, alloc, plan, Task::Read)?;
+    rounds(rt, alloc, plan, Task::ReadAll)?;
     rounds(rt, alloc, plan, Task::Follow)?;
     rounds(rt, alloc, plan, Task::Delay)?;
     weigh_all(rt, alloc, plan)

@@ -1,7 +1,7 @@
 //! What each thread of a round does.
 
 use crate::round::{ASKED, Done, Round, all_done};
-use crate::sides::{Gets, Puts, Takes, get_all};
+use crate::sides::{Gets, Puts, Takes};
 use kv_gauge::clock::nanos;
 use kv_gauge::fault::{Answer, Fault, check};
 use kv_gauge::keys::VALUE;
@@ -29,8 +29,10 @@ fn write_all<P: Puts, R: Wait + Clock>(
     puts: &mut P,
     moments: &mut Vec<u64>,
 ) -> Result<usize, Fault> {
+    let mut place = 0;
     for turn in 0..round.writes {
-        puts.put(rt, turn % ASKED)?;
+        puts.put(rt, place)?;
+        place = round.next(place);
         round.note(rt, moments)?;
         if round.is_enough(rt, turn)? {
             return Ok(turn.wrapping_add(1));
@@ -73,6 +75,22 @@ fn write_to_the_end<P: Puts + Drop, R: Wait + Clock + CpuClock>(
     done
 }
 
+// Reads some keys, from one on: how many bytes their values have, and the place of the key behind the last.
+fn get_some<G: Gets, R: Wait>(
+    rt: &R,
+    round: &Round,
+    gets: &mut G,
+    first: usize,
+) -> Result<(usize, usize), Fault> {
+    let mut bytes = 0_usize;
+    let mut place = first;
+    for _ in 0..ASKED {
+        bytes = bytes.wrapping_add(gets.get(rt, place)?);
+        place = round.next(place);
+    }
+    Ok((bytes, place))
+}
+
 fn read<G: Gets + Drop, R: Wait + Clock>(
     rt: &R,
     alloc: Global,
@@ -81,11 +99,13 @@ fn read<G: Gets + Drop, R: Wait + Clock>(
 ) -> Result<Done, Fault> {
     let mut gets = gets;
     let mut count = 0_usize;
+    let mut place = round.first();
     for _ in 0..u64::MAX {
         if round.is_over() {
             break;
         }
-        let bytes = get_all(rt, &mut gets, ASKED)?;
+        let (bytes, behind) = get_some(rt, round, &mut gets, place)?;
+        place = behind;
         check(bytes == ASKED.wrapping_mul(VALUE.len()), Answer::Values)?;
         count = count.wrapping_add(ASKED);
     }

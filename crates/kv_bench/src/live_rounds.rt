@@ -4,7 +4,7 @@ ghost use Rattle.std.specs.Prelude.{◌≡◌};
 
 use crate::jobs::{Job, perform_all};
 use crate::lives::{Follows, Load, Reads, Writes, fill, opened, spread_load};
-use crate::round::{ASKED, Done, Round, Task};
+use crate::round::{Done, Round, Task, asked};
 use crate::told::{Over, most, tell_all, untold};
 use kv_bucket::{Filters, KvError, Live, LiveName, Opened, Reader};
 use kv_gauge::fault::Fault;
@@ -61,7 +61,7 @@ fn job<'a, N: LiveName>(
     reader: Reader<N>,
 ) -> Result<LiveJob<'a, N>, Fault> {
     match task {
-        Task::Read => Ok(Job::Get(Reads::new(reader, load.keys.as_slice())?)),
+        Task::Read | Task::ReadAll => Ok(Job::Get(Reads::new(reader, load.keys.as_slice())?)),
         Task::Follow | Task::Delay => Ok(Job::Take(feed(alloc, reader)?)),
     }
 }
@@ -125,7 +125,7 @@ fn live_figures<N: LiveName + Send + Sync, R: Threads + Wait + Sync + Clock + Cp
     live: &Live<N>,
 ) -> Result<(), Fault> {
     fill(rt, alloc, live, plan.keys)?;
-    let load = spread_load(alloc, plan, ASKED)?;
+    let load = spread_load(alloc, plan, asked(plan, task))?;
     let ground = Lively { live, load: &load };
     figures(rt, alloc, plan, task, &ground)
 }

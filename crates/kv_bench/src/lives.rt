@@ -61,6 +61,7 @@ pub struct Reads<'a, N: LiveName> {
     keys: &'a [Key],
 }
 
+// Field by field: a derived drop makes each proof longer that owns one.
 impl<'a, N: LiveName> Drop for Reads<'a, N> {
     fn drop(self) {
         let Self {

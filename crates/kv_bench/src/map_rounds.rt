@@ -2,7 +2,7 @@
 
 use crate::jobs::{Job, perform_all};
 use crate::maps::{Locked, filled, texts};
-use crate::round::{ASKED, Done, Round, Task};
+use crate::round::{Done, Round, Task, asked};
 use crate::sides::{Puts, Takes};
 use crate::told::{Over, tell_all, untold};
 use crossbeam_channel::{Receiver, Sender, unbounded};
@@ -153,14 +153,18 @@ fn round<R: Threads + Wait + Sync + Clock + CpuClock>(
     ground: &Plain<'_>,
     others: usize,
 ) -> Result<Vec<Done>, Fault> {
-    if let Task::Read = task {
-        let jobs = reading(alloc, ground, others)?;
-        let round = Round::begun(rt, plan, task, usize::MAX)?;
-        return perform_all(rt, alloc, &round, jobs);
+    match task {
+        Task::Read | Task::ReadAll => {
+            let jobs = reading(alloc, ground, others)?;
+            let round = Round::begun(rt, plan, task, usize::MAX)?;
+            perform_all(rt, alloc, &round, jobs)
+        }
+        Task::Follow | Task::Delay => {
+            let jobs = following(alloc, ground, others)?;
+            let round = Round::begun(rt, plan, task, usize::MAX)?;
+            perform_all(rt, alloc, &round, jobs)
+        }
     }
-    let jobs = following(alloc, ground, others)?;
-    let round = Round::begun(rt, plan, task, usize::MAX)?;
-    perform_all(rt, alloc, &round, jobs)
 }
 
 // One round for each number of threads in turn, as of a live bucket.
@@ -189,7 +193,7 @@ pub fn run<R: Threads + Wait + Sync + Clock + CpuClock + Print>(
     task: Task,
 ) -> Result<(), Fault> {
     let lock = RwLock::new(filled::<Map>(alloc, plan.keys)?);
-    let texts = texts(alloc, plan.keys, ASKED)?;
+    let texts = texts(alloc, plan.keys, asked(plan, task))?;
     let ground = Plain {
         lock: &lock,
         texts: texts.as_slice(),

@@ -9,7 +9,8 @@ use std::sync::atomic::{AtomicU64, Ordering};
 use std::thread;
 use std::time::{Duration, Instant};
 
-/// How many keys the threads of a round ask for.
+/// How many keys the threads of a round ask for, unless they ask for all, and how many reads a reader makes before it looks
+/// whether the round is over.
 pub const ASKED: usize = 500;
 
 // How long a writer writes that is not followed, in nanoseconds: shorter where nothing is told.
@@ -32,10 +33,20 @@ const PAUSE: u64 = 100;
 pub enum Task {
     /// One writes for a time, the others read.
     Read,
+    /// The same over all keys.
+    ReadAll,
     /// One makes a number of writes, the others follow.
     Follow,
     /// One makes a number of writes with pauses, the others tell when the items came.
     Delay,
+}
+
+/// How many keys are asked for.
+pub fn asked(plan: Plan, task: Task) -> usize {
+    match task {
+        Task::ReadAll => plan.keys,
+        Task::Read | Task::Follow | Task::Delay => ASKED,
+    }
 }
 
 fn writes(plan: Plan, task: Task) -> usize {
@@ -43,7 +54,7 @@ fn writes(plan: Plan, task: Task) -> usize {
         return QUIET_WRITES;
     }
     match task {
-        Task::Read => usize::MAX,
+        Task::Read | Task::ReadAll => usize::MAX,
         Task::Follow => WRITES,
         Task::Delay => PAUSED_WRITES,
     }
@@ -55,9 +66,11 @@ pub struct Round {
     task: Task,
     /// The most writes that are made.
     pub writes: usize,
+    asked: usize,
     nanos: u64,
     start: Instant,
     ended: AtomicU64,
+    readers: AtomicU64,
 }
 
 impl Round {
@@ -66,10 +79,27 @@ impl Round {
         Ok(Round {
             task,
             writes: writes(plan, task).min(room),
+            asked: asked(plan, task),
             nanos: if plan.quiet { QUIET_NANOS } else { NANOS },
             start: Instant::now(rt)?,
             ended: AtomicU64::new(0),
+            readers: AtomicU64::new(0),
         })
+    }
+
+    /// The place of the key behind this one: after the last one comes the first.
+    pub fn next(&self, place: usize) -> usize {
+        let next = place.wrapping_add(1);
+        if next >= self.asked { 0 } else { next }
+    }
+
+    /// The place of the first key of a reader that begins now: each begins elsewhere.
+    pub fn first(&self) -> usize {
+        let before = self.readers.fetch_add(1, Ordering::SeqCst) as usize;
+        if self.asked == 0 {
+            return 0;
+        }
+        before.wrapping_mul(self.asked / 7) % self.asked
     }
 
     /// The nanoseconds since it began.
@@ -99,7 +129,7 @@ impl Round {
     /// then.
     pub fn is_enough<R: Clock>(&self, rt: &R, turn: usize) -> Result<bool, Fault> {
         match self.task {
-            Task::Read => Ok(turn % 128 == 127 && self.time(rt)? >= self.nanos),
+            Task::Read | Task::ReadAll => Ok(turn % 128 == 127 && self.time(rt)? >= self.nanos),
             Task::Follow => Ok(false),
             Task::Delay => {
                 thread::sleep(rt, Duration::from_micros(PAUSE));

@@ -1,11 +1,11 @@
 //! The calls of the library on one thread.
 
 use crate::fault::Fault;
-use crate::keys::{deletes, filters_of, one_filter, puts, spread};
+use crate::keys::{VALUE, deletes, filters_of, one_filter, puts, spread};
 use crate::plan::Plan;
 use crate::series::{Name, Series};
 use crate::subject::{empty, fill, grow, time_writes};
-use crate::{reading, watching};
+use crate::{long, reading, watching};
 use kv_single::{Bucket, Filter, Key};
 use std::alloc::Global;
 use std::rt::Clock;
@@ -16,9 +16,11 @@ enum What {
     Get,
     Snapshot,
     KeysOfKey,
+    KeysOfOne,
     KeysOfWildcard,
     KeysOfAll,
     WatchKey,
+    WatchOne,
     WatchWildcard,
     WatchAll,
     InitialItem,
@@ -34,9 +36,11 @@ const READS: &'static [What] = &[
     What::Get,
     What::Snapshot,
     What::KeysOfKey,
+    What::KeysOfOne,
     What::KeysOfWildcard,
     What::KeysOfAll,
     What::WatchKey,
+    What::WatchOne,
     What::WatchWildcard,
     What::WatchAll,
     What::InitialItem,
@@ -52,9 +56,11 @@ fn text(what: What) -> &'static str {
         What::Get => "get",
         What::Snapshot => "snapshot",
         What::KeysOfKey => "keys of a literal filter",
+        What::KeysOfOne => "keys of *.17",
         What::KeysOfWildcard => "keys of a.*",
         What::KeysOfAll => "keys of >",
         What::WatchKey => "open a watch of a literal filter",
+        What::WatchOne => "open a watch of *.17",
         What::WatchWildcard => "open a watch of a.*",
         What::WatchAll => "open a watch of >",
         What::InitialItem => "take an initial item",
@@ -91,6 +97,10 @@ fn filters(
     what: What,
 ) -> Result<(Vec<Filter>, usize), Fault> {
     match what {
+        What::KeysOfOne | What::WatchOne => Ok((
+            one_filter(alloc, "*.17")?,
+            if plan.keys > 17 { 1 } else { 0 },
+        )),
         What::KeysOfWildcard | What::WatchWildcard => Ok((
             one_filter(alloc, "a.*")?,
             plan.keys.div_ceil(100),
@@ -110,13 +120,8 @@ fn find<R: Clock>(
 ) -> Result<u64, Fault> {
     let (filters, wanted) = filters(alloc, plan, asked, what)?;
     match what {
-        What::KeysOfKey | What::KeysOfWildcard | What::KeysOfAll => reading::lists(
-            rt,
-            alloc,
-            bucket.version(),
-            filters.as_slice(),
-            wanted,
-        ),
+        What::KeysOfKey | What::KeysOfOne | What::KeysOfWildcard | What::KeysOfAll =>
+            reading::lists(rt, alloc, bucket.version(), filters.as_slice(), wanted),
         _ => watching::opens(rt, alloc, bucket, filters.as_slice()),
     }
 }
@@ -131,7 +136,7 @@ fn measure<R: Clock>(
 ) -> Result<u64, Fault> {
     let few = asked.len();
     match what {
-        What::Get => reading::gets(rt, bucket.version(), asked),
+        What::Get => reading::gets(rt, bucket.version(), asked, VALUE.len()),
         What::Snapshot => reading::snapshots(rt, bucket.version(), few),
         What::InitialItem => watching::initial_items(rt, alloc, bucket, few),
         What::IdlePoll => watching::idle_polls(rt, alloc, bucket, few),
@@ -208,6 +213,8 @@ pub enum Part {
     Reads,
     /// Writes to keys that are there, and what needs these.
     Writes,
+    /// Gets and puts of values that take a block of their own.
+    Long,
 }
 
 /// Measures each call of a part.
@@ -216,5 +223,6 @@ pub fn run<R: Clock + Print>(rt: &R, alloc: Global, plan: Plan, part: Part) -> R
         Part::Growth => growths(rt, alloc, plan),
         Part::Reads => fill_and_measure(rt, alloc, plan, READS),
         Part::Writes => fill_and_measure(rt, alloc, plan.with_room(), WRITES),
+        Part::Long => long::run(rt, alloc, plan.with_room()),
     }
 }

@@ -1,7 +1,7 @@
 //! Keys of one place, as somebody can choose them who knows the hash.
 
 use crate::fault::{Answer, Fault, check};
-use crate::keys::{place, puts};
+use crate::keys::{VALUE, place, puts};
 use crate::plan::Plan;
 use crate::reading;
 use crate::series::{Name, Series};
@@ -101,7 +101,7 @@ fn measure<R: Clock>(rt: &R, alloc: Global, plan: Plan) -> Result<Round, Fault> 
     let (bucket, new) = grown(rt, alloc, plan.keys)?;
     let mut bucket = bucket;
     let asked = spread(alloc, plan.keys, plan.asked())?;
-    let get = reading::gets(rt, bucket.version(), asked.as_slice())?;
+    let get = reading::gets(rt, bucket.version(), asked.as_slice(), VALUE.len())?;
     let requests = puts(alloc, asked.as_slice())?;
     let there = time_writes(rt, &mut bucket, requests.as_slice())?;
     Ok(Round { new, get, there })

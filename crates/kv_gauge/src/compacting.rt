@@ -11,8 +11,8 @@ use std::alloc::Global;
 use std::rt::Clock;
 use std::time::Instant;
 
-// How many keys are written over and over.
-const KEYS: usize = 1000;
+// How few keys are written over and over.
+const FEW: usize = 1000;
 
 // Still there: the key's value.
 fn is_there(alloc: Global, bucket: &Bucket) -> Result<(), Fault> {
@@ -30,30 +30,41 @@ pub fn compaction<R: Clock>(rt: &R, bucket: &mut Bucket) -> Result<u64, Fault> {
     Ok(each(took, 1))
 }
 
-// The time of a compaction behind so many writes.
+// The time of a compaction behind so many writes to these many keys.
 fn behind<R: Clock>(
     rt: &R,
     alloc: Global,
     bucket: &mut Bucket,
+    keys: usize,
     writes: usize,
 ) -> Result<u64, Fault> {
-    overwrite(alloc, bucket, KEYS, writes)?;
+    overwrite(alloc, bucket, keys, writes)?;
     let took = compaction(rt, bucket)?;
     is_there(alloc, bucket)?;
     Ok(took)
 }
 
-fn measure<R: Clock>(rt: &R, alloc: Global, plan: Plan) -> Result<u64, Fault> {
+fn measure<R: Clock>(rt: &R, alloc: Global, keys: usize, writes: usize) -> Result<u64, Fault> {
     let mut bucket = empty(alloc)?;
-    behind(rt, alloc, &mut bucket, plan.keys)
+    behind(rt, alloc, &mut bucket, keys, writes)
 }
 
-/// Measures compactions of so many stored writes to a thousand keys.
-pub fn run<R: Clock + Print>(rt: &R, alloc: Global, plan: Plan) -> Result<(), Fault> {
-    let name = Name::time("compact", "compact to the last revision", "");
-    let mut series = Series::new(alloc, name, plan);
+fn compactions<R: Clock + Print>(
+    rt: &R,
+    alloc: Global,
+    plan: Plan,
+    what: &'static str,
+    keys: usize,
+) -> Result<(), Fault> {
+    let mut series = Series::new(alloc, Name::time("compact", what, ""), plan);
     for _ in 0..plan.rounds {
-        series.add(measure(rt, alloc, plan)?)?;
+        series.add(measure(rt, alloc, keys, plan.keys)?)?;
     }
     series.tell(rt)
+}
+
+/// Measures compactions of so many stored writes, to a thousand keys and to as many keys.
+pub fn run<R: Clock + Print>(rt: &R, alloc: Global, plan: Plan) -> Result<(), Fault> {
+    compactions(rt, alloc, plan, "compact 1,000 keys", FEW)?;
+    compactions(rt, alloc, plan, "compact as many keys", plan.keys)
 }

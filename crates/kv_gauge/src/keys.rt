@@ -59,11 +59,16 @@ pub fn spread(alloc: Global, count: usize, asked: usize) -> Result<Vec<Key>, Fau
     Ok(keys)
 }
 
+/// A put of these bytes to a key.
+pub fn put_of(alloc: Global, key: &Key, bytes: &[u8]) -> Result<Request, Fault> {
+    let key = key.copy(alloc)?;
+    let value = Vec::from_slice(alloc, bytes)?;
+    Ok(Request::Put { key, value })
+}
+
 /// A put to a key.
 pub fn put(alloc: Global, key: &Key) -> Result<Request, Fault> {
-    let key = key.copy(alloc)?;
-    let value = Vec::from_slice(alloc, VALUE)?;
-    Ok(Request::Put { key, value })
+    put_of(alloc, key, VALUE)
 }
 
 /// A delete of a key.

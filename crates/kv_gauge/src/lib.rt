@@ -8,6 +8,7 @@ pub mod colliding;
 pub mod compacting;
 pub mod fault;
 pub mod keys;
+pub mod long;
 pub mod memory;
 pub mod plan;
 pub mod reading;

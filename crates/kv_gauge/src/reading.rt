@@ -2,7 +2,6 @@
 
 use crate::clock::{each, since};
 use crate::fault::{Answer, Fault, check};
-use crate::keys::VALUE;
 use kv_single::{Filter, Key, Version};
 use std::alloc::Global;
 use std::rt::Clock;
@@ -16,15 +15,12 @@ fn get_all(version: &Version, keys: &[Key]) -> Result<usize, Fault> {
     Ok(bytes)
 }
 
-/// Gets.
-pub fn gets<R: Clock>(rt: &R, version: &Version, keys: &[Key]) -> Result<u64, Fault> {
+/// Gets of values that have so many bytes each.
+pub fn gets<R: Clock>(rt: &R, version: &Version, keys: &[Key], size: usize) -> Result<u64, Fault> {
     let start = Instant::now(rt)?;
     let bytes = get_all(version, keys)?;
     let took = since(rt, &start)?;
-    check(
-        bytes == keys.len().wrapping_mul(VALUE.len()),
-        Answer::Values,
-    )?;
+    check(bytes == keys.len().wrapping_mul(size), Answer::Values)?;
     Ok(each(took, keys.len()))
 }
 
