@@ -1,0 +1,3 @@
+module vilgoued
+
+go 1.19

@@ -1,0 +1,154 @@
+//! A bucket.
+use crate::sys::{self, Shared};
+use crate::{Entry, Error, Follower, Limits, Options, Reader, Snapshot, Status, Watch};
+use std::fmt;
+use std::sync::Arc;
+
+/// A bucket, which any number of threads use at once. It is freed where it is dropped or closed.
+///
+/// Each write holds the bucket's lock, and is published before it returns: a reader's next call reads it, and a follower is
+/// handed it. Each call behind a close is refused as [`Error::Closed`], and each may be refused as [`Error::OutOfMemory`].
+///
+/// ```
+/// # use vilgoued::{Bucket, Limits};
+/// let bucket = Bucket::open("settings", Limits::default())?;
+/// std::thread::scope(|scope| {
+///     scope.spawn(|| bucket.put("app.port", "80"));
+///     scope.spawn(|| bucket.put("app.host", "localhost"));
+/// });
+/// assert_eq!(bucket.status()?.last, 2);
+/// # Ok::<(), vilgoued::Error>(())
+/// ```
+pub struct Bucket {
+    shared: Arc<Shared>,
+}
+
+impl Bucket {
+    /// Opens a bucket of this name with no writes. BadBucket, BadConfig.
+    pub fn open(name: &str, limits: Limits) -> Result<Bucket, Error> {
+        Ok(Bucket { shared: Shared::open(name, &limits)? })
+    }
+
+    /// Gives the key the value, and answers the revision of the write. BadKey, ValueTooLarge, Sealed, JournalFull.
+    #[inline]
+    pub fn put(&self, key: &str, value: impl AsRef<[u8]>) -> Result<u64, Error> {
+        self.shared.put(key, value.as_ref())
+    }
+
+    /// The same, where the key has no value. KeyExists.
+    pub fn create(&self, key: &str, value: impl AsRef<[u8]>) -> Result<u64, Error> {
+        self.shared.create(key, value.as_ref())
+    }
+
+    /// The same, where `last` is the key's last revision, 0 where it was never written. WrongLastRevision.
+    pub fn update(&self, key: &str, value: impl AsRef<[u8]>, last: u64) -> Result<u64, Error> {
+        self.shared.update(key, value.as_ref(), last)
+    }
+
+    /// Ends the value of the key.
+    pub fn delete(&self, key: &str) -> Result<u64, Error> {
+        self.shared.delete(key, None)
+    }
+
+    /// The same, where `last` is the key's last revision. WrongLastRevision.
+    pub fn delete_at(&self, key: &str, last: u64) -> Result<u64, Error> {
+        self.shared.delete(key, Some(last))
+    }
+
+    /// Ends the value of the key, and its earlier entries go.
+    pub fn purge(&self, key: &str) -> Result<u64, Error> {
+        self.shared.purge(key, None)
+    }
+
+    /// The same, where `last` is the key's last revision. WrongLastRevision.
+    pub fn purge_at(&self, key: &str, last: u64) -> Result<u64, Error> {
+        self.shared.purge(key, Some(last))
+    }
+
+    /// Ends the writes.
+    pub fn seal(&self) -> Result<(), Error> {
+        self.shared.seal()
+    }
+
+    /// Compacts to a floor: of the writes at or below it only the retained ones stay stored. BadFloor; WatchBehind, with the
+    /// least number of a held watch that has still to hand out an entry at or below the floor that came after its opening.
+    pub fn compact(&self, floor: u64) -> Result<(), Error> {
+        self.shared.compact(floor)
+    }
+
+    /// The highest floor to which a compaction is refused by no held watch and makes no follower lag; 0 where there is none.
+    pub fn reach(&self) -> Result<u64, Error> {
+        self.shared.reach()
+    }
+
+    /// The latest entry of the key, where that is a put. BadKey.
+    #[inline]
+    pub fn get(&self, key: &str) -> Result<Option<Entry>, Error> {
+        self.shared.reads().get(key)
+    }
+
+    /// The retained put of the key that has this revision. BadKey.
+    pub fn get_at(&self, key: &str, revision: u64) -> Result<Option<Entry>, Error> {
+        self.shared.reads().get_at(key, revision)
+    }
+
+    /// The retained entries of the key, oldest first; none where it was never written. BadKey.
+    pub fn history(&self, key: &str) -> Result<Vec<Entry>, Error> {
+        self.snapshot()?.history(key)
+    }
+
+    /// The keys that the filter matches and that have a value, in the order of their last puts. BadFilter.
+    pub fn keys(&self, filter: &str) -> Result<Vec<String>, Error> {
+        self.shared.reads().keys(filter)
+    }
+
+    /// The numbers of the bucket.
+    pub fn status(&self) -> Result<Status, Error> {
+        self.shared.reads().status()
+    }
+
+    /// What the bucket has accepted by now.
+    pub fn snapshot(&self) -> Result<Snapshot, Error> {
+        sys::View::open(&self.shared).map(Snapshot::of)
+    }
+
+    /// A reader, for a thread that reads often: it takes the lock only where something new was published.
+    pub fn reader(&self) -> Result<Reader, Error> {
+        Ok(Reader::of(sys::Reader::open(&self.shared)?, self.shared.clone()))
+    }
+
+    /// A follower of the keys that a filter matches, or one of up to 16 filters with a comma between two. BadFilter,
+    /// NoDescriptor.
+    pub fn follow(&self, filters: &str, options: Options) -> Result<Follower, Error> {
+        Follower::of(sys::Following::open(&self.shared, filters, &options)?)
+    }
+
+    /// A watch that the bucket holds: it never lags, as it refuses a compaction where it is behind. At most 64 are open at a
+    /// time. BadFilter, TooManyWatches.
+    pub fn watch(&self, filters: &str, options: Options) -> Result<Watch, Error> {
+        Watch::open(self.shared.clone(), filters, &options)
+    }
+
+    /// Tells followers that no write comes any more: each comes to its end once all was handed out. It stops no writer.
+    pub fn finish(&self) -> Result<(), Error> {
+        self.shared.finish()
+    }
+
+    /// Frees the bucket, and wakes its followers, who come to the end, also where they had items left. It waits for the calls
+    /// that others are in, and each call behind it is [`Error::Closed`]. Snapshots can be read on.
+    pub fn close(&self) {
+        self.shared.close();
+    }
+}
+
+impl Drop for Bucket {
+    fn drop(&mut self) {
+        self.close();
+    }
+}
+
+impl fmt::Debug for Bucket {
+    fn fmt(&self, to: &mut fmt::Formatter<'_>) -> fmt::Result {
+        to.debug_struct("Bucket").field("status", &self.status()).finish()
+    }
+}

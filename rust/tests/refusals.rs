@@ -1,0 +1,241 @@
+//! Each refusal, with its data; and that bad input changes nothing.
+use std::time::Duration;
+use vilgoued::{Bucket, Error, Item, Limits, Options, Start};
+
+fn open() -> Bucket {
+    Bucket::open("settings", Limits { value_limit: 8, ..Limits::default() }).unwrap()
+}
+
+/// What follows the end marker only.
+const UPDATES: Options = Options { start: Start::Updates, ignore_deletes: false, headers_only: false };
+
+#[test]
+fn a_name_that_is_none_of_a_bucket() {
+    for name in ["", "a.b", "a b", &"a".repeat(65)] {
+        assert_eq!(Bucket::open(name, Limits::default()).unwrap_err(), Error::BadBucket, "{name}");
+    }
+}
+
+#[test]
+fn numbers_outside_their_limits() {
+    for limits in [
+        Limits { history: 0, ..Limits::default() },
+        Limits { history: 65, ..Limits::default() },
+        Limits { value_limit: 1_048_577, ..Limits::default() },
+        Limits { write_limit: 0, ..Limits::default() },
+        Limits { revision_limit: 1 << 32, ..Limits::default() },
+    ] {
+        assert_eq!(Bucket::open("settings", limits).unwrap_err(), Error::BadConfig, "{limits:?}");
+    }
+}
+
+#[test]
+fn texts_that_are_no_keys() {
+    let bucket = open();
+    for key in ["", ".", "a..b", "a*", ">", "ä", "a\0b", "a b", &"k".repeat(256)] {
+        assert_eq!(bucket.put(key, "1"), Err(Error::BadKey), "{key}");
+        assert_eq!(bucket.create(key, "1"), Err(Error::BadKey), "{key}");
+        assert_eq!(bucket.update(key, "1", 0), Err(Error::BadKey), "{key}");
+        assert_eq!(bucket.delete(key), Err(Error::BadKey), "{key}");
+        assert_eq!(bucket.purge(key), Err(Error::BadKey), "{key}");
+        assert_eq!(bucket.get(key), Err(Error::BadKey), "{key}");
+        assert_eq!(bucket.get_at(key, 1), Err(Error::BadKey), "{key}");
+        assert_eq!(bucket.history(key), Err(Error::BadKey), "{key}");
+        assert_eq!(bucket.reader().unwrap().get(key), Err(Error::BadKey), "{key}");
+    }
+    assert_eq!(bucket.status().unwrap().last, 0);
+    assert_eq!(bucket.put(&"k".repeat(255), "1"), Ok(1));
+}
+
+#[test]
+fn texts_that_are_no_filters() {
+    let bucket = open();
+    for filters in ["", ",", "a,", "a..b", "a*", "a.>.b", &["a"; 17].join(",")] {
+        assert_eq!(bucket.follow(filters, Options::default()).unwrap_err(), Error::BadFilter, "{filters}");
+        assert_eq!(bucket.watch(filters, Options::default()).unwrap_err(), Error::BadFilter, "{filters}");
+    }
+    assert_eq!(bucket.keys("a,b"), Err(Error::BadFilter));
+    assert_eq!(bucket.keys("*.>"), Ok(vec![]));
+    assert_eq!(bucket.status().unwrap().watches, 0);
+}
+
+#[test]
+fn a_value_over_the_limit() {
+    let bucket = open();
+    assert_eq!(bucket.put("a", "123456789"), Err(Error::ValueTooLarge));
+    assert_eq!(bucket.put("a", "12345678"), Ok(1));
+    assert_eq!(bucket.put("a", ""), Ok(2));
+    assert_eq!(bucket.get("a").unwrap().unwrap().value(), Some(&b""[..]));
+}
+
+#[test]
+fn a_create_of_a_key_that_is_there() {
+    let bucket = open();
+    assert_eq!(bucket.create("a", "1"), Ok(1));
+    assert_eq!(bucket.create("a", "2"), Err(Error::KeyExists));
+    assert_eq!(bucket.delete("a"), Ok(2));
+    assert_eq!(bucket.create("a", "3"), Ok(3));
+}
+
+#[test]
+fn another_last_revision_is_told() {
+    let bucket = open();
+    bucket.put("a", "1").unwrap();
+    let refused = Err(Error::WrongLastRevision { last: 1 });
+    assert_eq!(bucket.update("a", "2", 7), refused);
+    assert_eq!(bucket.delete_at("a", 7), refused);
+    assert_eq!(bucket.purge_at("a", 0), refused);
+    assert_eq!(bucket.update("b", "2", u64::MAX), Err(Error::WrongLastRevision { last: 0 }));
+    assert_eq!(bucket.update("a", "2", 1), Ok(2));
+    assert_eq!(bucket.delete_at("a", 2), Ok(3));
+    assert_eq!(bucket.purge_at("a", 3), Ok(4));
+}
+
+#[test]
+fn what_is_not_there_is_none() {
+    let bucket = open();
+    bucket.put("a", "1").unwrap();
+    bucket.delete("a").unwrap();
+    assert_eq!(bucket.get("a"), Ok(None));
+    assert_eq!(bucket.get_at("a", 0), Ok(None));
+    assert_eq!(bucket.get("b"), Ok(None));
+    assert_eq!(bucket.history("b"), Ok(vec![]));
+}
+
+#[test]
+fn a_sealed_and_a_full_bucket() {
+    let bucket = Bucket::open("settings", Limits { write_limit: 2, ..Limits::default() }).unwrap();
+    bucket.put("a", "1").unwrap();
+    bucket.put("a", "2").unwrap();
+    assert_eq!(bucket.put("a", "3"), Err(Error::JournalFull));
+    assert_eq!(bucket.compact(0), Err(Error::BadFloor));
+    assert_eq!(bucket.compact(3), Err(Error::BadFloor));
+    assert_eq!(bucket.compact(2), Ok(()));
+    assert_eq!(bucket.put("a", "3"), Ok(3));
+    assert_eq!(bucket.seal(), Ok(()));
+    assert_eq!(bucket.put("a", "4"), Err(Error::Sealed));
+    assert!(bucket.status().unwrap().is_sealed);
+}
+
+#[test]
+fn a_held_watch_that_is_behind_refuses_a_compaction_and_its_end_does_not() {
+    let bucket = open();
+    let _idle = bucket.watch("b", Options::default()).unwrap();
+    let watch = bucket.watch("a", Options::default()).unwrap();
+    bucket.put("a", "1").unwrap();
+    assert_eq!(bucket.compact(1), Err(Error::WatchBehind { watch: 2 }));
+    assert_eq!(bucket.reach(), Ok(0));
+    drop(watch);
+    assert_eq!(bucket.reach(), Ok(1));
+    assert_eq!(bucket.compact(1), Ok(()));
+    assert_eq!(bucket.status().unwrap().watches, 1);
+}
+
+#[test]
+fn more_held_watches_than_there_may_be() {
+    let bucket = open();
+    let held: Vec<_> = (0..64).map(|_| bucket.watch(">", Options::default()).unwrap()).collect();
+    assert_eq!(bucket.watch(">", Options::default()).unwrap_err(), Error::TooManyWatches);
+    drop(held);
+    assert_eq!(bucket.watch(">", Options::default()).unwrap().number(), 65);
+}
+
+#[test]
+fn a_follower_that_lags_is_told_the_floor() {
+    let bucket = open();
+    bucket.put("a", "1").unwrap();
+    let mut follower = bucket.follow(">", UPDATES).unwrap();
+    bucket.put("a", "2").unwrap();
+    bucket.put("a", "3").unwrap();
+    assert_eq!(bucket.reach(), Ok(1));
+    bucket.compact(3).unwrap();
+    let lagged = Error::Lagged { floor: 3 };
+    assert_eq!(follower.next_timeout(Duration::from_secs(9)), Err(lagged));
+    assert_eq!(follower.next_timeout(Duration::MAX), Err(lagged));
+    // As an iterator it tells so once, so that who leaves out refusals comes to an end.
+    assert_eq!(follower.by_ref().collect::<Vec<_>>(), [Err(lagged)]);
+    assert_eq!(follower.next(), None);
+    drop(follower);
+    assert_eq!(bucket.reach(), Ok(3));
+}
+
+#[test]
+fn what_is_closed_is_told_so() {
+    let bucket = open();
+    bucket.put("a", "1").unwrap();
+    let reader = bucket.reader().unwrap();
+    let snapshot = bucket.snapshot().unwrap();
+    let mut follower = bucket.follow(">", Options::default()).unwrap();
+    let mut watch = bucket.watch(">", Options::default()).unwrap();
+    bucket.close();
+    bucket.close();
+    assert_eq!(bucket.put("a", "2"), Err(Error::Closed));
+    assert_eq!(bucket.create("", "2"), Err(Error::Closed));
+    assert_eq!(bucket.update("a", "2", 1), Err(Error::Closed));
+    assert_eq!(bucket.delete("a"), Err(Error::Closed));
+    assert_eq!(bucket.purge("a"), Err(Error::Closed));
+    assert_eq!(bucket.get("a"), Err(Error::Closed));
+    assert_eq!(bucket.get_at("a", 1), Err(Error::Closed));
+    assert_eq!(bucket.keys(">"), Err(Error::Closed));
+    assert_eq!(bucket.history("a"), Err(Error::Closed));
+    assert_eq!(bucket.status(), Err(Error::Closed));
+    assert_eq!(bucket.seal(), Err(Error::Closed));
+    assert_eq!(bucket.compact(1), Err(Error::Closed));
+    assert_eq!(bucket.reach(), Err(Error::Closed));
+    assert_eq!(bucket.finish(), Err(Error::Closed));
+    assert_eq!(bucket.snapshot().unwrap_err(), Error::Closed);
+    assert_eq!(bucket.reader().unwrap_err(), Error::Closed);
+    assert_eq!(bucket.follow(">", UPDATES).unwrap_err(), Error::Closed);
+    assert_eq!(bucket.watch(">", UPDATES).unwrap_err(), Error::Closed);
+    assert_eq!(reader.get("a"), Err(Error::Closed));
+    assert_eq!(reader.history("a"), Err(Error::Closed));
+    assert_eq!(follower.next_timeout(Duration::MAX), Err(Error::Closed));
+    assert_eq!(follower.wait(), Err(Error::Closed));
+    assert_eq!(follower.next(), None);
+    assert_eq!(follower.stopper().stop(), Err(Error::Closed));
+    assert_eq!(watch.try_next(), Err(Error::Closed));
+    assert_eq!(watch.next(), None);
+    assert_eq!(watch.stop(), Err(Error::Closed));
+    // What was accepted by a moment stays.
+    assert_eq!(snapshot.get("a").unwrap().unwrap().value(), Some(&b"1"[..]));
+    drop(bucket);
+    assert_eq!(snapshot.keys(">"), Ok(vec!["a".to_owned()]));
+    assert_eq!(reader.get("a"), Err(Error::Closed));
+}
+
+#[test]
+fn a_stop_ends_a_follower_and_behind_a_drop_there_is_none() {
+    let bucket = open();
+    bucket.put("a", "1").unwrap();
+    let mut follower = bucket.follow(">", Options::default()).unwrap();
+    let stopper = follower.stopper();
+    assert_eq!(stopper.stop(), Ok(()));
+    assert_eq!(follower.next(), None);
+    assert_eq!(follower.wait(), Err(Error::Closed));
+    assert_eq!(stopper.clone().stop(), Ok(()));
+    drop(follower);
+    assert_eq!(stopper.stop(), Err(Error::Closed));
+}
+
+#[test]
+fn followers_end_behind_a_finish_once_all_was_handed_out() {
+    let bucket = open();
+    let mut follower = bucket.follow(">", UPDATES).unwrap();
+    bucket.put("a", "1").unwrap();
+    bucket.finish().unwrap();
+    assert!(matches!(follower.next(), Some(Ok(Item::Entry(entry))) if entry.key() == "a"));
+    assert_eq!(follower.wait(), Err(Error::Closed));
+    assert_eq!(bucket.put("a", "2"), Ok(2));
+    assert_eq!(follower.count(), 1);
+}
+
+#[test]
+fn each_refusal_has_a_text_and_a_code() {
+    let refusals = [Error::OutOfMemory, Error::NoDescriptor, Error::Unknown { code: 99 }, Error::Lagged { floor: 3 }];
+    for refusal in refusals {
+        assert!(!refusal.to_string().is_empty());
+    }
+    assert_eq!(refusals.map(|it| it.code()), [1, 64, 99, 21]);
+    assert_eq!(Error::Lagged { floor: 3 }.to_string(), "what follows lags behind a compaction, whose floor is 3");
+    let _: Box<dyn std::error::Error + Send + Sync> = Box::new(Error::Closed);
+}
