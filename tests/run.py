@@ -25,13 +25,15 @@ PARTS = {
     "journal": ["tests.test_journal"],
     "scripts": ["tests.test_scripts"],
     "refusals": ["tests.memory.test_refusals"],
-    "library": ["tests.c.test_library", "tests.c.test_shared", "tests.python.test_vilgoued", "tests.python.test_following",
+    "library": ["tests.c.test_headers", "tests.c.test_library", "tests.c.test_shared", "tests.python.test_vilgoued", "tests.python.test_following",
                 "tests.python.test_package", "tests.python.test_page", "tests.python.test_scripts", "tests.python.test_example",
                 "tests.python.test_sanitizers"],
+    "rust": ["tests.rust.test_rust"],
+    "go": ["tests.go.test_go"],
     "server": ["tests.python.test_vilgoued", "tests.python.test_following", "tests.python.test_page", "tests.server.test_scripts",
-               "tests.server.test_copies", "tests.server.test_meanwhile", "tests.server.test_secure"],
+               "tests.server.test_moves", "tests.server.test_meanwhile", "tests.server.test_secure"],
     "quoted": ["tests.pages.test_quoted"],
-    "pages": ["tests.pages.test_pages", "tests.pages.test_man"],
+    "pages": ["tests.pages.test_pages", "tests.pages.test_man", "tests.pages.test_contracts"],
 }
 
 

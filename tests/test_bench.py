@@ -1,14 +1,15 @@
 """The bench, in short: how it puts figures into words and waits for calm moments, and each of its groups at its smallest size, by the
-programs kv_bench (BENCH, or the one in its crate) and kvbucket, into a folder that is thrown away."""
+programs kv_bench (BENCH, or the one in its crate) and kvbucket, and of Rust's own crates where these can be built, into a folder that
+is thrown away; and that README.md has the table that the figures give."""
 import os, subprocess, tempfile, unittest
 
-from scripts import bench, current
-from scripts.figures import Figure, parsed
+from scripts import bench, compared, current, peers
+from scripts.figures import Figure, parsed, read
 from tests import program
 
 BENCH = os.path.abspath(os.environ.get("BENCH") or current.path_of("kv_bench"))
 # Two sizes are no curve.
-WITHOUT_CHART = {"collide"}
+WITHOUT_CHART = {"collide", "pages"}
 ONE = Figure("memory", "a key", "", 0, 10, 3.0, 3.0, 3.0, "bytes")
 
 
@@ -54,10 +55,38 @@ class Waits(unittest.TestCase):
 
 class Passes(unittest.TestCase):
     def test_the_first_measures_each_group_at_each_size(self):
-        self.assertEqual(sorted(it[:2] for it in bench.runs_of(0)), sorted((group, keys) for group, sizes in bench.RUNS for keys in sizes))
+        for by, runs in (bench.OF_BUCKET, bench.RUNS), (bench.OF_PEERS, bench.RUNS_OF_PEERS):
+            self.assertEqual(sorted((it.group, it.keys) for it in bench.runs_of(0) if it.by == by),
+                             sorted((group, keys) for group, sizes in runs for keys in sizes))
 
     def test_what_is_measured_once_is_not_measured_again(self):
-        self.assertFalse(any(group == "delay" or keys > bench.MOST_KEYS for group, keys, _ in bench.runs_of(1)))
+        self.assertFalse(any(it.group == "delay" or it.keys > bench.MOST_KEYS for it in bench.runs_of(1)))
+
+    def test_the_programs_take_turns(self):
+        self.assertEqual({it.by for it in bench.runs_of(1)}, {bench.OF_BUCKET, bench.OF_PEERS})
+
+
+class Compared(unittest.TestCase):
+    OWN = Figure("threads", "reads", "Vilgoued", 4, 10_000, 4e6, 3e6, 5e6, "a second")
+
+    def test_the_hardest_to_beat_stands_in_the_row(self):
+        slow, fast = self.OWN._replace(of="HashMap", median=1e6), self.OWN._replace(group="rust-threads", of="DashMap", median=2e6)
+        self.assertEqual(list(compared.table([self.OWN, slow, fast]))[2:],
+                         ["| Reads a second of 4 threads beside a writer, 500 keys of 10,000 | 4.00 M | Rust's DashMap: 2.00 M |\n"])
+
+    def test_reads_tell_what_is_written_meanwhile(self):
+        figures = [self.OWN, self.OWN._replace(of="HashMap"), self.OWN._replace(what="writes", of="HashMap", median=1000.0)]
+        self.assertTrue(list(compared.table(figures))[-1].endswith("| the kit's HashMap: 4.00 M, beside 1.00 k writes |\n"))
+
+    def test_of_times_the_lowest(self):
+        own = Figure("beside", "get", "Vilgoued", 0, 10_000, 90.0, 80.0, 99.0, "ns")
+        rows = list(compared.table([own, own._replace(of="BTreeMap", median=200.0), own._replace(of="HashMap", median=40.0)]))
+        self.assertTrue(rows[-1].endswith("| 90.0 ns | the kit's HashMap: 40.0 ns |\n"), rows)
+
+    def test_the_table_of_the_readme_is_that_of_the_figures(self):
+        with open(compared.README, encoding="utf-8") as file:
+            text = file.read()
+        self.assertEqual(text, compared.written(text, read(compared.FOLDER)))
 
 
 class Programs(unittest.TestCase):
@@ -71,6 +100,22 @@ class Programs(unittest.TestCase):
             lines.round(machine)
         return list(lines.figures())
 
+    def of_peers(self):
+        """The figures of Rust's own crates, or none where they can't be built, which is told."""
+        try:
+            path = peers.built()
+        except peers.Missing as missing:
+            print("left out: Rust's own crates: %s" % missing)
+            return []
+        figures = []
+        for group, _ in bench.RUNS_OF_PEERS:
+            with self.subTest("of Rust's own crates: " + group):
+                found = bench.measured(path, group, 1_000, 1)
+                self.are_in_order(found)
+                self.assertEqual({(it.keys, it.group) for it in found}, {(1_000, "rust-" + group)})
+                figures += found
+        return figures
+
     def test_each_figure_is_told(self):
         machine = bench.Machine(lambda: bench.map_get(BENCH))
         with self.subTest("lines"):
@@ -81,17 +126,23 @@ class Programs(unittest.TestCase):
             with self.subTest(group):
                 found = bench.measured(BENCH, group, 1_000, 1)
                 self.are_in_order(found)
-                self.assertEqual({(it.keys, it.group) for it in found}, {(1_000, group.split("-")[0])})
+                self.assertEqual({(it.keys, it.group) for it in found}, {(1_000, group if group == "threads-all" else group.split("-")[0])})
                 figures += found
+        with self.subTest("pages of 2 MiB"):
+            found = bench.in_large_pages(BENCH, "calls-reads", 1_000, 1)
+            self.are_in_order(found)
+            figures += found
+        figures += self.of_peers()
         with tempfile.TemporaryDirectory() as folder:
             charts = bench.tell(figures, folder, os.getloadavg()[0], machine, [])
             with open(os.path.join(folder, "README.md"), encoding="utf-8") as told:
                 text = told.read()
         with self.subTest("each group has its charts, where matplotlib is there"):
             self.assertEqual(set(charts), {it.group for it in figures} - WITHOUT_CHART if bench.has_matplotlib() else set())
-        for _, title, _, _ in bench.GROUPS:
-            with self.subTest("a table", of=title):
-                self.assertIn("## " + title, text)
+        for group, title, _, _ in bench.GROUPS:
+            if group in {it.group for it in figures}:
+                with self.subTest("a table", of=title):
+                    self.assertIn("## " + title, text)
         with self.subTest("each figure has its row"):
             self.assertEqual([it for it in figures if "| %s |" % bench.row_of(it) not in text], [])
 

@@ -2,7 +2,7 @@
 whose library has one call. Its path has a space. The commands of docs/install.md are run in it."""
 import gzip, os, re, shlex, shutil, subprocess, sys, tarfile, tempfile, unittest
 
-from scripts import archive
+from scripts import archive, objects
 from tests import top
 
 COPIED = ("kvbucket", "library", "release", "install", "scripts", "include", "c", "docs/man", "LICENSE")
@@ -110,9 +110,9 @@ class Tree(unittest.TestCase):
         self.assertEqual((done.stdout, done.stderr.count("\n")), ("", 1), done.stderr)
         return done.stderr
 
-    def keep(self, name):
-        sources = self.works("scripts/current.py", "--sources", name)
-        self.works("scripts/current.py", "--keep", name, "/dev/stdin", text=sources)
+    def keep(self, name, **environment):
+        sources = self.works("scripts/current.py", "--sources", name, **environment)
+        self.works("scripts/current.py", "--keep", name, "/dev/stdin", text=sources, **environment)
 
     def build_program(self, says="built here"):
         self.write("crates/kvbucket/out/kvbucket", PROGRAM % says, is_run=True)
@@ -172,7 +172,8 @@ class Making(Tree):
             lines = build.read().splitlines()
         self.assertEqual(lines[:2], ["version: 0.2.0", "kit: rattle-kit-0 logic 0123"])
         self.assertRegex(lines[2], "^compiler: .* version .*, .*strip")
-        sources = [line.split()[1] for line in lines[4:]]
+        self.assertRegex(lines[3], "^libvilgoued.a, what the kit made: [0-9a-f]{64}$")
+        sources = [line.split()[1] for line in lines[5:]]
         self.assertEqual(sources, sorted(sources))
         self.assertLessEqual({"crates/kv_c", "crates/kvbucket", "crates/low", *HEADERS, "library", "scripts/exports.map"}, set(sources))
 
@@ -219,6 +220,8 @@ class Making(Tree):
         self.build_static("kit/libkv_c.a", LIBRARY % 1)
         self.build_static("kit/c/liblibc_c.a", "int heap;\n")
         self.works("./library")
+        self.assertIn("[libvilgoued.so.0]", self.works("readelf", "-d", "lib/libvilgoued.so"))
+        self.assertEqual(os.readlink(self.path("lib/libvilgoued.so.0")), "libvilgoued.so")
         self.works("./release")
         self.works("./release", "--check")
 
@@ -277,9 +280,29 @@ class Checking(Tree):
         self.release()
         self.write("kit/other-cc", "#!/bin/sh\necho 'other version 9' >&2\n", is_run=True)
         self.write("lib/libvilgoued.so", "made by another compiler\n")
+        self.keep("libvilgoued", CC="other-cc")
         self.assertIn("since another compiler made them: ", self.works("./release", "--check", CC="other-cc"))
-        self.write("crates/kv_c/src/lib.rt", "pub fn changed() {}\n")
-        self.assertIn("crates/kv_c", self.refused("./release", "--check", CC="other-cc"))
+        with self.subTest("what the kit made of it is not the same"):
+            self.build_static("lib/libvilgoued.a", LIBRARY % 2)
+            self.keep("libvilgoued", CC="other-cc")
+            self.assertIn("is not what was built (BUILD): run ./release", self.refused("./release", "--check", CC="other-cc"))
+        with self.subTest("its sources have changed"):
+            self.write("crates/kv_c/src/lib.rt", "pub fn changed() {}\n")
+            self.assertIn("crates/kv_c", self.refused("./release", "--check", CC="other-cc"))
+
+    def test_the_kit_made_all_of_the_library_but_the_shell(self):
+        self.build_static("one.a", LIBRARY % 1)
+        self.works("cp", "it.o", "a_name_of_more_than_sixteen_letters.o")
+        sums = []
+        for shell in 1, 2:
+            self.build_static("shell.a", LIBRARY % shell)
+            self.works("mv", "it.o", "shared.o")
+            self.works("ar", "rcD", "all%d.a" % shell, "a_name_of_more_than_sixteen_letters.o", "shared.o")
+            with open(self.path("all%d.a" % shell), "rb") as file:
+                data = file.read()
+            self.assertEqual([name for name, _ in objects.objects(data)], ["a_name_of_more_than_sixteen_letters.o", "shared.o"])
+            sums.append(objects.sum_of_kit(data))
+        self.assertEqual(sums[0], sums[1])
 
     def test_what_was_not_built_is_not_compared(self):
         self.release()

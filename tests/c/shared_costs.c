@@ -1,22 +1,11 @@
 /* What calls of a bucket that threads share take, at 10,000 keys with values of 16 bytes. It prints figures: of puts
  * and gets processor time of the thread that calls, of wake-ups the time that goes by. */
 #include "vilgoued_shared.h"
+#include "wanting.h"
 #include <poll.h>
 #include <pthread.h>
 #include <stdatomic.h>
-#include <stdio.h>
-#include <stdlib.h>
-#include <string.h>
 #include <time.h>
-
-#define B(s) (const uint8_t *)(s), strlen(s)
-#define WANT(test)                                                                                                     \
-    do {                                                                                                               \
-        if (!(test)) {                                                                                                 \
-            printf("%s:%d: not so: %s\n", __FILE__, __LINE__, #test);                                                  \
-            exit(1);                                                                                                   \
-        }                                                                                                              \
-    } while (0)
 
 enum { KEYS = 10000, PUTS = 200000, GETS = 1000000, WAKES = 500 };
 

@@ -1,24 +1,13 @@
 /* Threads that share a bucket. The first word is by how much less there is of everything, for slow runs. */
 #include "vilgoued_shared.h"
+#include "wanting.h"
 #include <poll.h>
 #include <pthread.h>
 #include <sched.h>
 #include <stdatomic.h>
-#include <stdio.h>
-#include <stdlib.h>
-#include <string.h>
 #include <sys/epoll.h>
 #include <time.h>
 #include <unistd.h>
-
-#define B(s) (const uint8_t *)(s), strlen(s)
-#define WANT(test)                                                                                                     \
-    do {                                                                                                               \
-        if (!(test)) {                                                                                                 \
-            printf("%s:%d: not so: %s\n", __FILE__, __LINE__, #test);                                                  \
-            exit(1);                                                                                                   \
-        }                                                                                                              \
-    } while (0)
 
 enum { WRITERS = 4, READERS = 4, FOLLOWERS = 4, KEYS = 64, MOST = 50000, PATIENCE = 60000 };
 
@@ -67,7 +56,13 @@ static uint64_t next(kv_follower *f, uint64_t milliseconds, struct taken *t) {
  * that key where i is a multiple of 16. */
 
 static uint32_t revisions[WRITERS][MOST];
-static _Atomic uint64_t returned; /* the highest revision that a write has answered */
+static _Atomic uint64_t known; /* the highest revision that a write has answered, or a reader read */
+
+static void is_known(uint64_t revision) {
+    uint64_t high = atomic_load(&known);
+    while (high < revision && !atomic_compare_exchange_weak(&known, &high, revision))
+        ;
+}
 
 static bool deletes(int i) {
     return i % 16 == 15;
@@ -77,7 +72,7 @@ static void *writes(void *with) {
     int w = (int)(intptr_t)with;
     for (int i = 0; i < each; i++) {
         char key[32], value[32];
-        uint64_t revision = 0, high;
+        uint64_t revision = 0;
         snprintf(key, sizeof key, "w%d.k%d", w, i % KEYS);
         snprintf(value, sizeof value, "%d", i);
         if (deletes(i))
@@ -85,14 +80,12 @@ static void *writes(void *with) {
         else
             put(&bucket, key, value, &revision);
         revisions[w][i] = (uint32_t)revision;
-        high = atomic_load(&returned);
-        while (high < revision && !atomic_compare_exchange_weak(&returned, &high, revision))
-            ;
+        is_known(revision);
     }
     return NULL;
 }
 
-/* A reader is never older than what had returned, nor than what it read before. */
+/* A reader is never older than what had returned, nor than what it or another reader read before. */
 static void *reads(void *with) {
     kv_reader reader = {0};
     uint64_t last = 0, of_key = 0;
@@ -101,12 +94,13 @@ static void *reads(void *with) {
     snprintf(key, sizeof key, "w%d.k0", (int)(intptr_t)with);
     WANT(kv_reader_open(&bucket, &reader) == KV_OK);
     while (last < (uint64_t)each * WRITERS) {
-        uint64_t before = atomic_load(&returned), revision = 0, code;
+        uint64_t before = atomic_load(&known), revision = 0, code;
         size_t size = 0;
         uint8_t value[32] = {0};
         kv_status status;
         WANT(kv_reader_get_status(&reader, &status) == KV_OK && status.last >= before && status.last >= last);
         last = status.last;
+        is_known(last);
         code = kv_reader_get(&reader, B(key), value, sizeof value - 1, &size, &revision);
         if (code == KV_KEY_NOT_FOUND && of_key == 0)
             continue;
@@ -164,7 +158,7 @@ static void *follows(void *with) {
 static void *compacts(void *with) {
     struct timespec pause = {0, 5000000};
     (void)with;
-    while (atomic_load(&returned) < (uint64_t)each * WRITERS) {
+    while (atomic_load(&known) < (uint64_t)each * WRITERS) {
         uint64_t floor = 0, watch = 0, code;
         WANT(kv_shared_reach(&bucket, &floor) == KV_OK);
         code = floor == 0 ? KV_OK : kv_shared_compact(&bucket, floor, &watch);

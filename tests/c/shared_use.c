@@ -1,28 +1,15 @@
 /* Each function of vilgoued_shared.h and each refusal once, on one thread; what is told with too little room, and what
  * a refused call leaves as it was. */
+#include "marking.h"
 #include "vilgoued_shared.h"
 #include <fcntl.h>
 #include <poll.h>
-#include <stdio.h>
-#include <stdlib.h>
-#include <string.h>
 #include <sys/resource.h>
 #include <unistd.h>
-
-#define B(s) (const uint8_t *)(s), strlen(s)
-#define WANT(test)                                                                                                     \
-    do {                                                                                                               \
-        if (!(test)) {                                                                                                 \
-            printf("%s:%d: not so: %s\n", __FILE__, __LINE__, #test);                                                  \
-            exit(1);                                                                                                   \
-        }                                                                                                              \
-    } while (0)
 
 static const kv_limits largest = {3, 1048576, 1000000, 4294967295};
 static const kv_options latest = {KV_LATEST, 0, false, false}, updates = {KV_UPDATES, 0, false, false};
 static const kv_options no_start = {4, 0, false, false};
-static uint8_t key[255], value[64];
-static kv_item item;
 
 /* What a call tells beside its item. */
 static struct {
@@ -31,25 +18,8 @@ static struct {
     kv_status status;
 } told;
 
-/* Each byte that a call may write to is set to this before it. It is a bool, too. */
-enum { MARK = 1 };
-
 static void mark(void) {
-    memset(key, MARK, sizeof key);
-    memset(value, MARK, sizeof value);
-    memset(&item, MARK, sizeof item);
-    memset(&told, MARK, sizeof told);
-}
-
-static bool marked(const void *at, size_t size) {
-    for (size_t i = 0; i < size; i++)
-        if (((const uint8_t *)at)[i] != MARK)
-            return false;
-    return true;
-}
-
-static bool nothing_copied(void) {
-    return marked(key, sizeof key) && marked(value, sizeof value);
+    mark_all(&told, sizeof told);
 }
 
 /* A call that is refused has copied nothing and told nothing. */
@@ -351,6 +321,9 @@ static void compacted(void) {
     WANT(kv_follower_open(&b, B(">"), &updates, &behind) == KV_OK && puts_one(&b, "a", "1", 6));
     for (uint64_t i = 1; i <= 6; i++)
         WANT(hands(&f, "a", KV_PUT, i, "1"));
+    /* Nor has the reader gone on from none. */
+    WANT(OK(kv_shared_reach(&b, &told.number)) && told.number == 0);
+    WANT(OK(kv_reader_get(&r, B("a"), value, sizeof value, &told.size, &told.number)) && told.number == 6);
     WANT(OK(kv_shared_reach(&b, &told.number)) && told.number == 5);
     WANT((mark(), kv_shared_compact(&b, 5, &told.number) == KV_OK && marked(&told, sizeof told)));
     WANT(hands_kind(&f, KV_EMPTY) && hands(&behind, "a", KV_PUT, 6, "1"));

@@ -1,50 +1,7 @@
 /* A session is run once for each of its requests for memory, with that one refused: the call that made it is refused as
  * KV_OUT_OF_MEMORY, and made again it succeeds; all results are the same. To be linked with --wrap=malloc,realloc. */
 #include "vilgoued.h"
-#include <stdio.h>
-#include <stdlib.h>
-#include <string.h>
-
-#define B(s) (const uint8_t *)(s), strlen(s)
-
-static long left, asked;
-static int refusals;
-
-void *__real_malloc(size_t size);
-void *__real_realloc(void *block, size_t size);
-
-static bool refuses(void) {
-    asked++;
-    return left >= 0 && left-- == 0;
-}
-
-void *__wrap_malloc(size_t size) {
-    return refuses() ? NULL : __real_malloc(size);
-}
-
-void *__wrap_realloc(void *block, size_t size) {
-    return refuses() ? NULL : __real_realloc(block, size);
-}
-
-#define TRY(call) \
-    do { \
-        uint64_t code = (call); \
-        if (code == KV_OUT_OF_MEMORY) { \
-            refusals++; \
-            code = (call); \
-        } \
-        if (code) { \
-            printf("code %u of %s\n", (unsigned)code, #call); \
-            exit(1); \
-        } \
-    } while (0)
-#define WANT(test) \
-    do { \
-        if (!(test)) { \
-            printf("not so: %s\n", #test); \
-            exit(1); \
-        } \
-    } while (0)
+#include "refusing.h"
 
 static void session(void) {
     static const kv_limits limits = {3, 1048576, 1000000, 4294967295};
@@ -136,20 +93,7 @@ static void overwrite(void) {
 }
 
 int main(void) {
-    long total, refused = 0;
-    left = -1;
-    session();
-    total = asked;
-    for (long k = 0; k < total; k++) {
-        left = k;
-        refusals = 0;
-        session();
-        /* None where a removal keeps a large branch for want of a small one. */
-        WANT(refusals <= 1);
-        refused += refusals;
-    }
-    WANT(refused > total / 2);
+    sweep(session);
     overwrite();
-    printf("%ld requests for memory, each refused in turn\n", total);
     return 0;
 }

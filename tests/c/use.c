@@ -1,21 +1,7 @@
 /* Each function and each code once, what is told with too little room, and what a refused call leaves as it was. */
-#include "vilgoued.h"
-#include <stdio.h>
-#include <stdlib.h>
-#include <string.h>
-
-#define B(s) (const uint8_t *)(s), strlen(s)
-#define WANT(test) \
-    do { \
-        if (!(test)) { \
-            printf("%s:%d: not so: %s\n", __FILE__, __LINE__, #test); \
-            exit(1); \
-        } \
-    } while (0)
+#include "marking.h"
 
 static const kv_limits largest = {3, 1048576, 1000000, 4294967295};
-static uint8_t key[255], value[64];
-static kv_item item;
 
 /* What a call tells beside its item. */
 static struct {
@@ -23,25 +9,8 @@ static struct {
     size_t size, count;
 } told;
 
-/* Each byte that a call may write to is set to this before it. It is a bool, too. */
-enum { MARK = 1 };
-
 static void mark(void) {
-    memset(key, MARK, sizeof key);
-    memset(value, MARK, sizeof value);
-    memset(&item, MARK, sizeof item);
-    memset(&told, MARK, sizeof told);
-}
-
-static bool marked(const void *at, size_t size) {
-    for (size_t i = 0; i < size; i++)
-        if (((const uint8_t *)at)[i] != MARK)
-            return false;
-    return true;
-}
-
-static bool nothing_copied(void) {
-    return marked(key, sizeof key) && marked(value, sizeof value);
+    mark_all(&told, sizeof told);
 }
 
 /* A call that is refused has copied nothing and told nothing. */

@@ -170,7 +170,8 @@ def tree():
         words.update(re.findall(r"[\w-]+", text))
         words.update(re.findall(r"\w+", text))
         words.update(re.split(r"[/.]", path))
-    for pattern in ("crates.txt", "bench", "kvbucket", "library", "test", "scripts/*", "tests/*", "tests/*/*", "tests/scripts/*/*", "include/*", "python/*", "python/*/*.py", ".ci/*", "HANDLES"):
+    for pattern in ("crates.txt", "bench", "kvbucket", "library", "test", "scripts/*", "tests/*", "tests/*/*", "tests/scripts/*/*", "include/*", "python/*", "python/*/*.py", "rust/*/*.rs",
+                    "go/*.go", "tests/rust/*/*/*.rs", ".ci/*", "HANDLES"):
         for path in glob.glob(os.path.join(top, pattern)):
             if os.path.isfile(path):
                 words.update(re.findall(r"[\w-]+", read(path)))

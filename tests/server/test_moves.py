@@ -74,7 +74,7 @@ class Relay:
             pass
 
 
-class Copies(unittest.TestCase):
+class Moves(unittest.TestCase):
     def test_there_and_back_again(self):
         for history in ("1", "2", "64"):
             with self.subTest(history):

@@ -1,0 +1,137 @@
+"""A bucket of a package in another language, which a program of that language drives by lines (rust/examples/lines.rs,
+go/lines/main.go). So what runs on a bucket of Python, as the worked scripts do, runs on it."""
+import re, subprocess
+from typing import Any, List, Optional
+
+from vilgoued import Lagged, WatchBehind, WrongLastRevision
+from vilgoued._items import MARKER, Entry, Status, Value
+from vilgoued.refusals import refusal
+
+DEFAULTS = {"history": 1, "value_limit": 1 << 20, "write_limit": 1_000_000, "revision_limit": (1 << 32) - 1}
+TELLING = (WrongLastRevision, WatchBehind, Lagged)
+
+
+def worded(text):
+    """A text or bytes as a word of a line."""
+    return "x" + (text.encode() if isinstance(text, str) else bytes(text)).hex()
+
+
+def unworded(word):
+    return bytes.fromhex(word[1:])
+
+
+def entry_of(words):
+    key, op, revision, size, value = words
+    return Entry(unworded(key).decode(), op, int(revision), int(size), None if value == "-" else unworded(value))
+
+
+def refused(text):
+    """The refusal of such a text as `11 WrongLastRevision { last: 3 }`. It has to have the name of its code, and its number."""
+    found = re.fullmatch(r"(\d+) (\w+)(?: \{ (\w+): (\d+) \})?", text)
+    if not found:
+        raise AssertionError("no refusal: " + text)
+    it = refusal(int(found[1]), int(found[4] or 0))
+    if type(it).__name__ != found[2] or isinstance(it, TELLING) != (found[3] is not None) or not hasattr(it, found[3] or "code"):
+        raise AssertionError("not what its code says: " + text)
+    return it
+
+
+class Driven:
+    """A bucket with the calls that tests.replay makes."""
+
+    def __init__(self, *program, **settings):
+        limits = [str(it) for it in {**DEFAULTS, **settings}.values()]
+        self._process = subprocess.Popen([*program, *limits], stdin=subprocess.PIPE, stdout=subprocess.PIPE, text=True)
+
+    def __enter__(self):
+        return self
+
+    def __exit__(self, *_):
+        assert self._process.stdin and self._process.stdout
+        self._process.stdin.close()
+        self._process.stdout.close()
+        try:
+            if self._process.wait(30) != 0:
+                raise AssertionError("the program ended with status %d" % self._process.returncode)
+        finally:
+            self._process.kill()
+
+    def ask(self, *words: Any) -> List[str]:
+        assert self._process.stdin and self._process.stdout
+        self._process.stdin.write(" ".join(map(str, words)) + "\n")
+        self._process.stdin.flush()
+        how, _, told = self._process.stdout.readline().rstrip("\n").partition(" ")
+        if how not in ("ok", "no"):
+            raise AssertionError("no answer to %r" % (words,))
+        if how == "no":
+            raise refused(told)
+        return told.split()
+
+    def _write(self, name, key, *words):
+        return int(self.ask(name, worded(key), *words)[0])
+
+    def put(self, key, value):
+        return self._write("put", key, worded(value))
+
+    def create(self, key, value):
+        return self._write("create", key, worded(value))
+
+    def update(self, key, value, last):
+        return self._write("update", key, last, worded(value))
+
+    def delete(self, key, last=None):
+        return self._write("delete", key, *([] if last is None else [last]))
+
+    def purge(self, key, last=None):
+        return self._write("purge", key, *([] if last is None else [last]))
+
+    def get(self, key, at=None):
+        words = self.ask("get", worded(key), *([] if at is None else [at]))
+        if words == ["empty"]:
+            return None
+        entry = entry_of(words)
+        if (entry.key, entry.op, entry.size) != (key, "PUT", len(entry.value or b"")):
+            raise AssertionError("not what was asked for: %r" % (entry,))
+        return Value(entry.value, entry.revision)
+
+    def history(self, key):
+        words = self.ask("history", worded(key))
+        return [entry_of(words[at:at + 5]) for at in range(0, len(words), 5)]
+
+    def keys(self, filter):
+        return [unworded(word).decode() for word in self.ask("keys", worded(filter))]
+
+    def status(self):
+        *numbers, sealed = map(int, self.ask("status"))
+        return Status(*numbers, sealed=bool(sealed))
+
+    def seal(self):
+        self.ask("seal")
+
+    def compact(self, floor):
+        self.ask("compact", floor)
+
+    def watch(self, filters, history, updates, since: Optional[int], ignore_deletes, headers_only):
+        starts = [name for name, is_asked in (("history", history), ("updates", updates), ("from", since is not None)) if is_asked]
+        if len(starts) > 1:
+            # These packages have one value for what a watch begins with, so two can't be asked for.
+            raise refusal(6, 0)
+        words = [*(starts or ["latest"]), since or 0, int(ignore_deletes), int(headers_only)]
+        return DrivenWatch(self, int(self.ask("watch", worded(filters), *words)[0]))
+
+
+class DrivenWatch:
+    def __init__(self, bucket, number):
+        self._bucket, self.number = bucket, number
+
+    def __iter__(self):
+        return self
+
+    def __next__(self):
+        words = self._bucket.ask("take", self.number)
+        if words == ["empty"]:
+            raise StopIteration
+        return MARKER if words == ["marker"] else entry_of(words)
+
+    def stop(self):
+        return int(self._bucket.ask("stop", self.number)[0])

@@ -1,0 +1,112 @@
+"""The module for Go in go/, with the go that is on the path: its tests, under the detector of races too, the example of its page, the
+worked scripts, gofmt and vet; and where Debian's package of nats.go is there, one function over this bucket and over one of a
+nats-server. Nothing asks the network, and what is built stays in out/go."""
+import os
+import shutil
+import subprocess
+import tempfile
+import unittest
+
+from tests import top
+from tests.driven import Driven
+from tests.pages.examples import blocks
+from tests.replay import replay
+from tests.server import running
+from tests.worked import scripts
+
+GO = shutil.which("go", path=os.environ.get("PATH", "") + ":/usr/bin:/usr/lib/go/bin")
+MODULE, BUILT = os.path.join(top, "go"), os.path.join(top, "out", "go")
+# Where Debian puts the sources of packages.
+SOURCES = "/usr/share/gocode"
+LIMIT = 400
+OF_PAGE = """module page
+
+go 1.19
+
+require vilgoued v0.0.0
+
+replace vilgoued => %s
+""" % MODULE
+
+
+def environment(**more):
+    folder = os.path.dirname(os.path.abspath(os.environ["VILGOUED_LIB"]))
+    return dict(os.environ, CGO_ENABLED="1", CGO_CFLAGS="-g -O2 -I" + os.path.join(top, "include"), CGO_LDFLAGS="-L" + folder,
+                **{"GOPROXY": "off", "GOFLAGS": "-mod=mod", "GOTOOLCHAIN": "local", "GOCACHE": os.path.join(BUILT, "cache"), **more})
+
+
+def go(*words, folder=MODULE, **more):
+    """What go prints, which has to succeed."""
+    assert GO
+    done = subprocess.run([GO, *words], cwd=folder, env=environment(**more), stdin=subprocess.DEVNULL, stdout=subprocess.PIPE,
+                          stderr=subprocess.STDOUT, text=True, timeout=LIMIT)
+    if done.returncode != 0:
+        raise AssertionError("go %s: status %d\n%s" % (" ".join(words), done.returncode, done.stdout))
+    return done.stdout
+
+
+@unittest.skipUnless(GO, "there is no go: apt-get install golang-go")
+class Go(unittest.TestCase):
+    def setUp(self):
+        room = tempfile.TemporaryDirectory()
+        self.addCleanup(room.cleanup)
+        self.folder = room.name
+
+    def test_its_tests_pass(self):
+        go("test", "-count=1", "-timeout", "300s", "./...")
+
+    def test_its_tests_pass_under_the_detector_of_races(self):
+        go("test", "-count=1", "-race", "-short", "-timeout", "300s", ".")
+
+    def test_vet(self):
+        go("vet", "./...")
+
+    def test_its_form(self):
+        gofmt = shutil.which("gofmt", path=os.path.dirname(os.path.realpath(GO or "")) + ":" + os.environ.get("PATH", ""))
+        if not gofmt:
+            self.skipTest("there is no gofmt")
+        found = subprocess.run([gofmt, "-l", MODULE, os.path.join(top, "tests", "go")], stdin=subprocess.DEVNULL, capture_output=True,
+                               text=True, timeout=LIMIT)
+        self.assertEqual((found.returncode, found.stdout, found.stderr), (0, "", ""))
+
+    def test_the_worked_scripts(self):
+        program = os.path.join(self.folder, "lines")
+        go("build", "-o", program, "./lines")
+        for script in scripts():
+            if not script.is_race:
+                with self.subTest(script.name), Driven(program, **script.settings) as bucket:
+                    self.assertEqual(replay(bucket, script), script.output.decode().splitlines())
+
+    def test_the_examples_of_the_page_print_what_it_says(self):
+        examples, answers = blocks("docs/go.md", "go"), blocks("docs/go.md", "answers")
+        self.assertEqual((len(examples) > 0, len(examples)), (True, len(answers)))
+        with open(os.path.join(self.folder, "go.mod"), "w", encoding="utf-8") as file:
+            file.write(OF_PAGE)
+        for lines, wanted in zip(examples, answers):
+            with open(os.path.join(self.folder, "main.go"), "w", encoding="utf-8") as file:
+                file.write("\n".join(lines) + "\n")
+            self.assertEqual(go("run", ".", folder=self.folder).splitlines(), wanted)
+
+    def test_what_calls_take(self):
+        print(go("run", "./costs"), end="")
+
+    @unittest.skipUnless(os.path.isdir(SOURCES + "/src/github.com/nats-io/nats.go"),
+                         "there is no nats.go: apt-get install golang-github-nats-io-go-nats-dev")
+    def test_one_function_over_this_bucket_and_one_of_nats(self):
+        # Debian's packages have no modules, so these two are found by their folders.
+        sources = os.path.join(self.folder, "src")
+        os.makedirs(sources)
+        os.symlink(MODULE, os.path.join(sources, "vilgoued"))
+        os.symlink(os.path.join(top, "tests", "go", "both"), os.path.join(sources, "both"))
+        how = {"GO111MODULE": "off", "GOFLAGS": "", "GOPATH": "%s:%s" % (self.folder, SOURCES)}
+        program = running.program(self.folder)
+        if program is None:
+            go("test", "-count=1", "-timeout", "300s", "both", folder=sources, **how)
+            self.skipTest("it ran on this bucket alone, as there is no nats-server: apt-get install nats-server")
+        with running.Server(program) as server:
+            told = go("test", "-count=1", "-v", "-timeout", "300s", "both", folder=sources, VILGOUED_SERVER=server.url, **how)
+        self.assertIn("--- PASS: TestTheFunctionSeesTheSameOnABucketOfNATS", told)
+
+
+if __name__ == "__main__":
+    unittest.main()

@@ -1,0 +1,1 @@
+//! A package of tests alone: a follower in tokio, by its descriptor.
