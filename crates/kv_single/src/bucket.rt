@@ -1,19 +1,20 @@
 //! A bucket: its version, and the watches that are open.
 
 ghost use Rattle.std.specs.Prelude.{◌≡◌, length, IfErr, IfOk};
+ghost use Rattle.std.specs.List.{position};
 ghost use Rattle.kv_keys.specs.Outcome.{Refuses};
 ghost use Rattle.kv_model.specs.Configuration.{configure};
-ghost use Rattle.kv_store.specs.Standing.{StandsFor};
-ghost use Rattle.kv_single.specs.Held.{Represents};
-ghost use Rattle.kv_single.specs.Stepping.{IsStep};
 ghost use Rattle.kv_model.specs.Answers.{Answer};
 ghost use Rattle.kv_model.specs.declared.call.Call.{Call as ACall};
 ghost use Rattle.kv_model.specs.State.{State, empty, open_count};
+ghost use Rattle.kv_store.specs.Standing.{StandsFor};
+ghost use Rattle.kv_single.specs.Held.{Represents, has_number};
+ghost use Rattle.kv_single.specs.Stepping.{IsStep};
 
-use crate::held::Held;
 use kv_keys::KvError;
 use kv_model::Config;
 use kv_store::Version;
+use kv_watch::Watch;
 use std::alloc::Global;
 use std::marker::Model;
 
@@ -94,4 +95,50 @@ impl Bucket {
     {
         self.watches.len() as u64
     }
+}
+
+/// A watch that is open, and its number.
+pub(crate) struct Held {
+    number: u64,
+    pub(crate) watch: Watch,
+}
+
+// Field by field: a derived drop makes each proof longer that owns one.
+impl Drop for Held {
+    fn drop(self) {
+        let Self {
+            number: _,
+            watch: _,
+        } = self;
+    }
+}
+
+impl Model for Held {
+    ghost use Rattle.kv_single.specs.Held.{Holding};
+
+    ghost Value = { Holding };
+
+    ghost view = { λ held. record { number = held.number; watch = held.watch } };
+}
+
+impl Held {
+    /// A watch under this number.
+    pub(crate) fn new(number: u64, watch: Watch) -> Held
+        ensures { result ≡ record { number = number; watch = watch } }
+    {
+        Held { number, watch }
+    }
+
+    pub(crate) fn number(&self) -> u64
+        ensures { result ≡ self.now.number }
+    {
+        self.number
+    }
+}
+
+/// The index of the watch of a number.
+pub(crate) fn index_of(watches: &[Held], number: u64) -> Option<usize>
+    ensures { result ≡ position (has_number number) watches.now }
+{
+    watches.iter().position(|held| held.number() == number)
 }

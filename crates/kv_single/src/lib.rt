@@ -1,17 +1,13 @@
 //! A bucket: what was accepted, and the watches that are open.
 #![tactic(auto)]
 
-mod batch;
 mod bucket;
-mod compacting;
-mod held;
+mod compaction;
 pub mod laws;
-mod reading;
 mod reply;
 mod run;
-mod seen;
-mod watching;
-mod writing;
+mod watch;
+mod write;
 
 pub use bucket::Bucket;
 pub use kv_keys::{Filter, Filters, Key, KvError, Place, Short, fnv32};
@@ -21,5 +17,4 @@ pub use kv_model::{
 pub use kv_store::{KeyHistory, Rev, Version};
 pub use kv_trie::{Trie, Visit};
 pub use kv_watch::{Cursor, Shown, Taken, given};
-pub use reply::Reply;
-pub use seen::Seen;
+pub use reply::{Reply, Seen};

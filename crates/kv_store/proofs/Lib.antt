@@ -9,7 +9,7 @@ pub mod Selecting
 pub mod Standings
 pub mod Sent
 pub mod Counting
-pub mod Compaction
+pub mod Compacting
 pub mod Leaving
 pub mod OneMatch
 pub mod Asking

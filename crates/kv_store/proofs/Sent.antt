@@ -13,8 +13,8 @@ use Rattle.kv_model.proofs.write.Write.TheSendSync as write
 use Rattle.kv_trie.specs.contracts.node.Node as Node
 use Rattle.kv_trie.specs.contracts.trie.Trie as Trie
 use Rattle.kv_trie.proofs.node.Node.TheLaws.TheKnot as knot
-use Rattle.kv_store.specs.contracts.inner.Inner as Inner
-use Rattle.kv_store.specs.contracts.made.Made as Made
+use Rattle.kv_store.specs.contracts.version.Inner as Inner
+use Rattle.kv_store.specs.contracts.ring.Made as Made
 use Rattle.kv_store.specs.contracts.ring.Ring as Ring
 use Rattle.kv_store.specs.contracts.version.Version as Version
 use Rattle.kv_store.proofs.key_history.KeyHistory.TheSendSync as kept

@@ -3,27 +3,16 @@
 #![tactic(auto)]
 
 mod accept;
-mod accepted;
-mod apply;
-mod batch;
-mod compacting;
-mod entries;
-mod gather;
-mod inner;
+mod compaction;
 mod key_history;
 pub mod laws;
-mod left;
-mod listed;
-mod literal;
-mod made;
-mod next;
-mod put;
-mod reads;
+mod listing;
+mod read;
 mod rev;
 mod ring;
 mod version;
 mod wanted;
-mod writing;
+mod write;
 
 pub use key_history::KeyHistory;
 pub use kv_model::{Config, Op, Request, Status, Write};

@@ -1,13 +1,16 @@
-//! Which keys are asked for.
+//! Which keys are asked for. A filter without a wildcard is a key, by the grammars of both, and matches that key
+//! alone.
 
-ghost use Rattle.std.specs.Prelude.{◌≡◌, ℕ, Bool, List, IfErr, IfOk, IfSome};
+ghost use Rattle.std.specs.Prelude.{◌≡◌, ◌++◌, ◌∷◌, if◌then◌else◌, ℕ, Bool, List, IfErr, IfOk, IfSome, [], IsTrue, OnOk};
+ghost use Rattle.std.specs.List.{list_any};
+ghost use Rattle.std.specs.Str.{bytes_eq};
 ghost use Rattle.kv_keys.specs.declared.error.KvError.TheVariants.{OutOfMemory};
 ghost use Rattle.kv_keys.specs.Matching.{matches, any_matches};
+ghost use Rattle.kv_keys.specs.Grammar.{is_key, parts};
 ghost use Rattle.kv_store.specs.Asked.{AreAsked};
 
-use crate::literal::literals;
 use kv_keys::{Filter, Filters, Key, KvError};
-use std::alloc::Global;
+use std::alloc::{AllocError, Global};
 
 /// A test of keys.
 pub trait Wanted {
@@ -46,4 +49,42 @@ impl Wanted for Filters {
     fn literals(&self, alloc: Global) -> Result<Option<Vec<Key>>, KvError> {
         literals(alloc, self.as_str())
     }
+}
+
+// The filter as a key, where it is one. One with a wildcard takes no memory.
+fn literal(alloc: Global, filter: &str) -> Result<Option<Key>, KvError>
+    ensures ok { IfOk result (λ key. IfSome key (λ key. (key ≡ filter.now) × IsTrue (is_key filter.now))) }
+    ensures err { IfErr result (λ error. error ≡ OutOfMemory) }
+{
+    match Key::parse(alloc, filter) {
+        Ok(key) => Ok(Some(key)),
+        Err(KvError::BadKey) => Ok(None),
+        Err(error) => Err(error),
+    }
+}
+
+// Adds the key, unless it is there.
+fn add_once(keys: &mut Vec<Key>, key: Key) -> Result<(), AllocError>
+    ensures { OnOk result (keys.new.items
+        ≡ (if list_any (λ k. bytes_eq k key) keys.old.items then keys.old.items else keys.old.items ++ key ∷ [])) }
+{
+    if !keys.contains(&key) {
+        keys.push(key)?;
+    }
+    Ok(())
+}
+
+// The keys that a list of filters asks for, each once, where no filter of it has a wildcard.
+fn literals(alloc: Global, filters: &str) -> Result<Option<Vec<Key>>, KvError>
+    ensures asked { IfOk result (λ keys. IfSome keys (λ keys. AreAsked (any_matches (parts filters.now)) keys.items)) }
+    ensures err { IfErr result (λ error. error ≡ OutOfMemory) }
+{
+    let mut keys = Vec::new(alloc);
+    for filter in filters.split(',') {
+        match literal(alloc, filter)? {
+            Some(key) => add_once(&mut keys, key)?,
+            None => return Ok(None),
+        }
+    }
+    Ok(Some(keys))
 }

@@ -5,7 +5,7 @@ use Rattle.std.proofs.lemmas.Bool.Decides.{nat_tests}
 use Rattle.std.specs.BTreeMap.{is_at}
 use Rattle.std.specs.Map.{lookup}
 use Rattle.std.specs.Prelude.{MatchOption}
-use Rattle.kv_trie.specs.declared.few.Few.{Few}
+use Rattle.kv_trie.specs.declared.branch.Few.{Few}
 use Rattle.kv_trie.specs.declared.node.Node.{Node}
 use Rattle.kv_trie.specs.Form.{Shape, Slots, leaf, branch, row, none, more, pairs_of, node_pairs, child_at, with_child, without_child, with_or_without, contract, whole, Each, AreForms}
 use Rattle.kv_trie.specs.Stored.{shape_of, slots_from, slots_at, child_slots, few_slots}

@@ -4,8 +4,8 @@ use Rattle.std.specs.Arc.{arc_value}
 use Rattle.std.specs.BTreeMap.{is_at}
 use Rattle.std.specs.Map.{lookup}
 use Rattle.std.specs.declared.cmp.Ordering.{Ordering}
-use Rattle.kv_trie.specs.declared.new_pair.NewPair.{NewPair}
-use Rattle.kv_trie.specs.declared.new_pair.NewPair.TheVariants.{Owned, Shared}
+use Rattle.kv_trie.specs.declared.put.NewPair.{NewPair}
+use Rattle.kv_trie.specs.declared.put.NewPair.TheVariants.{Owned, Shared}
 use Rattle.kv_trie.specs.Form.{order, put_pair}
 
 -- the pair that is to be put, whoever has it

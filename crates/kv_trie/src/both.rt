@@ -1,16 +1,49 @@
-//! One change of two maps.
+//! One change of two maps, and what happens together with a change of one.
 
-ghost use Rattle.std.specs.Prelude.{◌≡◌, ◌<◌, ◌-◌, ◌^◌, length, IfErr, OnOk};
+ghost use Rattle.std.specs.Prelude.{◌≡◌, ◌<◌, ◌-◌, ◌^◌, IfErr, OnErr, OnOk, length};
 ghost use Rattle.kv_keys.specs.declared.error.KvError.TheVariants.{OutOfMemory};
 ghost use Rattle.kv_trie.specs.Put.{IsMapWith, pair_of};
 
-use crate::companion::{Alone, Companion};
-use crate::new_pair::NewPair;
-use crate::pending::Pending;
+use crate::put::{NewPair, Pending};
 use crate::trie::Trie;
 use kv_keys::{KvError, Place};
 use std::alloc::Global;
 use std::mem;
+
+/// Something else that is to happen with a change of a map: both do, or neither.
+///
+/// `ready` says when it can, `done old new` what its happening makes of it, and `kept old new` what a refusal leaves of
+/// it.
+pub(crate) trait Companion {
+    ghost ready: { Self → Type 0 };
+
+    ghost done: { Self → Self → Type 0 };
+
+    ghost kept: { Self → Self → Type 0 };
+
+    /// Lets it happen. It is called at most once, when the change itself can't be refused any more.
+    fn commit(&mut self) -> Result<(), KvError>
+        requires { ready self.old }
+        ensures done { OnOk result (done self.old self.new) }
+        ensures kept { OnErr result (kept self.old self.new) }
+        ensures err { IfErr result (λ error. error ≡ OutOfMemory) };
+}
+
+/// No companion.
+#[derive(Drop)]
+pub(crate) struct Alone;
+
+impl Companion for Alone {
+    ghost ready = { λ companion. Unit {0} };
+
+    ghost done = { λ old new. Unit {0} };
+
+    ghost kept = { λ old new. Unit {0} };
+
+    fn commit(&mut self) -> Result<(), KvError> {
+        Ok(())
+    }
+}
 
 // A trie, and the pair that is put into it with a change of another one, or not at all.
 #[derive(Drop)]

@@ -1,9 +1,9 @@
-//! A node with only the pairs that are wanted.
+//! A node with only the pairs that are wanted, and what says which those are.
 //!
 //! What may become of a node: `None` where nothing goes, so that the node itself can be shared; else `Some` of what is
 //! left of it.
 
-ghost use Rattle.std.specs.Prelude.{◌≡◌, ◌+◌, ◌-◌, ◌<◌, ◌≤◌, ◌^◌, true, length, map, IfOk, OnOk, MatchOption};
+ghost use Rattle.std.specs.Prelude.{◌≡◌, ◌+◌, ◌-◌, ◌<◌, ◌≤◌, ◌^◌, Bool, true, length, map, IfOk, OnOk, MatchOption};
 ghost use Rattle.std.specs.Arc.{arc_value};
 ghost use Rattle.std.specs.List.{filter};
 ghost use Rattle.kv_trie.specs.Form.{Each, child_at, with_or_without, IsForm, IsNode, AreForms, row, listed as node_of, pairs_in, node_pairs, whole};
@@ -12,15 +12,24 @@ ghost use Rattle.kv_trie.specs.Stored.{shape_of, child_slots};
 ghost use Rattle.kv_trie.specs.inside.Few.{Rises, has_slots, slots_of};
 ghost use Rattle.kv_trie.specs.Trie.{IsRoot, root_pairs};
 
-use crate::children::{child_of, spread_of};
+use crate::branch::{Padded, child_of, spread_of};
 use crate::list::take_only;
 use crate::node::{Node, Pair};
-use crate::padded::Padded;
-use crate::rest::take_rest;
-use crate::wants::Wants;
+use crate::remove::take_rest;
 use kv_keys::Place;
 use std::alloc::{AllocError, Global};
 use std::sync::Arc;
+
+/// A question about each pair of a map, whose answer is a function of the asker, the key and the value.
+///
+/// `wanted asker key value` is the answer. A caller of [`Trie::retain`](crate::Trie::retain) learns by it what stays.
+pub trait Wants<K, V> {
+    ghost wanted: { Self → K → V → Bool };
+
+    /// Whether the pair is to stay.
+    fn wants(&self, key: &K, value: &V) -> bool
+        ensures { result ≡ wanted self.now key.now value.now };
+}
 
 // Where the first pair is that is not wanted.
 fn first_unwanted<K, V, W: Wants<K, V>>(pairs: &[Arc<Pair<K, V>>], wants: &W) -> Option<usize>

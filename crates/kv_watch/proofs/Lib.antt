@@ -1,5 +1,5 @@
 pub mod Lists
-pub mod Opening
+pub mod Opened
 pub mod Owing
 pub mod Passing
 pub mod Placing

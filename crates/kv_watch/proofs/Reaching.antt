@@ -24,7 +24,7 @@ use Rattle.kv_store.specs.Standing.{StandsFor}
 use Rattle.kv_store.specs.Stored.{Stored}
 use Rattle.kv_watch.specs.Following.{Following, InPlace, InReach, behind, behind_entry, given_to, initial_to, live_count, live_to, marker_if, shown_behind}
 use Rattle.kv_watch.proofs.Lists.{drop-append}
-use Rattle.kv_watch.proofs.Opening.{in_place_later}
+use Rattle.kv_watch.proofs.Opened.{in_place_later}
 use Rattle.kv_watch.proofs.Placing.{CountsFrom-drop, next_shown, whole}
 use Rattle.kv_watch.proofs.Walks.{behind_counted, counts, hidden_front, shown_front}
 

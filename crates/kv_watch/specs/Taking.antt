@@ -1,9 +1,9 @@
 -- What a take hands out, as an item of what the watch is given.
 use Rattle.std.specs.Prelude.{Bool, Option, Some, None}
 use Rattle.kv_model.specs.Acts.{Write}
-use Rattle.kv_watch.specs.declared.shown.Shown.{Shown}
-use Rattle.kv_watch.specs.declared.taken.Taken.{Taken}
-use Rattle.kv_watch.specs.declared.taken.Taken.TheVariants as taken
+use Rattle.kv_watch.specs.declared.item.Shown.{Shown}
+use Rattle.kv_watch.specs.declared.item.Taken.{Taken}
+use Rattle.kv_watch.specs.declared.item.Taken.TheVariants as taken
 use Rattle.kv_model.specs.Given.{Entry, Item, AnEntry, EndMarker, entry_of}
 
 -- the entry that is lent of a write

@@ -13,7 +13,7 @@ ghost use Rattle.std.specs.List.{list_any};
 ghost use Rattle.std.specs.Option.{option_copied};
 ghost use Rattle.kv_keys.specs.declared.error.KvError.TheVariants.{OutOfMemory};
 
-use crate::shown::is_shown;
+use crate::item::is_shown;
 use kv_keys::{Filters, Key, KvError};
 use kv_model::{Event, Op, Options, Start, Write};
 use std::alloc::{AllocError, Global};

@@ -1,22 +1,20 @@
-//! Cursors: how far a watch has come in what it is given.
+//! Cursors: how far a watch has come in what it is given, and the next live write behind that.
 
-ghost use Rattle.std.specs.Prelude.{◌≡◌, ℕ, ◌+◌, ◌≤◌, ◌↔◌, List, [], Some, None, IfOk, IfErr, is_some, length, nat_lt, slice_get, IsNone};
-ghost use Rattle.std.specs.Option.{option_copied, option_len, option_map};
+ghost use Rattle.std.specs.Prelude.{◌≡◌, ◌+◌, ◌≤◌, ◌↔◌, ◌<◌, ◌-◌, ◌∷◌, ℕ, List, [], Some, None, IfOk, IfErr, is_some, length, nat_lt, slice_get, IsNone, max, MatchOption};
+ghost use Rattle.std.specs.Option.{option_copied, option_len, option_map, IfSome};
 ghost use Rattle.kv_keys.specs.declared.error.KvError.TheVariants.{OutOfMemory};
 ghost use Rattle.kv_model.specs.Acts.{Act, writes_of};
+ghost use Rattle.kv_model.specs.further.Events.{event_of};
+ghost use Rattle.kv_model.specs.Given.{is_behind, AnEntry, entry_of};
 ghost use Rattle.kv_store.specs.Standing.{StandsFor};
 ghost use Rattle.kv_store.specs.Stored.{Stored, write_at};
-ghost use Rattle.kv_watch.specs.Following.{given_to, behind, next_behind, InPlace, InReach, IsOpening};
-ghost use Rattle.kv_model.specs.further.Events.{event_of};
-ghost use Rattle.kv_model.specs.Given.{is_behind};
+ghost use Rattle.kv_watch.specs.Following.{given_to, behind, next_behind, InPlace, InReach, IsOpening, shown_behind};
 ghost use Rattle.kv_watch.specs.Taking.{entry_item, item_taken};
 
-use crate::live::next_live;
-use crate::owed::{owed_at_opening, owes_marker};
-use crate::shown::Shown;
-use crate::taken::Taken;
+use crate::item::{Shown, Taken, is_shown};
+use crate::opening::{owed_at_opening, owes_marker};
 use kv_keys::{Filters, KvError};
-use kv_model::{Event, Options};
+use kv_model::{Event, Options, Write};
 use kv_store::Version;
 use std::alloc::Global;
 use std::marker::Model;
@@ -364,4 +362,34 @@ fn entry_at<'a>(base: &'a Version, revision: u64, headers_only: bool) -> Taken<'
         Some(write) => Taken::Entry(Shown::new(write, headers_only)),
         None => Taken::Empty,
     }
+}
+
+// The first write behind a revision, and above the floor, that a watch with these filters and options shows. It looks
+// at each write up to that one: above the floor each is stored.
+fn next_live<'a>(
+    now: &'a Version,
+    filters: &Filters,
+    options: Options,
+    seen: u64,
+) -> Option<&'a Write>
+    ensures first { (acts : List Act) → StandsFor acts now.now → MatchOption result
+        (shown_behind (max seen now.now.floor) acts filters.now options ≡ [])
+        (λ write. shown_behind (max seen now.now.floor) acts filters.now options
+        ≡ AnEntry (entry_of options.headers_only write.now) ∷ shown_behind write.now.revision acts filters.now
+        options) }
+    // Nothing before it is shown.
+    ensures skipped { (acts : List Act) → StandsFor acts now.now → IfSome result (λ write.
+        (shown_behind (write.now.revision - 1) acts filters.now options
+        ≡ shown_behind (max seen now.now.floor) acts filters.now options)
+        × (seen < write.now.revision) × (write.now.revision ≤ length (writes_of acts))) }
+{
+    for place in seen.max(now.floor())..now.revision() {
+        let Some(write) = now.write_at(place + 1) else {
+            return None;
+        };
+        if is_shown(filters, options, write) {
+            return Some(write);
+        }
+    }
+    None
 }

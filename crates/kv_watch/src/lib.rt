@@ -3,16 +3,13 @@
 
 mod audit;
 mod cursor;
+mod item;
 pub mod laws;
-mod live;
-mod owed;
-mod shown;
-mod taken;
+mod opening;
 mod watch;
 
 pub use audit::given;
 pub use cursor::Cursor;
+pub use item::{Shown, Taken};
 pub use kv_model::{Event, Options, Start};
-pub use shown::Shown;
-pub use taken::Taken;
 pub use watch::Watch;

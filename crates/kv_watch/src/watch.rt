@@ -11,7 +11,7 @@ ghost use Rattle.kv_watch.specs.Taking.{item_taken};
 ghost use Rattle.kv_watch.specs.Watching.{HasHanded, MovesOn, all_given, item_behind};
 
 use crate::cursor::Cursor;
-use crate::taken::Taken;
+use crate::item::Taken;
 use kv_keys::{Filters, KvError};
 use kv_model::Options;
 use kv_store::Version;

@@ -2,7 +2,7 @@
 use Rattle.std.specs.Prelude.{ℕ, List, map}
 use Rattle.kv_model.specs.Acts.{Write}
 use Rattle.kv_store.specs.Stored.{KeyHistory, Stored}
-use Rattle.kv_store.specs.declared.inner.Inner.{Inner}
+use Rattle.kv_store.specs.declared.version.Inner.{Inner}
 
 -- the revisions in the entries of the key trie
 abbrev pub kept_entries : List (List ℕ × KeyHistory) → List (List ℕ × List ℕ)

@@ -1,7 +1,7 @@
 -- Where the children of a small branch stand.
 use Rattle.std.specs.Prelude.{◌≡◌, ℕ, suc, ◌<◌, ◌≤◌, List, [], ◌∷◌, map, Bool, true, false, Option, Some, None, is_some, slice_index_or}
 use Rattle.std.proofs.Common.{zero}
-use Rattle.kv_trie.specs.declared.few.Few.{Few}
+use Rattle.kv_trie.specs.declared.branch.Few.{Few}
 use Rattle.kv_trie.specs.declared.node.Node.{Node}
 use Rattle.kv_trie.specs.Form.{Shape, Slots, branch, none, more, child_at}
 use Rattle.kv_trie.specs.Stored.{shape_of, slots_at, few_slots}

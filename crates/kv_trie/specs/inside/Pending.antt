@@ -1,6 +1,6 @@
 -- A pair on the way down to its place.
 use Rattle.std.specs.Prelude.{◌≡◌, Bool, true, false, Option, Some, None}
-use Rattle.kv_trie.specs.declared.new_pair.NewPair.{NewPair}
+use Rattle.kv_trie.specs.declared.put.NewPair.{NewPair}
 use Rattle.kv_trie.specs.Put.{pair_of}
 
 -- the pair, and whether it is still there

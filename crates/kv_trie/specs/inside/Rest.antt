@@ -2,8 +2,8 @@
 use Rattle.std.specs.Prelude.{◌≡◌, ◌<◌, List, map, length, false, Some, None}
 use Rattle.std.specs.List.{slice_get}
 use Rattle.kv_trie.specs.declared.node.Node.{Node}
-use Rattle.kv_trie.specs.declared.rest.Rest.{Rest}
-use Rattle.kv_trie.specs.declared.rest.Rest.TheVariants.{Nothing, Leaf, Branch}
+use Rattle.kv_trie.specs.declared.remove.Rest.{Rest}
+use Rattle.kv_trie.specs.declared.remove.Rest.TheVariants.{Nothing, Leaf, Branch}
 use Rattle.kv_trie.specs.Form.{branch, whole}
 use Rattle.kv_trie.specs.inside.Few.{has_slots}
 use Rattle.kv_trie.specs.Stored.{shape_of, child_slots}

@@ -1,4 +1,4 @@
-use Rattle.kv_watch.proofs.Opening.{in_place_later as lemma}
+use Rattle.kv_watch.proofs.Opened.{in_place_later as lemma}
 use Rattle.kv_watch.proofs.laws.in_place_later.Goals as goal
 
 pub returns : goal.returns

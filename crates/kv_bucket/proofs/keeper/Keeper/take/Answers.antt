@@ -1,6 +1,6 @@
 use Rattle.std.proofs.Common.{refl}
 use Rattle.kv_keys.specs.declared.error.KvError.TheVariants.{NoSuchWatch}
-use Rattle.kv_watch.specs.declared.taken.Taken.{Taken}
+use Rattle.kv_watch.specs.declared.item.Taken.{Taken}
 use Rattle.kv_watch.specs.Taking.{item_taken}
 use Rattle.kv_model.specs.declared.call.Call.TheVariants as calls
 use Rattle.kv_model.specs.Answers.{answer_item}

@@ -1,5 +1,5 @@
 use Rattle.std.proofs.Common.{sym, ◌∙◌}
-use Rattle.kv_store.proofs.Compaction.{stands_for_compact}
+use Rattle.kv_store.proofs.Compacting.{stands_for_compact}
 use Rattle.kv_store.proofs.version.Version.compact.Goals as goal
 
 pub returns-clause-ok : goal.returns-clause-ok

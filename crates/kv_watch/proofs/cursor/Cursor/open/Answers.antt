@@ -1,4 +1,4 @@
-use Rattle.kv_watch.proofs.Opening.{opened}
+use Rattle.kv_watch.proofs.Opened.{opened}
 use Rattle.kv_watch.proofs.Reaching.{reach_opened}
 use Rattle.kv_watch.proofs.cursor.Cursor.open.Goals as goal
 

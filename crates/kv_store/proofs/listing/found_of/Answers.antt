@@ -1,0 +1,18 @@
+use Rattle.std.proofs.Common.{sym, subst, ap, ◌∙◌}
+use Rattle.std.specs.List.{flat_map}
+use Rattle.std.specs.List.Sorted.{IsPermutation}
+use Rattle.kv_keys.specs.Places.{fnv32_of}
+use Rattle.kv_store.specs.Asked.{AreAsked}
+use Rattle.kv_store.specs.inside.Selected.{initial_at, initial_of}
+use Rattle.kv_store.proofs.LookingUp.{looked_up_all}
+use Rattle.kv_store.proofs.listing.found_of.Goals as goal
+
+pub returns-in_ok-looked_up-in-Some-clause-same : goal.returns-in_ok-looked_up-in-Some-clause-same
+returns-in_ok-looked_up-in-Some-clause-same g c =
+    let wants = g.W.Wanted.wants_key c.args.wanted.now in
+    let start = c.args.start in
+    let entries = c.args.by_key.now in
+    let keys = c.in-Some.keys.items in
+    let asked : AreAsked wants keys = rw c.in-Some.is at c.in_ok-keys.ensures.asked in
+    subst (λ l. IsPermutation (flat_map (initial_of wants start) entries) l) (sym (c.in_ok-looked_up-in-Some.ensures ∙ ap (flat_map (initial_at start entries)) c.deref.ensures.value))
+    (looked_up_all wants start keys fnv32_of entries asked c.requires)

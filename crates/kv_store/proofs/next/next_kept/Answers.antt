@@ -1,9 +1,0 @@
-use borrow.Author.Tests.{tests}
-use Rattle.std.proofs.Common.{rules}
-use Rattle.kv_store.proofs.next.next_kept.Goals as goal
-
-pub returns-then-is_purge : goal.returns-then-is_purge
-returns-then-is_purge c = search (rules, tests)
-
-pub returns : goal.returns
-returns c = search (rules, tests)

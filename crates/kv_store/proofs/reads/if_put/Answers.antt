@@ -1,5 +1,0 @@
-use Rattle.std.proofs.Common.{refl, rules}
-use Rattle.kv_store.proofs.reads.if_put.Goals as goal
-
-pub returns-else-is_put : goal.returns-else-is_put
-returns-else-is_put c = (refl, search rules)

@@ -1,4 +1,0 @@
-use Rattle.kv_watch.proofs.owed.initial_revisions.Goals as goal
-
-pub returns-in-Latest : goal.returns-in-Latest
-returns-in-Latest c = record { ok = c.revisions_where.ensures.ok; err = c.revisions_where.ensures.err }
