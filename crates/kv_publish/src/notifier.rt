@@ -158,15 +158,14 @@ impl<N: LiveName> Notifier<N> {
 
     // What there is to wake for, where that shows without a sleep: at once, or behind a few looks where these are due.
     fn look_again(&self, acts: u64) -> Option<Woken> {
-        let woken = self.woken(acts);
-        if woken.is_some() {
-            self.spin.hit();
+        let word = self.board.word.load(Ordering::SeqCst);
+        let woken = what_woke(said(word), acts);
+        if woken.is_some() || !self.spin.is_due(word / SLEEPER) {
             return woken;
         }
-        if self.spin.is_due() {
-            return self.look(acts);
-        }
-        None
+        let woken = self.look(acts);
+        self.spin.learn(woken.is_some());
+        woken
     }
 
     // Sleeps once, for no longer than the limit, unless there is something to wake for. It may wake for no reason.

@@ -71,6 +71,9 @@ pub struct Ring {
     before: Option<Older>,
     // And the one before that.
     oldest: Option<Older>,
+    // An older one that somebody else had when it was to become the next. It is let go once nobody else has it, so no
+    // reader is held up by freeing its nodes, on a version that is to become the next meanwhile.
+    held: Option<Version>,
 }
 
 // Field by field: a derived drop makes each proof longer that owns one.
@@ -80,6 +83,7 @@ impl Drop for Ring {
             version: _,
             before: _,
             oldest: _,
+            held: _,
         } = self;
     }
 }
@@ -106,6 +110,7 @@ impl Ring {
             version,
             before: None,
             oldest: None,
+            held: None,
         }
     }
 
@@ -114,6 +119,19 @@ impl Ring {
         ensures { result.now ≡ self.now }
     {
         &self.version
+    }
+
+    // Lets go of the older version that somebody else had, where nobody has it any more.
+    fn let_go(&mut self)
+        ensures { self.new ≡ self.old }
+    {
+        let is_free = match &self.held {
+            Some(version) => !version.is_shared(),
+            None => false,
+        };
+        if is_free {
+            self.held = None;
+        }
     }
 
     // The oldest version, with the two writes that it lacks: none where there is none, or somebody else has it too.
@@ -125,6 +143,7 @@ impl Ring {
             version: _,
             before,
             oldest,
+            held,
         } = self;
         let Some(oldest) = oldest.take() else {
             return Ok(None);
@@ -133,6 +152,7 @@ impl Ring {
             return Ok(None);
         };
         if oldest.version.is_shared() {
+            *held = Some(oldest.version);
             return Ok(None);
         }
         let mut version = oldest.follow(alloc)?;
@@ -181,6 +201,7 @@ impl Ring {
             version,
             before,
             oldest,
+            held: _,
         } = self;
         let made = next.made;
         let last = mem::replace(version, next.version);
@@ -191,6 +212,7 @@ impl Ring {
                 made,
             }),
         );
+        self.let_go();
     }
 
     /// Does to its version what `Version::apply` answers in a new one, or changes nothing and answers why.
