@@ -2,3 +2,12 @@ pub mod Once
 pub mod Bytes
 pub mod Crashing
 pub mod Recovery
+pub mod Adding
+pub mod Recording
+pub mod Living
+pub mod Steps
+pub mod Written
+pub mod Finding
+pub mod Changed
+pub mod Ended
+pub mod Framed

@@ -1,7 +1,7 @@
 -- What is read of the bytes of a file.
 use Rattle.std.proofs.Common.{◌≡◌, ℕ, ◌+◌, List, [], ◌++◌, length, drop, refl, sym, ap, ◌∙◌, subst, append_assoc, length-append}
 use Rattle.std.proofs.lemmas.List.{drop_at}
-use Rattle.kv_frames.specs.Frames.{frame, frames, place_after, Splits}
+use Rattle.kv_frames.specs.Frames.{frames, place_after, Splits}
 use Rattle.kv_model.specs.Configuration.{Configuration, IsLegal}
 use Rattle.kv_journal.specs.Beginning.{BeginsWith, beginning, configuration_payload}
 use Rattle.kv_journal.specs.Damage.{ShowsDamage}

@@ -8,7 +8,16 @@ ghost use Rattle.kv_frames.specs.Frames.{ArePayloads};
 ghost use Rattle.kv_model.specs.Acts.{IsPrefix};
 ghost use Rattle.kv_model.specs.Configuration.{Configuration, IsLegal};
 ghost use Rattle.kv_journal.specs.Entries.{AreLawful, Entry, acts_of, payloads_of};
+ghost use Rattle.kv_model.specs.State.{State, empty};
+ghost use Rattle.kv_single.specs.Held.{Represents};
+ghost use Rattle.kv_journal.specs.Records.{Content};
+ghost use Rattle.kv_durable.specs.Durables.{IsAt, IsRecorded};
 ghost use Rattle.kv_durable.specs.Files.{HasForgery, IsBeginning, IsBetween, Reads};
+ghost use Rattle.kv_durable.specs.Lives.{ComesBack, GoesOn, Lives, lived};
+ghost use Rattle.kv_durable.specs.Openings.{IsNew, IsReopened};
+ghost use Rattle.kv_durable.specs.declared.durable.Durable.{Durable};
+
+use kv_file::JournalFile;
 
 /// A file is read as one list of entries.
 pub fn one_reading()
@@ -40,4 +49,51 @@ pub fn at_any_moment()
         IsBetween seed config kept maybe disk loose → IsPrefix disk later_disk →
         IsPrefix (later_disk ++ later_loose) (last_disk ++ last_loose) →
         IsBetween seed config kept maybe last_disk last_loose → IsBetween seed config kept maybe later_disk later_loose }
+{}
+
+/// Calls that were answered, one after the other, lead to the state that the model comes to by them, and to the entries of the
+/// file behind: nothing that was on the disk has gone, and nothing was taken back.
+pub fn a_life_goes_on<F: JournalFile>()
+    ensures { (calls : List (State → State)) (first last : Durable F) (state : State) (kept loose : List Entry) →
+        Lives F.has F.usable calls first last → IsAt F.has F.usable state kept loose first →
+        (k : List Entry) × (l : List Entry) × IsPrefix kept k × IsPrefix (kept ++ loose) (k ++ l) × IsAt F.has F.usable (lived calls state) k l last }
+{}
+
+/// A life ends by a crash in a call that may have handed over what it tells, or none of it, and an opening of what the crash
+/// leaves answers a bucket. That has come back: with all acts that were on the disk, and of the others with a beginning. Or a
+/// frame with its right checksum stands there that was never written there.
+pub fn a_second_life<F: JournalFile>()
+    ensures { (state : State) (kept loose told entries : List Entry) (first second : Durable F) (dropped : ℕ) (disk more left rest : List ℕ) →
+        IsAt F.has F.usable state kept loose first → AreLawful state.config state.acts told →
+        IsBetween first.journal.framing.seed state.config kept (loose ++ told) disk more → MayLeave disk more left →
+        IsReopened F.has F.usable state.config left entries rest second dropped →
+        ComesBack state.config kept (loose ++ told) (acts_of entries) second
+        ⊎ HasForgery first.journal.framing.seed state.config kept (loose ++ told) left }
+{}
+
+/// The same of a whole life, from an empty file on. Where nothing is loose, as under `Sync::Each`, all acts are there that were
+/// answered.
+pub fn a_life_and_the_next<F: JournalFile>()
+    ensures { (config : Configuration) (seed : ℕ) (calls : List (State → State)) (new last second : Durable F) (none dropped : ℕ) →
+        IsNew F.has F.usable config seed new none → Lives F.has F.usable calls new last →
+        (kept : List Entry) × (loose : List Entry) × IsAt F.has F.usable (lived calls (empty config)) kept loose last
+        × ((told entries : List Entry) (disk more left rest : List ℕ) →
+        AreLawful (lived calls (empty config)).config (lived calls (empty config)).acts told →
+        IsBetween last.journal.framing.seed (lived calls (empty config)).config kept (loose ++ told) disk more → MayLeave disk more left →
+        IsReopened F.has F.usable (lived calls (empty config)).config left entries rest second dropped →
+        ComesBack (lived calls (empty config)).config kept (loose ++ told) (acts_of entries) second
+        ⊎ HasForgery last.journal.framing.seed (lived calls (empty config)).config kept (loose ++ told) left) }
+{}
+
+/// Each call that is answered goes on: one that was recorded, as a write, a seal and a compaction; a sync; and one that
+/// leaves the acts and the journal as they are, as those of watches, and what was refused.
+pub fn each_call_goes_on<F: JournalFile>()
+    ensures recorded { (later : State → State) (told : State → List Content) (old new : Durable F) →
+        IsRecorded F.has F.usable later told old new → GoesOn F.has F.usable later old new }
+    ensures synced { (old new : Durable F) →
+        ((state : State) (kept loose : List Entry) → IsAt F.has F.usable state kept loose old → IsAt F.has F.usable state (kept ++ loose) [] new) →
+        GoesOn F.has F.usable (λ state. state) old new }
+    ensures others { (later : State → State) (old new : Durable F) → ((state : State) → Represents state old.bucket →
+        Represents (later state) new.bucket × ((later state).acts ≡ state.acts) × ((later state).config ≡ state.config)) →
+        new.journal ≡ old.journal → GoesOn F.has F.usable later old new }
 {}

@@ -5,6 +5,8 @@
 #![tactic(auto)]
 
 #[cfg(test)]
+mod durables;
+#[cfg(test)]
 mod entries;
 #[cfg(test)]
 mod equal;

@@ -1,8 +1,9 @@
 //! A bucket: its version, and the watches that are open.
 
-ghost use Rattle.std.specs.Prelude.{◌≡◌, length, IfErr, IfOk};
+ghost use Rattle.std.specs.Prelude.{◌≡◌, [], List, length, IfErr, IfOk};
 ghost use Rattle.std.specs.List.{position};
 ghost use Rattle.kv_keys.specs.Outcome.{Refuses};
+ghost use Rattle.kv_model.specs.Acts.{Act};
 ghost use Rattle.kv_model.specs.Configuration.{configure};
 ghost use Rattle.kv_model.specs.Answers.{Answer};
 ghost use Rattle.kv_model.specs.declared.call.Call.{Call as ACall};
@@ -62,6 +63,19 @@ impl Bucket {
             opened: 0,
             alloc,
         })
+    }
+
+    /// A bucket with this version, and no watches: for a layer that has made the version again from what it keeps.
+    pub fn from_version(alloc: Global, version: Version) -> Bucket
+        ensures { (acts : List Act) → StandsFor acts version →
+            Represents (record { config = version.config; acts = acts; watches = [] }) result }
+    {
+        Bucket {
+            version,
+            watches: Vec::new(alloc),
+            opened: 0,
+            alloc,
+        }
     }
 
     /// The version with all that was accepted.

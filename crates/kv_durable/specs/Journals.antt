@@ -1,0 +1,67 @@
+-- The entries of a journal, and those that are added to it.
+use Rattle.std.specs.Prelude.{◌≡◌, ℕ, ◌+◌, ◌<◌, ◌^◌, Bool, not, ◌||◌, nat_lt, nat_le, if◌then◌else◌, List, [], ◌∷◌, ◌++◌, length}
+use Rattle.kv_file.specs.Adding.{Adds}
+use Rattle.kv_file.specs.Bytes.{Has}
+use Rattle.kv_frames.specs.Frames.{ArePayloads, IsPayload, frames}
+use Rattle.kv_model.specs.Configuration.{Configuration}
+use Rattle.kv_journal.specs.Entries.{AreLawful, Entry, acts_of, payload_of, payloads_of}
+use Rattle.kv_journal.specs.Records.{Content}
+use Rattle.kv_durable.specs.Files.{IsBetween, file_of, frames_behind}
+use Rattle.kv_durable.specs.declared.journal.Journal.{Journal}
+
+-- the file of a journal has the first entries on the disk, the others loose behind them, and nothing else; no call of it has
+-- failed, and each entry could be added behind those before it
+pub record Keeps {F : Type 0} (has : F → List ℕ → List ℕ → Type 0) (usable : F → Bool) (config : Configuration) (kept loose : List Entry) (journal : Journal F) : Type 0 where
+  pub seed_fits : journal.framing.seed < 2 ^ 64
+  pub lawful : AreLawful config [] (kept ++ loose)
+  pub payloads : ArePayloads (payloads_of (kept ++ loose))
+  pub bytes : Has has usable (file_of journal.framing.seed config kept) (frames_behind journal.framing.seed config kept loose) journal.appender
+
+-- nothing more is added to a file that has failed, or that has 2^62 bytes
+abbrev pub is_stopped : {F : Type 0} → (F → Bool) → Journal F → Bool
+is_stopped usable journal = not (usable journal.appender.file) || nat_le 4611686018427387904 journal.appender.place
+
+-- how many bytes an entry that is added next says are loose before it: where more than a gibibyte are, these are brought onto
+-- the disk first
+abbrev pub loose_ahead : {F : Type 0} → Journal F → ℕ
+loose_ahead journal = if nat_lt 1073741824 journal.appender.loose then 0 else journal.appender.loose
+
+-- the entries that tell this, where they are added at once behind so many loose bytes: each says that those before it are
+-- loose too
+abbrev pub entries_at : ℕ → List Content → List Entry
+entries_at loose [] = []
+entries_at loose (content ∷ more) = record { loose = loose; content = content } ∷ entries_at (loose + (8 + length (payload_of (record { loose = loose; content = content })))) more
+
+-- the entries that tell this next
+abbrev pub told_next : {F : Type 0} → Journal F → List Content → List Entry
+told_next journal contents = entries_at (loose_ahead journal) contents
+
+-- these entries can be added behind those
+abbrev pub CanFollow : Configuration → (before entries : List Entry) → Type 0
+CanFollow config before entries = AreLawful config (acts_of before) entries × ArePayloads (payloads_of entries)
+
+-- these entries were added: they are loose as well, or loose alone, or all is on the disk
+abbrev pub HasAdded : {F : Type 0} → (F → List ℕ → List ℕ → Type 0) → (F → Bool) → Configuration → (kept loose entries : List Entry) → Journal F → Type 0
+HasAdded has usable config kept loose entries journal = (k : List Entry) × (l : List Entry) × Adds kept loose entries k l × Keeps has usable config k l journal
+
+-- nothing of what was on the disk has gone, and nothing was handed over but a beginning of the frames of these
+abbrev pub IsLeft : {F : Type 0} → (F → List ℕ → List ℕ → Type 0) → (seed : ℕ) → Configuration → (kept maybe : List Entry) → F → Type 0
+IsLeft has seed config kept maybe file = (disk : List ℕ) × (loose : List ℕ) × IsBetween seed config kept maybe disk loose × has file disk loose
+
+-- the bytes are the frame of the entry that tells this next, which is a payload
+pub record IsFrameOf {F : Type 0} (journal : Journal F) (content : Content) (bytes : List ℕ) : Type 0 where
+  pub are : bytes ≡ frames journal.framing.seed journal.appender.place (payloads_of (told_next journal (content ∷ [])))
+  pub payload : IsPayload (payload_of (record { loose = loose_ahead journal; content = content }))
+
+-- Bytes were added to a journal: whatever entries it kept, if the bytes are the frames of entries that can be added behind
+-- those, it keeps them too.
+abbrev pub AddsFrames : {F : Type 0} → (F → List ℕ → List ℕ → Type 0) → (F → Bool) → List ℕ → (old new : Journal F) → Type 0
+AddsFrames has usable bytes old new = (config : Configuration) (kept loose entries : List Entry) → Keeps has usable config kept loose old →
+    CanFollow config (kept ++ loose) entries → bytes ≡ frames old.framing.seed old.appender.place (payloads_of entries) →
+    HasAdded has usable config kept loose entries new
+
+-- bytes were not added, or in part
+abbrev pub LeavesFrames : {F : Type 0} → (F → List ℕ → List ℕ → Type 0) → (F → Bool) → List ℕ → (old : Journal F) → F → Type 0
+LeavesFrames has usable bytes old file = (config : Configuration) (kept loose entries : List Entry) → Keeps has usable config kept loose old →
+    bytes ≡ frames old.framing.seed old.appender.place (payloads_of entries) →
+    IsLeft has old.framing.seed config kept (loose ++ entries) file

@@ -1,0 +1,32 @@
+-- A life of a durable bucket, the crash that ends it, and the next life.
+use Rattle.std.specs.Prelude.{◌≡◌, ℕ, Bool, List, [], ◌∷◌, ◌++◌}
+use Rattle.kv_model.specs.Acts.{Act, IsPrefix}
+use Rattle.kv_model.specs.Configuration.{Configuration}
+use Rattle.kv_model.specs.State.{State}
+use Rattle.kv_single.specs.Held.{Represents}
+use Rattle.kv_journal.specs.Entries.{Entry, acts_of}
+use Rattle.kv_durable.specs.Durables.{IsAt, state_of}
+use Rattle.kv_durable.specs.declared.durable.Durable.{Durable}
+
+-- A call of a durable bucket that was answered, and leads from each state to this one: whatever the bucket was at, it is at
+-- that state, nothing that was on the disk has gone, and nothing was taken back.
+abbrev pub GoesOn : {F : Type 0} → (F → List ℕ → List ℕ → Type 0) → (F → Bool) → (State → State) → Durable F → Durable F → Type 0
+GoesOn has usable later old new = (state : State) (kept loose : List Entry) → IsAt has usable state kept loose old →
+    (k : List Entry) × (l : List Entry) × IsPrefix kept k × IsPrefix (kept ++ loose) (k ++ l) × IsAt has usable (later state) k l new
+
+-- such calls in a row
+abbrev pub Lives : {F : Type 0} → (F → List ℕ → List ℕ → Type 0) → (F → Bool) → List (State → State) → Durable F → Durable F → Type 0
+Lives has usable [] old new = new ≡ old
+Lives {F} has usable (later ∷ more) old new = (next : Durable F) × GoesOn has usable later old next × Lives has usable more next new
+
+-- the state that they lead to
+abbrev pub lived : List (State → State) → State → State
+lived [] state = state
+lived (later ∷ more) state = lived more (later state)
+
+-- A bucket has come back: it represents a state with no watch, whose acts begin with all those of the first entries, and are a
+-- beginning of those of all.
+pub record ComesBack {F : Type 0} (config : Configuration) (kept maybe : List Entry) (acts : List Act) (durable : Durable F) : Type 0 where
+  pub represents : Represents (state_of config acts) durable.bucket
+  pub all_kept : IsPrefix (acts_of kept) acts
+  pub no_other : IsPrefix acts (acts_of (kept ++ maybe))

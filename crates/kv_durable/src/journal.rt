@@ -1,0 +1,148 @@
+//! The journal of a bucket: its file, and what adds entries to it.
+
+ghost use Rattle.std.specs.Prelude.{◌≡◌, ◌<◌, ◌≤◌, ◌^◌, ◌++◌, ◌∷◌, ◌&&◌, [], ℕ, List, true, false, is_ok, length, IfOk, OnErr, OnOk};
+ghost use Rattle.kv_file.specs.declared.appender.Sync.TheVariants.{Each, Every};
+ghost use Rattle.kv_frames.specs.Frames.{IsPayload, frames};
+ghost use Rattle.kv_model.specs.Configuration.{Configuration};
+ghost use Rattle.kv_journal.specs.Entries.{Entry};
+ghost use Rattle.kv_durable.specs.Files.{file_of};
+ghost use Rattle.kv_durable.specs.Journals.{AddsFrames, CanFollow, IsLeft, Keeps, LeavesFrames, is_stopped, loose_ahead};
+
+use kv_file::{Appender, FileFault, JournalFile, Sync};
+use kv_frames::Framing;
+use std::alloc::{AllocError, Global};
+
+// A file with so many bytes is full.
+const FULL: u64 = 4_611_686_018_427_387_904;
+
+/// The file of a bucket, to which its entries are added.
+#[derive(Drop)]
+pub struct Journal<F: JournalFile> {
+    pub(crate) framing: Framing,
+    pub(crate) appender: Appender<F>,
+}
+
+impl<F: JournalFile> Journal<F> {
+    /// The journal of a file whose frames are written so, and that ends at this place, all of it on the disk.
+    pub(crate) fn new(file: F, framing: Framing, place: u64, sync: Sync) -> Journal<F>
+        ensures keeps { (config : Configuration) (entries : List Entry) → framing.seed < 2 ^ 64 →
+            CanFollow config [] entries → F.usable file ≡ true → F.has file (file_of framing.seed config entries) [] →
+            place ≡ length (file_of framing.seed config entries) → Keeps F.has F.usable config entries [] result }
+        ensures framing { result.framing ≡ framing }
+        ensures file { result.appender.file ≡ file }
+        ensures sync { result.appender.sync ≡ sync }
+    {
+        Journal {
+            framing,
+            appender: Appender::new(file, place, sync),
+        }
+    }
+
+    /// The file.
+    pub fn file(&self) -> &F
+        ensures { result.now ≡ self.now.appender.file }
+    {
+        self.appender.file()
+    }
+
+    /// The seed of the file: the number that was chosen when it was made.
+    pub fn seed(&self) -> u64
+        ensures { result ≡ self.now.framing.seed }
+    {
+        self.framing.seed
+    }
+
+    /// Where the file ends.
+    pub fn place(&self) -> u64
+        ensures { result ≡ self.now.appender.place }
+    {
+        self.appender.place()
+    }
+
+    /// The file, to which nothing more is added.
+    pub(crate) fn into_file(self) -> F
+        ensures { result ≡ self.appender.file }
+    {
+        let Journal {
+            framing: _,
+            appender,
+        } = self;
+        appender.into_file()
+    }
+
+    /// Whether nothing more is added: a call of the file has failed, or it has 2^62 bytes.
+    pub fn is_stopped(&self) -> bool
+        ensures { result ≡ is_stopped F.usable self.now }
+    {
+        !self.appender.file().is_usable() || self.appender.place() >= FULL
+    }
+
+    /// Refused where nothing more is added.
+    pub(crate) fn may_add(&self) -> Result<(), FileFault>
+        ensures ok { OnOk result (is_stopped F.usable self.now ≡ false) }
+        ensures err { OnErr result (is_stopped F.usable self.now ≡ true) }
+    {
+        if self.is_stopped() {
+            return Err(FileFault);
+        }
+        Ok(())
+    }
+
+    /// How many bytes will be loose before what is added next.
+    pub(crate) fn loose_ahead(&self) -> u32
+        ensures value { result ≡ loose_ahead self.now }
+        ensures few { result ≤ 1073741824 }
+    {
+        self.appender.loose_ahead()
+    }
+
+    /// The frame of a payload that is added next.
+    pub(crate) fn frame_of(&self, alloc: Global, payload: &[u8]) -> Result<Vec<u8>, AllocError>
+        requires { IsPayload payload.now }
+        ensures items { IfOk result
+            (λ v. v.items ≡ frames self.now.framing.seed self.now.appender.place (payload.now ∷ [])) }
+        ensures short { IfOk result (λ v. length v.items < 2 ^ 33) }
+    {
+        let mut frame = Vec::new(alloc);
+        self.framing
+            .push_frame(&mut frame, self.appender.place(), payload)?;
+        Ok(frame)
+    }
+
+    /// Adds the frames of entries, and brings all onto the disk where that is due.
+    pub(crate) fn add(&mut self, bytes: &[u8]) -> Result<(), FileFault>
+        requires room { self.old.appender.place < 2 ^ 62 }
+        requires short { length bytes.now < 2 ^ 33 }
+        ensures ok { OnOk result (AddsFrames F.has F.usable bytes.now self.old self.new) }
+        ensures err { OnErr result (LeavesFrames F.has F.usable bytes.now self.old self.new.appender.file) }
+        ensures each { OnOk result (self.old.appender.sync ≡ Each → self.new.appender.loose ≡ 0) }
+        ensures every { OnOk result ((n : ℕ) → self.old.appender.sync ≡ Every n → 0 < n → self.new.appender.waiting < n) }
+        ensures framing { self.new.framing ≡ self.old.framing }
+        ensures sync { self.new.appender.sync ≡ self.old.appender.sync }
+        ensures still { OnOk result (F.usable self.old.appender.file ≡ true → F.usable self.new.appender.file ≡ true) }
+        ensures count { F.faults self.old.appender.file ≤ F.faults self.new.appender.file }
+        ensures usable { F.usable self.new.appender.file ≡ (F.usable self.old.appender.file && is_ok result) }
+        ensures failed { OnErr result (F.usable self.old.appender.file ≡ true →
+            F.faults self.old.appender.file < F.faults self.new.appender.file) }
+    {
+        self.appender.add(bytes)
+    }
+
+    /// Brings all onto the disk.
+    pub(crate) fn flush(&mut self) -> Result<(), FileFault>
+        ensures ok { OnOk result ((config : Configuration) (kept loose : List Entry) →
+            Keeps F.has F.usable config kept loose self.old → Keeps F.has F.usable config (kept ++ loose) [] self.new) }
+        ensures err { OnErr result ((config : Configuration) (kept loose : List Entry) →
+            Keeps F.has F.usable config kept loose self.old →
+            IsLeft F.has self.old.framing.seed config kept loose self.new.appender.file) }
+        ensures none { OnOk result (self.new.appender.loose ≡ 0) }
+        ensures framing { self.new.framing ≡ self.old.framing }
+        ensures sync { self.new.appender.sync ≡ self.old.appender.sync }
+        ensures place { self.new.appender.place ≡ self.old.appender.place }
+        ensures usable { F.usable self.new.appender.file ≡ (F.usable self.old.appender.file && is_ok result) }
+        ensures failed { OnErr result (F.usable self.old.appender.file ≡ true →
+            F.faults self.old.appender.file < F.faults self.new.appender.file) }
+    {
+        self.appender.flush()
+    }
+}

@@ -1,0 +1,420 @@
+//! Tests of durable buckets over a file in memory.
+
+use crate::equal::equal;
+use kv_durable::{Durable, DurableError, Opened, Sync};
+use kv_file::{JournalFile, MemoryFile, Torn};
+use kv_keys::KvError;
+use kv_model::{Config, Request};
+use kv_store::Version;
+use kv_test_tools::{delete, is_same_at, purge, put};
+use std::alloc::{AllocError, Global};
+use std::process::Abort;
+use std::test::Fail;
+
+type Bucket = Durable<MemoryFile>;
+
+const SEED: u64 = 0x0123_4567_89AB_CDEF;
+
+// How many steps there are.
+const STEPS: usize = 8;
+
+fn config(alloc: Global) -> Result<Config, KvError> {
+    let mut config = Config::named(alloc, "settings")?;
+    config.history = 2;
+    Ok(config)
+}
+
+fn opened(alloc: Global, file: MemoryFile, sync: Sync) -> Result<Opened<MemoryFile>, DurableError> {
+    match Durable::open(alloc, &config(alloc)?, file, SEED, sync) {
+        Ok(opened) => Ok(opened),
+        Err(refused) => Err(refused.error),
+    }
+}
+
+fn reopened(alloc: Global, bytes: &[u8]) -> Result<Opened<MemoryFile>, DurableError> {
+    let bytes = Vec::from_slice(alloc, bytes)?;
+    opened(alloc, MemoryFile::new(alloc, bytes), Sync::Each)
+}
+
+fn create(alloc: Global, key: &str, value: &str) -> Result<Request, KvError> {
+    match put(alloc, key, value)? {
+        Request::Put { key, value } => Ok(Request::Create { key, value }),
+        request => Ok(request),
+    }
+}
+
+// Makes the step of this number.
+fn step(alloc: Global, bucket: &mut Bucket, number: usize) -> Result<(), DurableError> {
+    match number {
+        0 => bucket.write(&put(alloc, "app.port", "80")?)?,
+        1 => bucket.write(&create(alloc, "app.host", "kv")?)?,
+        2 => bucket.write(&delete(alloc, "app.port", Some(1))?)?,
+        3 => bucket.write(&purge(alloc, "app.host", None)?)?,
+        4 => bucket.write(&put(alloc, "app.port", "")?)?,
+        5 => {
+            bucket.compact(3)?;
+            3
+        }
+        6 => bucket.write(&put(alloc, "app.name", "durable")?)?,
+        _ => {
+            bucket.seal()?;
+            0
+        }
+    };
+    Ok(())
+}
+
+fn is_same(first: &Version, second: &Version) -> bool {
+    if first.status() != second.status() || first.floor() != second.floor() {
+        return false;
+    }
+    for revision in 0..10u64 {
+        if !is_same_at(first, second, revision) {
+            return false;
+        }
+    }
+    true
+}
+
+fn empty(alloc: Global) -> MemoryFile {
+    MemoryFile::new(alloc, Vec::new(alloc))
+}
+
+fn push<T: Drop>(items: &mut Vec<T>, item: T) -> Result<(), AllocError> {
+    items.push(item)?;
+    Ok(())
+}
+
+// The bytes of a file, and for each number of steps the version and where its bytes end.
+#[derive(Drop)]
+struct Course {
+    bytes: Vec<u8>,
+    versions: Vec<Version>,
+    ends: Vec<usize>,
+}
+
+fn make_course(alloc: Global) -> Result<Course, DurableError> {
+    let mut bucket = opened(alloc, empty(alloc), Sync::Each)?.durable;
+    let mut versions = Vec::new(alloc);
+    let mut ends = Vec::new(alloc);
+    push(&mut versions, bucket.bucket().version().snapshot()?)?;
+    push(&mut ends, bucket.journal().place() as usize)?;
+    for number in 0..STEPS {
+        step(alloc, &mut bucket, number)?;
+        push(&mut versions, bucket.bucket().version().snapshot()?)?;
+        push(&mut ends, bucket.journal().place() as usize)?;
+    }
+    let bytes = Vec::from_slice(alloc, bucket.journal().file().kept())?;
+    Ok(Course {
+        bytes,
+        versions,
+        ends,
+    })
+}
+
+// How many steps are whole in so many bytes, and where the last of them ends.
+fn whole_in(course: &Course, n: usize) -> Option<(usize, usize)> {
+    let mut found = None;
+    for (number, end) in course.ends.iter().enumerate() {
+        if *end <= n {
+            found = Some((number, *end));
+        }
+    }
+    found
+}
+
+// Whether the version is that behind so many steps.
+fn is_behind(course: &Course, number: usize, version: &Version) -> bool {
+    match course.versions.get(number) {
+        Some(wanted) => is_same(wanted, version),
+        None => false,
+    }
+}
+
+fn all_is_there_again_once(rt: &impl Abort, alloc: Global) -> Result<(), DurableError> {
+    let mut bucket = opened(alloc, empty(alloc), Sync::Every(3))?.durable;
+    for number in 0..STEPS {
+        step(alloc, &mut bucket, number)?;
+    }
+    let version = bucket.bucket().version().snapshot()?;
+    let file = match bucket.close() {
+        Ok(file) => file,
+        Err(refused) => return Err(refused.error),
+    };
+    let again = reopened(alloc, file.kept())?;
+    equal(rt, again.dropped, 0);
+    assert!(rt; is_same(&version, again.durable.bucket().version()));
+    Ok(())
+}
+
+#[test]
+fn all_is_there_again(rt: HostRuntime) -> Result<(), Fail> {
+    match all_is_there_again_once(&rt, rt.alloc()) {
+        Ok(()) => Ok(()),
+        Err(_) => Ok(all_is_there_again_once(&rt, rt.alloc())?),
+    }
+}
+
+// What is read of the first bytes of a file.
+fn is_read(rt: &impl Abort, alloc: Global, course: &Course, n: usize) -> Result<(), DurableError> {
+    let Some(bytes) = course.bytes.get(..n) else {
+        return Ok(());
+    };
+    match (whole_in(course, n), reopened(alloc, bytes)) {
+        (Some((number, end)), Ok(again)) => {
+            equal(rt, again.dropped, n.saturating_sub(end) as u64);
+            assert!(rt; is_behind(course, number, again.durable.bucket().version()));
+            Ok(())
+        }
+        (None, Err(DurableError::FileDamaged { at: 0 })) => Ok(()),
+        (_, Err(error)) => Err(error),
+        (None, Ok(again)) => {
+            assert!(rt; n == 0 && again.dropped == 0);
+            Ok(())
+        }
+    }
+}
+
+fn each_beginning_is_read_once(rt: &impl Abort, alloc: Global) -> Result<(), DurableError> {
+    let course = make_course(alloc)?;
+    for n in 0..course.bytes.len() + 1 {
+        is_read(rt, alloc, &course, n)?;
+    }
+    Ok(())
+}
+
+#[test]
+fn each_beginning_of_a_file_is_its_whole_acts(rt: HostRuntime) -> Result<(), Fail> {
+    match each_beginning_is_read_once(&rt, rt.alloc()) {
+        Ok(()) => Ok(()),
+        Err(_) => Ok(each_beginning_is_read_once(&rt, rt.alloc())?),
+    }
+}
+
+// Whether the version is that behind some number of steps.
+fn is_somewhere(course: &Course, version: &Version) -> bool {
+    course
+        .versions
+        .iter()
+        .any(|wanted| is_same(wanted, version))
+}
+
+fn is_told(
+    rt: &impl Abort,
+    course: &Course,
+    again: Result<Opened<MemoryFile>, DurableError>,
+) -> Result<(), DurableError> {
+    match again {
+        Ok(again) => {
+            assert!(rt;
+                again.dropped > 0 && is_somewhere(course, again.durable.bucket().version())
+            );
+            Ok(())
+        }
+        Err(DurableError::FileDamaged { .. }) => Ok(()),
+        Err(error) => Err(error),
+    }
+}
+
+fn a_turned_bit_is_told_once(rt: &impl Abort, alloc: Global) -> Result<(), DurableError> {
+    let course = make_course(alloc)?;
+    for n in 0..course.bytes.len() {
+        for bit in 0..8u32 {
+            let mut bytes = Vec::from_slice(alloc, &course.bytes)?;
+            bytes[n] ^= 1 << bit;
+            is_told(rt, &course, reopened(alloc, &bytes))?;
+        }
+    }
+    Ok(())
+}
+
+#[test]
+fn a_turned_bit_is_told(rt: HostRuntime) -> Result<(), Fail> {
+    match a_turned_bit_is_told_once(&rt, rt.alloc()) {
+        Ok(()) => Ok(()),
+        Err(_) => Ok(a_turned_bit_is_told_once(&rt, rt.alloc())?),
+    }
+}
+
+fn what_stands_behind_is_dropped_once(rt: &impl Abort, alloc: Global) -> Result<(), DurableError> {
+    let course = make_course(alloc)?;
+    for byte in [0u8, 1, 85, 255] {
+        let mut bytes = Vec::from_slice(alloc, &course.bytes)?;
+        for _ in 0..100 {
+            push(&mut bytes, byte)?;
+        }
+        let again = reopened(alloc, &bytes)?;
+        equal(rt, again.dropped, 100);
+        assert!(rt; is_behind(&course, STEPS, again.durable.bucket().version()));
+        equal(
+            rt,
+            again.durable.journal().file().kept(),
+            course.bytes.as_slice(),
+        );
+    }
+    Ok(())
+}
+
+#[test]
+fn what_stands_behind_is_dropped(rt: HostRuntime) -> Result<(), Fail> {
+    match what_stands_behind_is_dropped_once(&rt, rt.alloc()) {
+        Ok(()) => Ok(()),
+        Err(_) => Ok(what_stands_behind_is_dropped_once(&rt, rt.alloc())?),
+    }
+}
+
+// A bucket of a file that fails behind so many calls, and how many of its steps were answered.
+fn until_it_fails(
+    alloc: Global,
+    calls: u64,
+    sync: Sync,
+) -> Result<(MemoryFile, usize), DurableError> {
+    let mut file = empty(alloc);
+    file.fail_after(calls);
+    let mut bucket = match Durable::open(alloc, &config(alloc)?, file, SEED, sync) {
+        Ok(opened) => opened.durable,
+        Err(refused) => return Ok((refused.file, 0)),
+    };
+    let mut answered: usize = 0;
+    for number in 0..STEPS {
+        match step(alloc, &mut bucket, number) {
+            Ok(()) => answered = answered.saturating_add(1),
+            Err(DurableError::FileFault) => {}
+            Err(error) => return Err(error),
+        }
+    }
+    match bucket.close() {
+        Ok(file) => Ok((file, answered)),
+        Err(refused) => Ok((refused.file, answered)),
+    }
+}
+
+// What was answered is there, whatever the crash left of the rest.
+fn comes_back(
+    rt: &impl Abort,
+    alloc: Global,
+    course: &Course,
+    file: &MemoryFile,
+    answered: usize,
+    torn: Torn,
+) -> Result<(), DurableError> {
+    for left in 0..file.loose().len() + 1 {
+        let bytes = file.crashed(alloc, left, torn)?;
+        match reopened(alloc, &bytes) {
+            Ok(again) => {
+                let version = again.durable.bucket().version();
+                assert!(rt;
+                    is_behind(course, answered, version)
+                        || is_behind(course, answered.saturating_add(1), version)
+                );
+            }
+            Err(DurableError::FileDamaged { at: 0 }) => assert!(rt; answered == 0),
+            Err(error) => return Err(error),
+        }
+    }
+    Ok(())
+}
+
+fn what_was_answered_is_there_once(rt: &impl Abort, alloc: Global) -> Result<(), DurableError> {
+    let course = make_course(alloc)?;
+    for calls in 0..24u64 {
+        let (file, answered) = until_it_fails(alloc, calls, Sync::Each)?;
+        for torn in [Torn::Whole, Torn::Zeros, Torn::Noise] {
+            comes_back(rt, alloc, &course, &file, answered, torn)?;
+        }
+    }
+    Ok(())
+}
+
+#[test]
+fn what_was_answered_is_there(rt: HostRuntime) -> Result<(), Fail> {
+    match what_was_answered_is_there_once(&rt, rt.alloc()) {
+        Ok(()) => Ok(()),
+        Err(_) => Ok(what_was_answered_is_there_once(&rt, rt.alloc())?),
+    }
+}
+
+// The file has failed. Where memory is refused before that shows, all is done once more.
+fn is_fault(rt: &impl Abort, answer: Result<(), DurableError>) -> Result<(), DurableError> {
+    let no_memory = Err(DurableError::Refused(KvError::OutOfMemory));
+    if answer == no_memory {
+        return answer;
+    }
+    equal(rt, answer, Err(DurableError::FileFault));
+    Ok(())
+}
+
+fn a_fault_stops_once(rt: &impl Abort, alloc: Global) -> Result<(), DurableError> {
+    let mut file = empty(alloc);
+    file.fail_after(3);
+    let mut bucket = opened(alloc, file, Sync::Each)?.durable;
+    is_fault(rt, step(alloc, &mut bucket, 0))?;
+    equal(rt, bucket.bucket().version().revision(), 0);
+    let loose = bucket.journal().file().loose().len();
+    assert!(rt; bucket.journal().is_stopped());
+    is_fault(rt, step(alloc, &mut bucket, 0))?;
+    is_fault(rt, bucket.seal())?;
+    is_fault(rt, bucket.compact(1))?;
+    is_fault(rt, bucket.sync())?;
+    equal(rt, bucket.journal().file().loose().len(), loose);
+    equal(rt, bucket.bucket().version().revision(), 0);
+    Ok(())
+}
+
+#[test]
+fn a_fault_stops(rt: HostRuntime) -> Result<(), Fail> {
+    match a_fault_stops_once(&rt, rt.alloc()) {
+        Ok(()) => Ok(()),
+        Err(_) => Ok(a_fault_stops_once(&rt, rt.alloc())?),
+    }
+}
+
+fn what_is_refused_is_not_there_once(rt: &impl Abort, alloc: Global) -> Result<(), DurableError> {
+    let mut bucket = opened(alloc, empty(alloc), Sync::Asked)?.durable;
+    step(alloc, &mut bucket, 0)?;
+    let place = bucket.journal().place();
+    let exists = bucket.write(&create(alloc, "app.port", "1")?);
+    equal(rt, exists, Err(DurableError::Refused(KvError::KeyExists)));
+    equal(
+        rt,
+        bucket.compact(2),
+        Err(DurableError::Refused(KvError::BadFloor)),
+    );
+    equal(rt, bucket.journal().place(), place);
+    assert!(rt; !bucket.journal().file().loose().is_empty());
+    bucket.sync()?;
+    assert!(rt; bucket.journal().file().loose().is_empty());
+    Ok(())
+}
+
+#[test]
+fn what_is_refused_is_not_in_the_file(rt: HostRuntime) -> Result<(), Fail> {
+    match what_is_refused_is_not_there_once(&rt, rt.alloc()) {
+        Ok(()) => Ok(()),
+        Err(_) => Ok(what_is_refused_is_not_there_once(&rt, rt.alloc())?),
+    }
+}
+
+fn another_bucket_is_told_once(rt: &impl Abort, alloc: Global) -> Result<(), DurableError> {
+    let course = make_course(alloc)?;
+    let mut config = config(alloc)?;
+    config.history = 3;
+    let file = MemoryFile::new(alloc, Vec::from_slice(alloc, &course.bytes)?);
+    match Durable::open(alloc, &config, file, SEED, Sync::Each) {
+        Ok(_) => assert!(rt; false),
+        Err(refused) => {
+            let is_memory = refused.error == DurableError::Refused(KvError::OutOfMemory);
+            assert!(rt; is_memory || refused.error == DurableError::OtherBucket);
+            equal(rt, refused.file.kept(), course.bytes.as_slice());
+        }
+    }
+    Ok(())
+}
+
+#[test]
+fn another_bucket_is_told(rt: HostRuntime) -> Result<(), Fail> {
+    match another_bucket_is_told_once(&rt, rt.alloc()) {
+        Ok(()) => Ok(()),
+        Err(_) => Ok(another_bucket_is_told_once(&rt, rt.alloc())?),
+    }
+}
