@@ -73,7 +73,7 @@ class Go(unittest.TestCase):
         program = os.path.join(self.folder, "lines")
         go("build", "-o", program, "./lines")
         for script in scripts():
-            if not script.is_race:
+            if script.is_of_calls:
                 with self.subTest(script.name), Driven(program, **script.settings) as bucket:
                     self.assertEqual(replay(bucket, script), script.output.decode().splitlines())
 

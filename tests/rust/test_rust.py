@@ -63,7 +63,7 @@ class Rust(unittest.TestCase):
     def test_the_worked_scripts(self):
         cargo("build", "--offline", "--examples")
         for script in scripts():
-            if not script.is_race:
+            if script.is_of_calls:
                 program = os.path.join(TARGET, "debug", "examples", "lines")
                 with self.subTest(script.name), Driven(program, **script.settings) as bucket:
                     self.assertEqual(replay(bucket, script), script.output.decode().splitlines())

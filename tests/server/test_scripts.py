@@ -10,6 +10,9 @@ server = os.environ.get("VILGOUED_SERVER", "")
 
 # What asks for something that a server doesn't have.
 LEFT_OUT = {
+    "batch-and-limits": "a server makes no writes in one step",
+    "batch-cut-off": "a server makes no writes in one step",
+    "batches": "a server makes no writes in one step",
     "compaction": "a server has no floors",
     "compaction-and-watches": "a server has no floors",
     "compaction-frees-the-journal": "a server has no floors",
@@ -17,6 +20,7 @@ LEFT_OUT = {
     "places-that-collide": "place tells of the hash trie",
     "race-of-one": "a race is of threads in one process",
     "race-of-thirty-three-watches": "a race is of threads in one process",
+    "race-without-batches": "a race is of threads in one process",
     "revision-limit": "revisions have no limit there",
     "sixty-four-watches": "watches have no limit there",
     "write-limit-and-seal": "writes have no limit there",

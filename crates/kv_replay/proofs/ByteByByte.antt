@@ -3,7 +3,7 @@ use Rattle.std.proofs.Common.{◌≡◌, ℕ, ◌<◌, ◌==◌, nat_lt, Bool, t
 use Rattle.std.specs.List.{onto_first}
 use Rattle.std.proofs.lemmas.Bool.{cases_Bool, ltb-true}
 use Rattle.kv_replay.specs.Lines.{lines_of, but_last, texts}
-use Rattle.kv_replay.specs.inside.Reading.{Reading, beginning, step, said_by, after_bytes, said, ended, line_ended}
+use Rattle.kv_replay.specs.inside.Reading.{Reading, beginning, step, said_by, after_bytes, said, closed, ended, line_ended}
 
 -- the line goes before the first of the lines
 abbrev pub onto : List ℕ → List (List ℕ) → List (List ℕ)
@@ -36,12 +36,16 @@ lines_of-feed byte bytes h = rw h refl
 pub lines_of-inside : (byte : ℕ) (bytes : List ℕ) → (byte == 10) ≡ false → lines_of (byte ∷ bytes) ≡ onto_first byte (lines_of bytes)
 lines_of-inside byte bytes h = rw h refl
 
-module _ {S : Type 0} (limit : ℕ) (text : S → List ℕ → List ℕ) (next : S → List ℕ → S)
+module _ {S : Type 0} (limit : ℕ) (text : S → List ℕ → List ℕ) (next : S → List ℕ → S) (ending : S → List ℕ)
     (long_text : (s : S) (line more : List ℕ) → limit < length line → text s (line ++ more) ≡ text s line)
     (long_next : (s : S) (line more : List ℕ) → limit < length line → next s (line ++ more) ≡ next s line) where
   -- the definitions at these answers
-  abbrev Texts : S → List (List ℕ) → List ℕ
+  abbrev Texts : (S → List ℕ) → S → List (List ℕ) → List ℕ
   Texts = texts text next
+
+  -- where the lines' end says nothing
+  abbrev silent : S → List ℕ
+  silent s = []
 
   abbrev Said : Reading S → List ℕ → List ℕ
   Said = said limit text next
@@ -58,35 +62,38 @@ module _ {S : Type 0} (limit : ℕ) (text : S → List ℕ → List ℕ) (next :
   abbrev Ended : Reading S → List ℕ
   Ended = ended limit text next
 
+  abbrev Closed : Reading S → List ℕ
+  Closed = closed limit text next ending
+
   abbrev LineEnded : Reading S → Reading S
   LineEnded = line_ended limit text next
 
   -- what follows a line that is too long changes nothing
-  long_more : (s : S) (line more : List ℕ) (lines : List (List ℕ)) → limit < length line → Texts s ((line ++ more) ∷ lines) ≡ Texts s (line ∷ lines)
-  long_more s line more lines h =
-      ap (λ front. front ++ Texts (next s (line ++ more)) lines) (long_text s line more h) ∙ ap (λ state. text s line ++ Texts state lines) (long_next s line more h)
+  long_more : (end : S → List ℕ) (s : S) (line more : List ℕ) (lines : List (List ℕ)) → limit < length line → Texts end s ((line ++ more) ∷ lines) ≡ Texts end s (line ∷ lines)
+  long_more end s line more lines h =
+      ap (λ front. front ++ Texts end (next s (line ++ more)) lines) (long_text s line more h) ∙ ap (λ state. text s line ++ Texts end state lines) (long_next s line more h)
 
-  long_first : (s : S) (line more other : List ℕ) (lines : List (List ℕ)) → limit < length line → Texts s ((line ++ more) ∷ lines) ≡ Texts s ((line ++ other) ∷ lines)
-  long_first s line more other lines h = long_more s line more lines h ∙ sym (long_more s line other lines h)
+  long_first : (end : S → List ℕ) (s : S) (line more other : List ℕ) (lines : List (List ℕ)) → limit < length line → Texts end s ((line ++ more) ∷ lines) ≡ Texts end s ((line ++ other) ∷ lines)
+  long_first end s line more other lines h = long_more end s line more lines h ∙ sym (long_more end s line other lines h)
 
   long_skip : (s : S) (line : List ℕ) (byte : ℕ) (lines : List (List ℕ)) → limit < length line
-      → Texts s (onto line (onto_first byte lines)) ≡ Texts s (onto line lines)
-  long_skip s line byte [] h = long_more s line (byte ∷ []) [] h
-  long_skip s line byte (first ∷ lines) h = long_first s line (byte ∷ first) first lines h
+      → Texts ending s (onto line (onto_first byte lines)) ≡ Texts ending s (onto line lines)
+  long_skip s line byte [] h = long_more ending s line (byte ∷ []) [] h
+  long_skip s line byte (first ∷ lines) h = long_first ending s line (byte ∷ first) first lines h
 
   long_skip_whole : (s : S) (line : List ℕ) (byte : ℕ) (lines : List (List ℕ)) → limit < length line
-      → Texts s (but_last (onto line (onto_first byte lines))) ≡ Texts s (but_last (onto line lines))
+      → Texts silent s (but_last (onto line (onto_first byte lines))) ≡ Texts silent s (but_last (onto line lines))
   long_skip_whole s line byte [] h = refl
   long_skip_whole s line byte (first ∷ []) h = refl
-  long_skip_whole s line byte (first ∷ more ∷ lines) h = long_first s line (byte ∷ first) first (but_last (more ∷ lines)) h
+  long_skip_whole s line byte (first ∷ more ∷ lines) h = long_first silent s line (byte ∷ first) first (but_last (more ∷ lines)) h
 
   -- a line feed ends the line that has begun
-  text_ended : (s : S) (line : List ℕ) (lines : List (List ℕ)) (rest : List ℕ) → Texts (next s line) lines ≡ rest
-      → Texts s (onto line ([] ∷ lines)) ≡ text s line ++ rest
+  text_ended : (s : S) (line : List ℕ) (lines : List (List ℕ)) (rest : List ℕ) → Texts ending (next s line) lines ≡ rest
+      → Texts ending s (onto line ([] ∷ lines)) ≡ text s line ++ rest
   text_ended s line lines rest h = rw (append-nil line) (ap (λ more. text s line ++ more) h)
 
-  whole_ended : (s : S) (line first : List ℕ) (lines others : List (List ℕ)) (rest : List ℕ) → lines ≡ first ∷ others → Texts (next s line) (but_last lines) ≡ rest
-      → Texts s (but_last (onto line ([] ∷ lines))) ≡ text s line ++ rest
+  whole_ended : (s : S) (line first : List ℕ) (lines others : List (List ℕ)) (rest : List ℕ) → lines ≡ first ∷ others → Texts silent (next s line) (but_last lines) ≡ rest
+      → Texts silent s (but_last (onto line ([] ∷ lines))) ≡ text s line ++ rest
   whole_ended s line first lines others rest e h =
       rw (e, append-nil line) (ap (λ more. text s line ++ more) (rw e at h))
 
@@ -111,66 +118,66 @@ module _ {S : Type 0} (limit : ℕ) (text : S → List ℕ → List ℕ) (next :
 
   -- what is said from here on
   abbrev all_said : Reading S → List ℕ → List ℕ
-  all_said r bytes = Said r bytes ++ Ended (After r bytes)
+  all_said r bytes = Said r bytes ++ Closed (After r bytes)
 
   all_said-cons : (r r' : Reading S) (byte : ℕ) (bytes front : List ℕ) → SaidBy r byte ≡ front → Step r byte ≡ r' → all_said r (byte ∷ bytes) ≡ front ++ all_said r' bytes
   all_said-cons r r' byte bytes front q e =
-      append_assoc (SaidBy r byte) (Said (Step r byte) bytes) (Ended (After (Step r byte) bytes))
+      append_assoc (SaidBy r byte) (Said (Step r byte) bytes) (Closed (After (Step r byte) bytes))
       ∙ ap (λ begun. begun ++ all_said (Step r byte) bytes) q ∙ ap (λ state. front ++ all_said state bytes) e
 
   said-cons : (r r' : Reading S) (byte : ℕ) (bytes front : List ℕ) → SaidBy r byte ≡ front → Step r byte ≡ r' → Said r (byte ∷ bytes) ≡ front ++ Said r' bytes
   said-cons r r' byte bytes front q e = ap (λ begun. begun ++ Said (Step r byte) bytes) q ∙ ap (λ state. front ++ Said state bytes) e
 
   -- the text of all the lines, where one has begun
-  text_of_bytes : (r : Reading S) (bytes : List ℕ) → Texts r.state (onto r.line (lines_of bytes)) ≡ all_said r bytes
-  text_of_bytes r [] = rw (append-nil r.line, append-nil) refl
+  text_of_bytes : (r : Reading S) (bytes : List ℕ) → Texts ending r.state (onto r.line (lines_of bytes)) ≡ all_said r bytes
+  text_of_bytes r [] = rw (append-nil r.line) refl
   text_of_bytes r (byte ∷ bytes) = elim (cases_Bool (byte == 10)) [
     | inl feed ↦
-        ap (λ lines. Texts r.state (onto r.line lines)) (lines_of-feed byte bytes feed)
+        ap (λ lines. Texts ending r.state (onto r.line lines)) (lines_of-feed byte bytes feed)
         ∙ text_ended r.state r.line (lines_of bytes) (all_said (LineEnded r) bytes)
-        (ap (Texts (next r.state r.line)) (sym (lines_of-onto bytes)) ∙ text_of_bytes (LineEnded r) bytes)
+        (ap (Texts ending (next r.state r.line)) (sym (lines_of-onto bytes)) ∙ text_of_bytes (LineEnded r) bytes)
         ∙ sym (all_said-cons r (LineEnded r) byte bytes (Ended r) (said_by-feed r byte feed) (step-feed r byte feed))
     | inr inside ↦
-        ap (λ lines. Texts r.state (onto r.line lines)) (lines_of-inside byte bytes inside)
+        ap (λ lines. Texts ending r.state (onto r.line lines)) (lines_of-inside byte bytes inside)
         ∙ elim (cases_Bool (nat_lt limit (length r.line))) [
           | inl long ↦
               long_skip r.state r.line byte (lines_of bytes) (ltb-true limit (length r.line) long) ∙ text_of_bytes r bytes
               ∙ sym (all_said-cons r r byte bytes [] (said_by-inside r byte inside) (step-long r byte inside long))
           | inr short ↦
-              ap (Texts r.state) (onto-onto_first r.line byte (lines_of bytes)) ∙ text_of_bytes (grown r byte) bytes
+              ap (Texts ending r.state) (onto-onto_first r.line byte (lines_of bytes)) ∙ text_of_bytes (grown r byte) bytes
               ∙ sym (all_said-cons r (grown r byte) byte bytes [] (said_by-inside r byte inside) (step-short r byte inside short))
         ]
   ]
 
   -- the text of the lines that a line feed ends
-  whole_of_bytes : (r : Reading S) (bytes : List ℕ) → Texts r.state (but_last (onto r.line (lines_of bytes))) ≡ Said r bytes
+  whole_of_bytes : (r : Reading S) (bytes : List ℕ) → Texts silent r.state (but_last (onto r.line (lines_of bytes))) ≡ Said r bytes
   whole_of_bytes r [] = refl
   whole_of_bytes r (byte ∷ bytes) = elim (cases_Bool (byte == 10)) [
     | inl feed ↦
         let found = lines_of-first bytes in
-        ap (λ lines. Texts r.state (but_last (onto r.line lines))) (lines_of-feed byte bytes feed)
+        ap (λ lines. Texts silent r.state (but_last (onto r.line lines))) (lines_of-feed byte bytes feed)
         ∙ whole_ended r.state r.line found.0 (lines_of bytes) found.1 (Said (LineEnded r) bytes) found.2
-        (ap (λ lines. Texts (next r.state r.line) (but_last lines)) (sym (lines_of-onto bytes)) ∙ whole_of_bytes (LineEnded r) bytes)
+        (ap (λ lines. Texts silent (next r.state r.line) (but_last lines)) (sym (lines_of-onto bytes)) ∙ whole_of_bytes (LineEnded r) bytes)
         ∙ sym (said-cons r (LineEnded r) byte bytes (Ended r) (said_by-feed r byte feed) (step-feed r byte feed))
     | inr inside ↦
-        ap (λ lines. Texts r.state (but_last (onto r.line lines))) (lines_of-inside byte bytes inside)
+        ap (λ lines. Texts silent r.state (but_last (onto r.line lines))) (lines_of-inside byte bytes inside)
         ∙ elim (cases_Bool (nat_lt limit (length r.line))) [
           | inl long ↦
               long_skip_whole r.state r.line byte (lines_of bytes) (ltb-true limit (length r.line) long) ∙ whole_of_bytes r bytes
               ∙ sym (said-cons r r byte bytes [] (said_by-inside r byte inside) (step-long r byte inside long))
           | inr short ↦
-              ap (λ lines. Texts r.state (but_last lines)) (onto-onto_first r.line byte (lines_of bytes)) ∙ whole_of_bytes (grown r byte) bytes
+              ap (λ lines. Texts silent r.state (but_last lines)) (onto-onto_first r.line byte (lines_of bytes)) ∙ whole_of_bytes (grown r byte) bytes
               ∙ sym (said-cons r (grown r byte) byte bytes [] (said_by-inside r byte inside) (step-short r byte inside short))
         ]
   ]
 
   -- the text of a whole script, from a state on
-  pub texts-said : (s : S) (input : List ℕ) → Texts s (lines_of input) ≡ Said (beginning s) input ++ Ended (After (beginning s) input)
-  texts-said s input = ap (Texts s) (sym (lines_of-onto input)) ∙ text_of_bytes (beginning s) input
+  pub texts-said : (s : S) (input : List ℕ) → Texts ending s (lines_of input) ≡ Said (beginning s) input ++ Closed (After (beginning s) input)
+  texts-said s input = ap (Texts ending s) (sym (lines_of-onto input)) ∙ text_of_bytes (beginning s) input
 
   -- and of its lines that a line feed ends
-  pub whole_texts-said : (s : S) (input : List ℕ) → Texts s (but_last (lines_of input)) ≡ Said (beginning s) input
-  whole_texts-said s input = ap (λ lines. Texts s (but_last lines)) (sym (lines_of-onto input)) ∙ whole_of_bytes (beginning s) input
+  pub whole_texts-said : (s : S) (input : List ℕ) → Texts silent s (but_last (lines_of input)) ≡ Said (beginning s) input
+  whole_texts-said s input = ap (λ lines. Texts silent s (but_last lines)) (sym (lines_of-onto input)) ∙ whole_of_bytes (beginning s) input
 
   -- bytes that come in two parts
   pub after-append : (r : Reading S) (xs ys : List ℕ) → After r (xs ++ ys) ≡ After (After r xs) ys

@@ -10,7 +10,7 @@ use Rattle.kv_keys.specs.declared.error.KvError.TheVariants.{OutOfMemory, BadBuc
 use Rattle.kv_script.specs.declared.form.Form.{Form}
 use Rattle.kv_replay.specs.Faults.{IsRunFault, EndsRun}
 use Rattle.kv_replay.specs.Replaying.{Ran}
-use Rattle.kv_replay.specs.Text.{script_text}
+use Rattle.kv_replay.specs.Sessions.{script_text}
 use Rattle.kv_replay.proofs.Progress.{starts}
 use Rattle.kv_model.specs.Configuration.{Configuration, configure, has_legal_numbers}
 

@@ -1,3 +1,4 @@
+pub mod Batched
 pub mod ByteByByte
 pub mod Counting
 pub mod Ending
@@ -7,7 +8,9 @@ pub mod Pours
 pub mod Progress
 pub mod Reached
 pub mod Reading
+pub mod Standing
 pub mod Taking
 pub mod TakingLines
 pub mod Texts
+pub mod Turns
 pub mod WholeLines

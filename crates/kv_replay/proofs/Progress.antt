@@ -8,7 +8,7 @@ use Rattle.std.proofs.lemmas.List.{take_at}
 use Rattle.std.proofs.KnownBytes.{Consumes-nil, Appends-nil, Consumes-trans, Appends-trans, Consumes-kept}
 use Rattle.kv_replay.specs.Lines.{lines_of, but_last, texts}
 use Rattle.kv_replay.specs.Outcome.{IsWholeLines, Replays, Breaks, Stops, StopsWhole}
-use Rattle.kv_replay.specs.inside.Reading.{Reading, beginning, after_bytes, said, said_by, step, ended}
+use Rattle.kv_replay.specs.inside.Reading.{Reading, beginning, after_bytes, said, said_by, step, closed, ended}
 use Rattle.kv_replay.proofs.WholeLines.{IsWholeLines-append, IsWholeLines-nil}
 use Rattle.kv_replay.proofs.ByteByByte.{texts-said, whole_texts-said, after-append, said-append}
 
@@ -16,7 +16,7 @@ use Rattle.kv_replay.proofs.ByteByByte.{texts-said, whole_texts-said, after-appe
 pub starts : (all front rest : List ℕ) → all ≡ front ++ rest → StartsWith all front
 starts all front rest e = ap (take (length front)) e ∙ take_at front rest (length front) refl
 
-module _ {S X : Type 0} (limit : ℕ) (text : S → List ℕ → List ℕ) (next : S → List ℕ → S)
+module _ {S X : Type 0} (limit : ℕ) (text : S → List ℕ → List ℕ) (next : S → List ℕ → S) (ending : S → List ℕ)
     (long_text : (s : S) (line more : List ℕ) → limit < length line → text s (line ++ more) ≡ text s line)
     (long_next : (s : S) (line more : List ℕ) → limit < length line → next s (line ++ more) ≡ next s line)
     (text_whole : (s : S) (line : List ℕ) → IsWholeLines (text s line))
@@ -30,14 +30,17 @@ module _ {S X : Type 0} (limit : ℕ) (text : S → List ℕ → List ℕ) (next
   abbrev Ended : Reading S → List ℕ
   Ended = ended limit text next
 
+  abbrev Closed : Reading S → List ℕ
+  Closed = closed limit text next ending
+
   abbrev from : Reading S
   from = beginning start
 
   abbrev script_text : List ℕ → List ℕ
-  script_text input = texts text next start (lines_of input)
+  script_text input = texts text next ending start (lines_of input)
 
   abbrev whole_text : List ℕ → List ℕ
-  whole_text input = texts text next start (but_last (lines_of input))
+  whole_text input = texts text next (λ s. []) start (but_last (lines_of input))
 
   -- the input so far was read and answered
   pub record Progress (unread left held holds : Option (List ℕ)) (script : X) : Type 0 where
@@ -49,14 +52,14 @@ module _ {S X : Type 0} (limit : ℕ) (text : S → List ℕ → List ℕ) (next
   pub begun : (unread held : Option (List ℕ)) (script : X) → Holds from script → Progress unread unread held held script
   begun unread held script holding = record { input = []; read = Consumes-nil unread; is_after = holding; written = Appends-nil held }
 
-  all_text : (input : List ℕ) → script_text input ≡ Said from input ++ Ended (After from input)
-  all_text input = texts-said limit text next long_text long_next start input
+  all_text : (input : List ℕ) → script_text input ≡ Said from input ++ Closed (After from input)
+  all_text input = texts-said limit text next ending long_text long_next start input
 
   -- the text of the whole lines comes first
   pub whole_first : (input : List ℕ) → StartsWith (script_text input) (whole_text input)
   whole_first input =
-      starts (script_text input) (whole_text input) (Ended (After from input))
-      (all_text input ∙ ap (λ t. t ++ Ended (After from input)) (sym (whole_texts-said limit text next long_text long_next start input)))
+      starts (script_text input) (whole_text input) (Closed (After from input))
+      (all_text input ∙ ap (λ t. t ++ Closed (After from input)) (sym (whole_texts-said limit text next ending long_text long_next start input)))
 
   said_by_whole : (r : Reading S) (ends : Bool) → IsWholeLines (cond ends (Ended r) [])
   said_by_whole r true = text_whole r.state r.line
@@ -76,25 +79,25 @@ module _ {S X : Type 0} (limit : ℕ) (text : S → List ℕ → List ℕ) (next
     read_on left' holds' script' bytes read holding written = record {
       input = so_far.input ++ bytes;
       read = Consumes-trans unread left left' so_far.input bytes so_far.read read;
-      is_after = subst (λ r. Holds r script') (sym (after-append limit text next long_text long_next from so_far.input bytes)) holding;
-      written = subst (Appends held holds') (sym (said-append limit text next long_text long_next from so_far.input bytes))
+      is_after = subst (λ r. Holds r script') (sym (after-append limit text next ending long_text long_next from so_far.input bytes)) holding;
+      written = subst (Appends held holds') (sym (said-append limit text next ending long_text long_next from so_far.input bytes))
           (Appends-trans held holds holds' (Said from so_far.input) (Said now bytes) so_far.written written);
     }
 
-    pub all_read : (left' holds' : Option (List ℕ)) → Consumes left left' [] → IsAtEnd left' → Appends holds holds' (Ended now) → Replays script_text whole_text unread left' held holds'
+    pub all_read : (left' holds' : Option (List ℕ)) → Consumes left left' [] → IsAtEnd left' → Appends holds holds' (Closed now) → Replays script_text whole_text unread left' held holds'
     all_read left' holds' read complete written = record {
       input = so_far.input;
       read = subst (Consumes unread left') (append-nil so_far.input) (Consumes-trans unread left left' so_far.input [] so_far.read read);
       complete = complete;
       written = subst (Appends held holds') (sym (all_text so_far.input))
-          (Appends-trans held holds holds' (Said from so_far.input) (Ended now) so_far.written written);
+          (Appends-trans held holds holds' (Said from so_far.input) (Closed now) so_far.written written);
     }
 
     pub broken_off : (left' : Option (List ℕ)) → Keeps left left' → Breaks script_text whole_text unread left' held holds
     broken_off left' kept = record {
       input = so_far.input;
       read = Consumes-kept unread left left' so_far.input so_far.read kept;
-      written = subst (Appends held holds) (sym (whole_texts-said limit text next long_text long_next start so_far.input)) so_far.written;
+      written = subst (Appends held holds) (sym (whole_texts-said limit text next ending long_text long_next start so_far.input)) so_far.written;
     }
 
     -- a beginning of what the bytes say was written
@@ -103,9 +106,9 @@ module _ {S X : Type 0} (limit : ℕ) (text : S → List ℕ → List ℕ) (next
     stopped_in_bytes left' holds' bytes front rest read parts written =
         let before = Said from so_far.input in
         let input = so_far.input ++ bytes in
-        let end = Ended (After from input) in
+        let end = Closed (After from input) in
         let whole : script_text input ≡ (before ++ front) ++ (rest ++ end) =
-        all_text input ∙ ap (λ t. t ++ end) (said-append limit text next long_text long_next from so_far.input bytes ∙ ap (λ t. before ++ t) parts ∙ sym (append_assoc before front rest))
+        all_text input ∙ ap (λ t. t ++ end) (said-append limit text next ending long_text long_next from so_far.input bytes ∙ ap (λ t. before ++ t) parts ∙ sym (append_assoc before front rest))
         ∙ append_assoc (before ++ front) rest end in
         record {
           input = input;
@@ -115,8 +118,8 @@ module _ {S X : Type 0} (limit : ℕ) (text : S → List ℕ → List ℕ) (next
           written = Appends-trans held holds holds' before front so_far.written written;
         }
 
-    -- a beginning of the answer to the last line was written
-    pub stopped_at_end : (left' holds' : Option (List ℕ)) (front rest : List ℕ) → Consumes left left' [] → Ended now ≡ front ++ rest → Appends holds holds' front
+    -- a beginning of the answer to the last line, and of what the end says, was written
+    pub stopped_at_end : (left' holds' : Option (List ℕ)) (front rest : List ℕ) → Consumes left left' [] → Closed now ≡ front ++ rest → Appends holds holds' front
         → Stops script_text whole_text unread left' held holds'
     stopped_at_end left' holds' front rest read parts written =
         let before = Said from so_far.input in
@@ -145,7 +148,7 @@ module _ {S X : Type 0} (limit : ℕ) (text : S → List ℕ → List ℕ) (next
           written = stop.written;
         }
 
-    pub whole_at_end : (left' holds' : Option (List ℕ)) (front rest : List ℕ) → Consumes left left' [] → Ended now ≡ front ++ rest → IsWholeLines front → Appends holds holds' front
+    pub whole_at_end : (left' holds' : Option (List ℕ)) (front rest : List ℕ) → Consumes left left' [] → Closed now ≡ front ++ rest → IsWholeLines front → Appends holds holds' front
         → StopsWhole script_text whole_text unread left' held holds'
     unfolding stopped_at_end
     whole_at_end left' holds' front rest read parts lines written =

@@ -2,68 +2,67 @@
 use Rattle.std.proofs.Common.{ℕ, List, [], Option}
 use Rattle.std.specs.Io.{StartsWith}
 use Rattle.std.specs.Io.KnownBytes.{Appends, Consumes, IsAtEnd, Keeps}
-use Rattle.kv_model.specs.State.{State, empty}
 use Rattle.kv_model.specs.Configuration.{Configuration}
 use Rattle.kv_script.specs.declared.form.Form.{Form}
 use Rattle.kv_replay.specs.Outcome.{Replays, Breaks, Stops, StopsWhole}
-use Rattle.kv_replay.specs.inside.Reading.{Reading, beginning, after_bytes, said, ended}
+use Rattle.kv_replay.specs.inside.Reading.{Reading, beginning, after_bytes, said, closed}
 use Rattle.kv_replay.specs.inside.Scripted.{Scripted, Holds}
-use Rattle.kv_replay.specs.Text.{line_text, line_next, script_text, whole_text}
+use Rattle.kv_replay.specs.Sessions.{Session, end_text, fresh, line_text, line_next, script_text, whole_text}
 use Rattle.kv_replay.specs.inside.Written.{Puts, PutsWhole}
 use Rattle.kv_replay.specs.declared.lines.TheConstants.{KEPT_BYTES}
 use Rattle.kv_replay.proofs.Progress as progress
-use Rattle.kv_replay.proofs.Texts.{line_text-whole, line_text-long, line_next-long}
+use Rattle.kv_replay.proofs.Turns.{line_text-whole, line_text-long, line_next-long}
 
 module _ (form : Form) (config : Configuration) where
   -- the input so far was read and answered
   abbrev pub Reached : (unread left held holds : Option (List ℕ)) → Scripted → Type 0
   Reached unread left held holds script =
-      progress.Progress KEPT_BYTES (line_text form) (line_next form) (line_text-long form) (line_next-long form) (line_text-whole form) Holds (empty config) unread left held holds script
+      progress.Progress KEPT_BYTES (line_text form) (line_next form) end_text (line_text-long form) (line_next-long form) (line_text-whole form) Holds (fresh config) unread left held holds script
 
   -- the text of the whole lines comes first
   pub whole_first : (input : List ℕ) → StartsWith (script_text form config input) (whole_text form config input)
-  whole_first input = progress.whole_first KEPT_BYTES (line_text form) (line_next form) (line_text-long form) (line_next-long form) (line_text-whole form) Holds (empty config) input
+  whole_first input = progress.whole_first KEPT_BYTES (line_text form) (line_next form) end_text (line_text-long form) (line_next-long form) (line_text-whole form) Holds (fresh config) input
 
-  pub reached_none : (unread held : Option (List ℕ)) (script : Scripted) → Holds (beginning (empty config)) script → Reached unread unread held held script
+  pub reached_none : (unread held : Option (List ℕ)) (script : Scripted) → Holds (beginning (fresh config)) script → Reached unread unread held held script
   reached_none unread held script holding =
-      progress.begun KEPT_BYTES (line_text form) (line_next form) (line_text-long form) (line_next-long form) (line_text-whole form) Holds (empty config) unread held script holding
+      progress.begun KEPT_BYTES (line_text form) (line_next form) end_text (line_text-long form) (line_next-long form) (line_text-whole form) Holds (fresh config) unread held script holding
 
   module _ (unread left held holds : Option (List ℕ)) (script : Scripted) (so_far : Reached unread left held holds script) where
     -- the script as it is read so far
-    abbrev pub now : Reading State
-    now = after_bytes KEPT_BYTES (line_text form) (line_next form) (beginning (empty config)) so_far.input
+    abbrev pub now : Reading Session
+    now = after_bytes KEPT_BYTES (line_text form) (line_next form) (beginning (fresh config)) so_far.input
 
     pub reached_more : (left' holds' : Option (List ℕ)) (script' : Scripted) (bytes : List ℕ) → Consumes left left' bytes
         → Appends holds holds' (said KEPT_BYTES (line_text form) (line_next form) now bytes) × Holds (after_bytes KEPT_BYTES (line_text form) (line_next form) now bytes) script'
         → Reached unread left' held holds' script'
     reached_more left' holds' script' bytes read (written, holding) =
-        progress.read_on KEPT_BYTES (line_text form) (line_next form) (line_text-long form) (line_next-long form) (line_text-whole form) Holds (empty config) unread left held holds script so_far left' holds' script' bytes read holding written
+        progress.read_on KEPT_BYTES (line_text form) (line_next form) end_text (line_text-long form) (line_next-long form) (line_text-whole form) Holds (fresh config) unread left held holds script so_far left' holds' script' bytes read holding written
 
-    pub reached_end : (left' holds' : Option (List ℕ)) → Consumes left left' [] → IsAtEnd left' → Appends holds holds' (ended KEPT_BYTES (line_text form) (line_next form) now)
+    pub reached_end : (left' holds' : Option (List ℕ)) → Consumes left left' [] → IsAtEnd left' → Appends holds holds' (closed KEPT_BYTES (line_text form) (line_next form) end_text now)
         → Replays (script_text form config) (whole_text form config) unread left' held holds'
     reached_end left' holds' read complete written =
-        progress.all_read KEPT_BYTES (line_text form) (line_next form) (line_text-long form) (line_next-long form) (line_text-whole form) Holds (empty config) unread left held holds script so_far left' holds' read complete written
+        progress.all_read KEPT_BYTES (line_text form) (line_next form) end_text (line_text-long form) (line_next-long form) (line_text-whole form) Holds (fresh config) unread left held holds script so_far left' holds' read complete written
 
     pub reached_fault : (left' : Option (List ℕ)) → Keeps left left' → Breaks (script_text form config) (whole_text form config) unread left' held holds
     reached_fault left' kept =
-        progress.broken_off KEPT_BYTES (line_text form) (line_next form) (line_text-long form) (line_next-long form) (line_text-whole form) Holds (empty config) unread left held holds script so_far left' kept
+        progress.broken_off KEPT_BYTES (line_text form) (line_next form) end_text (line_text-long form) (line_next-long form) (line_text-whole form) Holds (fresh config) unread left held holds script so_far left' kept
 
     pub stopped_in_bytes : (left' holds' : Option (List ℕ)) (bytes : List ℕ) → Consumes left left' bytes → Puts (said KEPT_BYTES (line_text form) (line_next form) now bytes) holds holds'
         → Stops (script_text form config) (whole_text form config) unread left' held holds'
     stopped_in_bytes left' holds' bytes read puts =
-        progress.stopped_in_bytes KEPT_BYTES (line_text form) (line_next form) (line_text-long form) (line_next-long form) (line_text-whole form) Holds (empty config) unread left held holds script so_far left' holds' bytes puts.front puts.rest read puts.parts puts.written
+        progress.stopped_in_bytes KEPT_BYTES (line_text form) (line_next form) end_text (line_text-long form) (line_next-long form) (line_text-whole form) Holds (fresh config) unread left held holds script so_far left' holds' bytes puts.front puts.rest read puts.parts puts.written
 
-    pub stopped_at_end : (left' holds' : Option (List ℕ)) → Consumes left left' [] → Puts (ended KEPT_BYTES (line_text form) (line_next form) now) holds holds'
+    pub stopped_at_end : (left' holds' : Option (List ℕ)) → Consumes left left' [] → Puts (closed KEPT_BYTES (line_text form) (line_next form) end_text now) holds holds'
         → Stops (script_text form config) (whole_text form config) unread left' held holds'
     stopped_at_end left' holds' read puts =
-        progress.stopped_at_end KEPT_BYTES (line_text form) (line_next form) (line_text-long form) (line_next-long form) (line_text-whole form) Holds (empty config) unread left held holds script so_far left' holds' puts.front puts.rest read puts.parts puts.written
+        progress.stopped_at_end KEPT_BYTES (line_text form) (line_next form) end_text (line_text-long form) (line_next-long form) (line_text-whole form) Holds (fresh config) unread left held holds script so_far left' holds' puts.front puts.rest read puts.parts puts.written
 
     pub whole_in_bytes : (left' holds' : Option (List ℕ)) (bytes : List ℕ) → Consumes left left' bytes → PutsWhole (said KEPT_BYTES (line_text form) (line_next form) now bytes) holds holds'
         → StopsWhole (script_text form config) (whole_text form config) unread left' held holds'
     whole_in_bytes left' holds' bytes read puts =
-        progress.whole_in_bytes KEPT_BYTES (line_text form) (line_next form) (line_text-long form) (line_next-long form) (line_text-whole form) Holds (empty config) unread left held holds script so_far left' holds' bytes puts.front puts.rest read puts.parts puts.whole puts.written
+        progress.whole_in_bytes KEPT_BYTES (line_text form) (line_next form) end_text (line_text-long form) (line_next-long form) (line_text-whole form) Holds (fresh config) unread left held holds script so_far left' holds' bytes puts.front puts.rest read puts.parts puts.whole puts.written
 
-    pub whole_at_end : (left' holds' : Option (List ℕ)) → Consumes left left' [] → PutsWhole (ended KEPT_BYTES (line_text form) (line_next form) now) holds holds'
+    pub whole_at_end : (left' holds' : Option (List ℕ)) → Consumes left left' [] → PutsWhole (closed KEPT_BYTES (line_text form) (line_next form) end_text now) holds holds'
         → StopsWhole (script_text form config) (whole_text form config) unread left' held holds'
     whole_at_end left' holds' read puts =
-        progress.whole_at_end KEPT_BYTES (line_text form) (line_next form) (line_text-long form) (line_next-long form) (line_text-whole form) Holds (empty config) unread left held holds script so_far left' holds' puts.front puts.rest read puts.parts puts.whole puts.written
+        progress.whole_at_end KEPT_BYTES (line_text form) (line_next form) end_text (line_text-long form) (line_next-long form) (line_text-whole form) Holds (fresh config) unread left held holds script so_far left' holds' puts.front puts.rest read puts.parts puts.whole puts.written

@@ -3,17 +3,16 @@ use Rattle.std.proofs.Common.{◌≡◌, ◌==◌, ◌<◌, ◌≤◌, ◌+◌, 
 use Rattle.std.proofs.Math.Seq.{append_snoc, get_or-take, length-take-le, split_at, take-nil}
 use Rattle.std.proofs.lemmas.Bool.{cases_Bool, eqb-true, ltb-true, ltb-false}
 use Rattle.memchr.specs.Find.{NoneBefore, Nowhere, Passes, is_byte}
-use Rattle.kv_model.specs.State.{State}
 use Rattle.kv_script.specs.declared.form.Form.{Form}
 use Rattle.kv_replay.specs.Outcome.{IsWholeLines}
 use Rattle.kv_replay.specs.inside.Reading.{Reading, after_bytes, ended, grown, line_ended, said, step, within}
 use Rattle.kv_replay.specs.inside.Scripted.{Scripted, Holds}
-use Rattle.kv_replay.specs.Text.{line_text, line_next}
+use Rattle.kv_replay.specs.Sessions.{Session, line_text, line_next}
 use Rattle.kv_replay.specs.inside.Written.{Pours, PoursFront, Puts}
 use Rattle.kv_replay.specs.declared.lines.TheConstants.{KEPT_BYTES}
 use Rattle.kv_replay.proofs.Pours.{front_later, front_more, pours-trans, pours_none, puts_later, puts_more}
 use Rattle.kv_replay.proofs.WholeLines.{IsWholeLines-append, IsWholeLines-nil}
-use Rattle.kv_replay.proofs.Texts.{line_text-whole}
+use Rattle.kv_replay.proofs.Turns.{line_text-whole}
 
 -- ---- bytes that end no line
 
@@ -76,35 +75,35 @@ rest_is left n = take_all (length left - n) (drop n left) (omega (arith, length-
 
 -- ---- lines that were taken
 
-abbrev Said : Form → Reading State → List ℕ → List ℕ
+abbrev Said : Form → Reading Session → List ℕ → List ℕ
 Said form = said KEPT_BYTES (line_text form) (line_next form)
 
-abbrev After : Form → Reading State → List ℕ → Reading State
+abbrev After : Form → Reading Session → List ℕ → Reading Session
 After form = after_bytes KEPT_BYTES (line_text form) (line_next form)
 
-abbrev Ended : Form → Reading State → List ℕ
+abbrev Ended : Form → Reading Session → List ℕ
 Ended form = ended KEPT_BYTES (line_text form) (line_next form)
 
-abbrev LineEnded : Form → Reading State → Reading State
+abbrev LineEnded : Form → Reading Session → Reading Session
 LineEnded form = line_ended KEPT_BYTES (line_text form) (line_next form)
 
-pub holds_within : (r : Reading State) (part : List ℕ) (script script' : Scripted) → Holds r script
+pub holds_within : (r : Reading Session) (part : List ℕ) (script script' : Scripted) → Holds r script
     → script' ≡ record script { line = grown KEPT_BYTES script.line part } → Holds (within KEPT_BYTES r part) script'
 holds_within r part script script' holding is = subst (Holds (within KEPT_BYTES r part)) (sym is) (record {
-  bucket = holding.bucket;
+  session = holding.session;
   line = ap (λ line. grown KEPT_BYTES line part) holding.line;
 })
 
 -- where none has begun, bytes that are kept whole are the line
-pub within_whole : (r : Reading State) (part : List ℕ) (script : Scripted) → Holds r script → script.line ≡ [] → length part ≤ KEPT_BYTES
+pub within_whole : (r : Reading Session) (part : List ℕ) (script : Scripted) → Holds r script → script.line ≡ [] → length part ≤ KEPT_BYTES
     → within KEPT_BYTES r part ≡ record { state = r.state; line = part }
 within_whole r part script holding none fits =
     let empty : r.line ≡ [] = sym holding.line ∙ none in
     ap (λ line. record { state = r.state; line = line }) (rw (empty, take_all (KEPT_BYTES + 1) part (omega (arith, fits))) refl)
 
 -- some of the bytes were taken: what they say waits or went, and what is left completes what all say
-pub record Took (form : Form) (r : Reading State) (bytes : List ℕ) (held : Option (List ℕ)) (before : List ℕ) (wrote : Option (List ℕ)) (out : List ℕ) (script : Scripted) (left : List ℕ) : Type 0 where
-  pub reading : Reading State
+pub record Took (form : Form) (r : Reading Session) (bytes : List ℕ) (held : Option (List ℕ)) (before : List ℕ) (wrote : Option (List ℕ)) (out : List ℕ) (script : Scripted) (left : List ℕ) : Type 0 where
+  pub reading : Reading Session
   pub holds : Holds reading script
   pub done : List ℕ
   pub whole : IsWholeLines done
@@ -112,7 +111,7 @@ pub record Took (form : Form) (r : Reading State) (bytes : List ℕ) (held : Opt
   pub said_is : Said form r bytes ≡ done ++ Said form reading left
   pub after_is : After form r bytes ≡ After form reading left
 
-pub took_none : {form : Form} (r : Reading State) (bytes : List ℕ) (held : Option (List ℕ)) (out : List ℕ) (script : Scripted) → Holds r script → Took form r bytes held out held out script bytes
+pub took_none : {form : Form} (r : Reading Session) (bytes : List ℕ) (held : Option (List ℕ)) (out : List ℕ) (script : Scripted) → Holds r script → Took form r bytes held out held out script bytes
 took_none {form} r bytes held out script holding = record {
   reading = r;
   holds = holding;
@@ -143,9 +142,9 @@ first_line left at found =
 pub no_line : (left : List ℕ) → Nowhere (Passes (is_byte 10) left) 0 (length left) → IsWithin left
 no_line left none k inside passes = none k (omega arith) inside passes
 
-module _ {form : Form} (r : Reading State) (bytes : List ℕ) (held : Option (List ℕ)) (before : List ℕ) (wrote : Option (List ℕ)) (out : List ℕ) (script : Scripted) (left part rest : List ℕ)
+module _ {form : Form} (r : Reading Session) (bytes : List ℕ) (held : Option (List ℕ)) (before : List ℕ) (wrote : Option (List ℕ)) (out : List ℕ) (script : Scripted) (left part rest : List ℕ)
     (so_far : Took form r bytes held before wrote out script left) (line : HasLine left part rest) where
-  abbrev whole_line : Reading State
+  abbrev whole_line : Reading Session
   whole_line = within KEPT_BYTES so_far.reading part
 
   abbrev more : List ℕ
@@ -183,7 +182,7 @@ module _ {form : Form} (r : Reading State) (bytes : List ℕ) (held : Option (Li
       subst (λ t. PoursFront t held before wrote' out') all_is
       (front_more (so_far.done ++ said) more held wrote' before out' (front_later so_far.done said held wrote wrote' before out out' so_far.poured so_far.whole part))
 
-module _ {form : Form} (r : Reading State) (bytes : List ℕ) (held : Option (List ℕ)) (before : List ℕ) (wrote : Option (List ℕ)) (out : List ℕ) (script : Scripted) (left : List ℕ)
+module _ {form : Form} (r : Reading Session) (bytes : List ℕ) (held : Option (List ℕ)) (before : List ℕ) (wrote : Option (List ℕ)) (out : List ℕ) (script : Scripted) (left : List ℕ)
     (so_far : Took form r bytes held before wrote out script left) where
   -- no line ends in what is left
   pub took_all : IsWithin left → (script' : Scripted) → script' ≡ record script { line = grown KEPT_BYTES script.line left }

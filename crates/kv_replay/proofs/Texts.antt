@@ -1,5 +1,5 @@
 -- Of the text of a line.
-use Rattle.std.proofs.Common.{◌≡◌, ℕ, suc, zero, ◌<◌, ◌≤◌, ◌+◌, ◌-◌, nat_le, Bool, true, false, cond, codes, decimal, map, List, [], ◌∷◌, ◌++◌, ◌&&◌, length, length-append, length-take-le, take, Result, Ok, Err, refl, sym, ap, ◌∙◌, inr, arith}
+use Rattle.std.proofs.Common.{◌≡◌, ℕ, suc, zero, ◌<◌, ◌≤◌, ◌+◌, ◌-◌, nat_le, Bool, true, false, cond, codes, decimal, map, List, [], ◌∷◌, ◌++◌, ◌&&◌, length, length-take-le, take, Result, Ok, Err, refl, ap, ◌∙◌, inr, arith}
 use Rattle.std.proofs.lemmas.Bool.Decides.{nat_tests}
 use Rattle.std.specs.Io.BufRead.{strip_last, ends_with_byte}
 use Rattle.std.specs.Str.{is_utf8}
@@ -12,20 +12,19 @@ use Rattle.kv_model.specs.Answers.{Answer, Revision, Sealed, AnsweredEntry, Entr
 use Rattle.kv_model.specs.State.{State, after, answer_to, answer_write}
 use Rattle.kv_model.specs.declared.call.Call.TheVariants as calls
 use Rattle.kv_script.specs.Answered.{answer_text, taken_text, ended_text}
-use Rattle.kv_script.specs.Commands.{Meaning, Write, Get, GetAt, History, Watch, Take, Stop, Status, Seal, Compact, Place, is_skipped, is_within_limits, line_command}
+use Rattle.kv_script.specs.Commands.{Meaning, Write, Get, GetAt, History, Watch, Take, Stop, Status, Seal, Compact, Place, Batch, is_skipped, is_within_limits, line_command}
 use Rattle.kv_script.specs.Commands as commands
 use Rattle.kv_script.specs.declared.form.Form.{Form}
 use Rattle.kv_script.specs.Line.{object_text, array_text}
 use Rattle.kv_script.specs.Text.{one, entry_members, listed_text, watch_members, status_members, refusal_members, place_digits, revision_text, sealed_text, entry_text, history_text, keys_text, watch_text, taken_entry_text, marker_text, empty_text, stopped_text, compacted_text, status_text, refusal_text, place_text}
 use Rattle.kv_replay.specs.Outcome.{IsWholeLines}
-use Rattle.kv_replay.specs.Text.{Step, hands_out, takes, steps, steps_of, line_text, line_next, line_steps, steps_text, steps_next}
-use Rattle.kv_replay.specs.declared.lines.TheConstants.{KEPT_BYTES}
+use Rattle.kv_replay.specs.Text.{Step, hands_out, takes, steps, steps_of, line_steps, steps_text}
 use Rattle.kv_replay.proofs.WholeLines.{IsWholeLines-nil, IsWholeLines-append}
 
 -- ---- each answer line is whole
 
 -- a line of JSON
-ends : (text : List ℕ) → IsWholeLines (text ++ 10 ∷ [])
+pub ends : (text : List ℕ) → IsWholeLines (text ++ 10 ∷ [])
 ends text = inr (text, refl)
 
 refusal_whole : (error : KvError) → IsWholeLines (refusal_text error)
@@ -110,8 +109,9 @@ steps_whole form s Status = (answer_whole form s.config.bucket (answer_to s call
 steps_whole form s Seal = (answer_whole form s.config.bucket (answer_to s calls.Seal), tt)
 steps_whole form s (Compact floor) = (answer_whole form s.config.bucket (answer_to s (calls.Compact floor)), tt)
 steps_whole form s (Place key) = (place_whole (fnv32_of key), tt)
+steps_whole form s (Batch count) = (refusal_whole BadCommand, tt)
 
-outcome_whole : (form : Form) (s : State) (outcome : Result Meaning KvError) → AreWhole (steps_of form s outcome)
+pub outcome_whole : (form : Form) (s : State) (outcome : Result Meaning KvError) → AreWhole (steps_of form s outcome)
 outcome_whole form s (Ok meaning) = steps_whole form s meaning
 outcome_whole form s (Err error) = (refusal_whole error, tt)
 
@@ -127,11 +127,6 @@ line_steps-whole form s line = unless_skipped form s (line_command form line) (i
 pub steps_text-whole : (steps : List Step) → AreWhole steps → IsWholeLines (steps_text steps)
 steps_text-whole [] whole = IsWholeLines-nil
 steps_text-whole (step ∷ steps) (first, rest) = IsWholeLines-append step.0 (steps_text steps) first (steps_text-whole steps rest)
-
--- the text of a line is of whole lines
-pub line_text-whole : (form : Form) (s : State) (line : List ℕ) → IsWholeLines (line_text form s line)
-unfolding line_text
-line_text-whole form s line = steps_text-whole (line_steps form s (strip_last 13 line)) (line_steps-whole form s (strip_last 13 line))
 
 -- ---- a line that is too long
 
@@ -177,25 +172,3 @@ skipped_strip line h = by_end (ends_with_byte 13 line)
     by_end : (returns : Bool) → is_skipped (cond returns (take (length line - 1) line) line) ≡ is_skipped line
     by_end true = ap (λ n. is_skipped (take n line)) (shorter (length line) h) ∙ skipped_take (length line - 2) line
     by_end false = refl
-
--- of a line that is too long only the first byte counts
-long_steps : (form : Form) (s : State) (line : List ℕ) → KEPT_BYTES < length line → line_steps form s (strip_last 13 line) ≡ cond (is_skipped line) [] (steps_of form s (Err BadCommand))
-unfolding line_steps
-long_steps form s line h =
-    let stripped : 1400000 < length (strip_last 13 line) = omega (arith, strip_length line) in
-    rw (skipped_strip line (omega arith), long_command form (strip_last 13 line) stripped) refl
-
-long_same : (form : Form) (s : State) (line more : List ℕ) → KEPT_BYTES < length line → line_steps form s (strip_last 13 (line ++ more)) ≡ line_steps form s (strip_last 13 line)
-long_same form s line more h =
-    long_steps form s (line ++ more) (omega (arith, length-append line more))
-    ∙ ap (λ skips. cond skips [] (steps_of form s (Err BadCommand))) (skipped_more line more (omega arith))
-    ∙ sym (long_steps form s line h)
-
--- what follows a line that is too long changes nothing
-pub line_text-long : (form : Form) (s : State) (line more : List ℕ) → KEPT_BYTES < length line → line_text form s (line ++ more) ≡ line_text form s line
-unfolding line_text
-line_text-long form s line more h = ap steps_text (long_same form s line more h)
-
-pub line_next-long : (form : Form) (s : State) (line more : List ℕ) → KEPT_BYTES < length line → line_next form s (line ++ more) ≡ line_next form s line
-unfolding line_next
-line_next-long form s line more h = ap (steps_next s) (long_same form s line more h)

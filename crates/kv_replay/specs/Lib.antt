@@ -1,9 +1,11 @@
+pub mod Batches
 pub mod Bounds
 pub mod Failures
 pub mod Faults
 pub mod Lines
 pub mod Outcome
 pub mod Replaying
+pub mod Sessions
 pub mod Steps
 pub mod Text
 pub mod inside

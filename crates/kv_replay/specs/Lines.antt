@@ -12,8 +12,8 @@ but_last [] = []
 but_last (line ∷ []) = []
 but_last (line ∷ next ∷ lines) = line ∷ but_last (next ∷ lines)
 
-module _ {S : Type 0} (text : S → List ℕ → List ℕ) (next : S → List ℕ → S) where
-  -- the text of lines: each is answered from the state that the ones before it left
+module _ {S : Type 0} (text : S → List ℕ → List ℕ) (next : S → List ℕ → S) (ending : S → List ℕ) where
+  -- the text of lines: each is answered from the state that the ones before it left, and so is their end
   abbrev pub texts : S → List (List ℕ) → List ℕ
-  texts s [] = []
+  texts s [] = ending s
   texts s (line ∷ lines) = text s line ++ texts (next s line) lines

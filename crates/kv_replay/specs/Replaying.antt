@@ -5,7 +5,7 @@ use Rattle.kv_keys.specs.declared.error.KvError.TheVariants.{OutOfMemory, ReadFa
 use Rattle.kv_script.specs.declared.form.Form.{Form}
 use Rattle.kv_replay.specs.Faults.{EndsRun}
 use Rattle.kv_replay.specs.Outcome.{Replays, Breaks, Stops, StopsWhole}
-use Rattle.kv_replay.specs.Text.{script_text, whole_text}
+use Rattle.kv_replay.specs.Sessions.{script_text, whole_text}
 use Rattle.kv_model.specs.Configuration.{Configuration, configure}
 
 -- `unread` and `left` are the bytes that the source had and has, `held` and `holds` those of the sink, where they are

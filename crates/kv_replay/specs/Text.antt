@@ -1,21 +1,18 @@
--- The text of a whole script: each line is read, done on the state that the lines before it left, and answered, where
--- values stand in lines and answers in one form.
+-- The calls of a line and their answers, where values stand in lines and answers in one form.
 use Rattle.std.specs.Prelude.{ℕ, suc, zero, Bool, true, false, if◌then◌else◌, List, [], ◌∷◌, Result, Ok, Err}
-use Rattle.std.specs.Io.BufRead.{strip_last}
 use Rattle.std.specs.List.{flat_map}
 use Rattle.kv_keys.specs.Places.{fnv32_of}
 use Rattle.kv_keys.specs.declared.error.KvError.{KvError}
+use Rattle.kv_keys.specs.declared.error.KvError.TheVariants.{BadCommand}
 use Rattle.kv_model.specs.Acceptance.{accept}
-use Rattle.kv_model.specs.Configuration.{Configuration}
 use Rattle.kv_model.specs.declared.call.Call.TheVariants as calls
 use Rattle.kv_model.specs.Answers.{Answer, AnsweredEntry, Marker}
-use Rattle.kv_model.specs.State.{State, empty, after, after_write, answer_to, answer_write}
+use Rattle.kv_model.specs.State.{State, after, after_write, answer_to, answer_write}
 use Rattle.kv_script.specs.Answered.{answer_text, taken_text, ended_text}
-use Rattle.kv_script.specs.Commands.{Meaning, Write, Get, GetAt, History, Watch, Take, Stop, Status, Seal, Compact, Place, is_skipped, line_command}
+use Rattle.kv_script.specs.Commands.{Meaning, Write, Get, GetAt, History, Watch, Take, Stop, Status, Seal, Compact, Place, Batch, is_skipped, line_command}
 use Rattle.kv_script.specs.Commands as commands
 use Rattle.kv_script.specs.Text.{place_text, refusal_text}
 use Rattle.kv_script.specs.declared.form.Form.{Form}
-use Rattle.kv_replay.specs.Lines.{lines_of, but_last, texts}
 
 -- one call of a line: its answer line, and the state after it
 abbrev pub Step : Type 0
@@ -58,6 +55,8 @@ steps form s Seal = once (answer_text form s.config.bucket (answer_to s calls.Se
 steps form s (Compact floor) = once (answer_text form s.config.bucket (answer_to s (calls.Compact floor)))
     (after s (calls.Compact floor))
 steps form s (Place key) = once (place_text (fnv32_of key)) s
+-- one line alone has no lines of a batch behind it
+steps form s (Batch count) = once (refusal_text BadCommand) s
 
 -- a refused line is answered by its refusal
 abbrev pub steps_of : Form → State → Result Meaning KvError → List Step
@@ -76,18 +75,3 @@ steps_text steps = flat_map (λ step. step.0) steps
 abbrev pub steps_next : State → List Step → State
 steps_next s [] = s
 steps_next s (step ∷ steps) = steps_next step.1 steps
-
--- one carriage return at the end of a line is dropped
-unfoldable pub line_text : Form → State → List ℕ → List ℕ
-line_text form s line = steps_text (line_steps form s (strip_last 13 line))
-
-unfoldable pub line_next : Form → State → List ℕ → State
-line_next form s line = steps_next s (line_steps form s (strip_last 13 line))
-
--- what is written for a script
-abbrev pub script_text : Form → Configuration → List ℕ → List ℕ
-script_text form config input = texts (line_text form) (line_next form) (empty config) (lines_of input)
-
--- what is written for its lines that a line feed ends
-abbrev pub whole_text : Form → Configuration → List ℕ → List ℕ
-whole_text form config input = texts (line_text form) (line_next form) (empty config) (but_last (lines_of input))

@@ -1,3 +1,4 @@
+pub mod Gathering
 pub mod Reading
 pub mod Scripted
 pub mod Written

@@ -56,6 +56,7 @@ fn answer_command(
         Command::Seal => answer_seal(alloc, bucket, out),
         Command::Compact(floor) => answer_compact(alloc, bucket, *floor, out),
         Command::Place(key) => answer_place(alloc, key, out),
+        Command::Batch(_) => answer_refusal(alloc, KvError::BadCommand, out),
     }
 }
 
@@ -63,7 +64,7 @@ fn answer_command(
 ///
 /// Values stand in the line and in its answers in base64. The answer lines are appended. After want of memory the
 /// first calls of the line were made, and these were answered but perhaps for the last. Only `take` makes more than
-/// one, and each that it made was answered.
+/// one, and each that it made was answered. `batch` is refused: its lines stand behind it, and here is none.
 pub fn answer_line(
     alloc: Global,
     bucket: &mut Bucket,
@@ -113,7 +114,7 @@ pub fn answer_line_in(
 }
 
 /// Does one command. Its answers wait behind others, and are written where they are many.
-fn pour_command<K: Output>(
+pub(crate) fn pour_command<K: Output>(
     alloc: Global,
     form: Form,
     bucket: &mut Bucket,
@@ -143,7 +144,7 @@ fn pour_command<K: Output>(
 }
 
 /// Answers a refused line.
-fn pour_refusal<K: Output>(
+pub(crate) fn pour_refusal<K: Output>(
     alloc: Global,
     error: KvError,
     out: &mut Vec<u8>,
@@ -162,36 +163,4 @@ fn pour_refusal<K: Output>(
 {
     answer_refusal(alloc, error, out)?;
     pour_many(out, sink)
-}
-
-/// Answers a line without its end, and without the carriage return before that. Its answers wait behind others, and
-/// are written where they are many: so they are no more at a time than 64 KiB and one answer.
-pub(crate) fn pour_line<K: Output>(
-    alloc: Global,
-    form: Form,
-    bucket: &mut Bucket,
-    line: &[u8],
-    out: &mut Vec<u8>,
-    sink: &mut K,
-) -> Result<(), KvError>
-    ensures same { K.goes_on sink.old sink.new }
-    ensures ok { OnOk result ((state : State) → Represents state bucket.old →
-        Pours (steps_text (line_steps form state line.now)) (K.held sink.old) out.old.items
-        (K.held sink.new) out.new.items
-        × Represents (steps_next state (line_steps form state line.now)) bucket.new) }
-    ensures write_fault { IsErrOf result KvError.WriteFault →
-        K.failed_between sink.old sink.new × ((state : State) → Represents state bucket.old →
-        Puts (out.old.items ++ steps_text (line_steps form state line.now)) (K.held sink.old) (K.held sink.new)) }
-    ensures memory { IsErrOf result KvError.OutOfMemory → (state : State) → Represents state bucket.old →
-        PoursFront (steps_text (line_steps form state line.now))
-        (K.held sink.old) out.old.items (K.held sink.new) out.new.items }
-    ensures fault { IfErr result IsWriteOrMemory }
-{
-    if is_skipped(line) {
-        return Ok(());
-    }
-    match parse(alloc, form, line) {
-        Ok(command) => pour_command(alloc, form, bucket, &command, out, sink),
-        Err(error) => pour_refusal(alloc, error, out, sink),
-    }
 }

@@ -3,18 +3,18 @@
 ghost use Rattle.std.specs.Prelude.{◌≡◌, ◌<◌, length, false, OnOk, IfOk, IfErr, IsErrOf};
 ghost use Rattle.kv_keys.specs.declared.error.KvError.TheVariants.{OutOfMemory};
 ghost use Rattle.std.specs.Io.KnownBytes.{Appends};
-ghost use Rattle.kv_model.specs.State.{State, empty};
 ghost use Rattle.kv_replay.specs.Faults.{IsBadConfiguration, IsRunFault, IsWriteOrMemory};
 ghost use Rattle.kv_replay.specs.Outcome.{Replays, Breaks, Stops, StopsWhole};
-ghost use Rattle.kv_replay.specs.inside.Reading.{Reading, beginning, after_bytes, said, ended};
+ghost use Rattle.kv_replay.specs.inside.Reading.{Reading, beginning, after_bytes, said, closed};
 ghost use Rattle.kv_replay.specs.Replaying.{Ran};
 ghost use Rattle.kv_replay.specs.inside.Scripted.{Holds};
-ghost use Rattle.kv_replay.specs.Text.{line_text, line_next, script_text, whole_text};
+ghost use Rattle.kv_replay.specs.Sessions.{Session, end_text, fresh, line_text, line_next, script_text, whole_text};
 ghost use Rattle.kv_replay.specs.inside.Written.{Puts, PutsWhole};
 ghost use Rattle.kv_replay.specs.declared.lines.TheConstants.{KEPT_BYTES};
 ghost use Rattle.kv_model.specs.Configuration.{Configuration};
 
 use crate::bounded_input::BoundedInput;
+use crate::interpreter::Interpreter;
 use crate::lines::Script;
 use crate::output::Output;
 use kv_keys::KvError;
@@ -36,13 +36,13 @@ fn answer_bytes<K: Output>(
     sink: &mut K,
 ) -> Result<(), KvError>
     ensures same { K.goes_on sink.old sink.new }
-    ensures ok { OnOk result ((r : Reading State) → Holds r script.old →
+    ensures ok { OnOk result ((r : Reading Session) → Holds r script.old →
         Appends (K.held sink.old) (K.held sink.new) (said KEPT_BYTES (line_text form) (line_next form) r bytes.now)
         × Holds (after_bytes KEPT_BYTES (line_text form) (line_next form) r bytes.now) script.new) }
     ensures write_fault { IsErrOf result KvError.WriteFault →
-        K.failed_between sink.old sink.new × ((r : Reading State) → Holds r script.old →
+        K.failed_between sink.old sink.new × ((r : Reading Session) → Holds r script.old →
         Puts (said KEPT_BYTES (line_text form) (line_next form) r bytes.now) (K.held sink.old) (K.held sink.new)) }
-    ensures memory { IsErrOf result KvError.OutOfMemory → (r : Reading State) → Holds r script.old →
+    ensures memory { IsErrOf result KvError.OutOfMemory → (r : Reading Session) → Holds r script.old →
         PutsWhole (said KEPT_BYTES (line_text form) (line_next form) r bytes.now) (K.held sink.old) (K.held sink.new) }
     ensures fault { IfErr result IsWriteOrMemory }
 {
@@ -57,7 +57,7 @@ fn answer_bytes<K: Output>(
     }
 }
 
-/// Writes the answer to the line that the end of the input ends.
+/// Writes the answer to the line that the end of the input ends, and that to a batch whose lines are not all there.
 fn answer_end<K: Output>(
     script: &mut Script,
     alloc: Global,
@@ -65,17 +65,17 @@ fn answer_end<K: Output>(
     sink: &mut K,
 ) -> Result<(), KvError>
     ensures same { K.goes_on sink.old sink.new }
-    ensures ok { OnOk result ((r : Reading State) → Holds r script.old →
-        Appends (K.held sink.old) (K.held sink.new) (ended KEPT_BYTES (line_text form) (line_next form) r)) }
+    ensures ok { OnOk result ((r : Reading Session) → Holds r script.old →
+        Appends (K.held sink.old) (K.held sink.new) (closed KEPT_BYTES (line_text form) (line_next form) end_text r)) }
     ensures write_fault { IsErrOf result KvError.WriteFault →
-        K.failed_between sink.old sink.new × ((r : Reading State) → Holds r script.old →
-        Puts (ended KEPT_BYTES (line_text form) (line_next form) r) (K.held sink.old) (K.held sink.new)) }
-    ensures memory { IsErrOf result KvError.OutOfMemory → (r : Reading State) → Holds r script.old →
-        PutsWhole (ended KEPT_BYTES (line_text form) (line_next form) r) (K.held sink.old) (K.held sink.new) }
+        K.failed_between sink.old sink.new × ((r : Reading Session) → Holds r script.old →
+        Puts (closed KEPT_BYTES (line_text form) (line_next form) end_text r) (K.held sink.old) (K.held sink.new)) }
+    ensures memory { IsErrOf result KvError.OutOfMemory → (r : Reading Session) → Holds r script.old →
+        PutsWhole (closed KEPT_BYTES (line_text form) (line_next form) end_text r) (K.held sink.old) (K.held sink.new) }
     ensures fault { IfErr result IsWriteOrMemory }
 {
     let mut out = Vec::new(alloc);
-    match script.end_line(alloc, form, &mut out, sink) {
+    match script.end_input(alloc, form, &mut out, sink) {
         Ok(()) => sink.write(&out),
         Err(KvError::OutOfMemory) => {
             sink.write(&out)?;
@@ -98,20 +98,20 @@ fn answer_lines<S: BoundedInput, K: Output>(
     ensures same_source { S.goes_on source.old source.new }
     ensures same_sink { K.goes_on sink.old sink.new }
     ensures in_time { S.has_ended source.old ≡ false → S.was_asked_late source.new ≡ S.was_asked_late source.old }
-    ensures ok { OnOk result ((config : Configuration) → Holds (beginning (empty config)) script.old →
+    ensures ok { OnOk result ((config : Configuration) → Holds (beginning (fresh config)) script.old →
         Replays (script_text form config) (whole_text form config) (S.left source.old) (S.left source.new)
         (K.held sink.old) (K.held sink.new)) }
     ensures read_fault { IsErrOf result KvError.ReadFault →
         S.failed_between source.old source.new
-        × ((config : Configuration) → Holds (beginning (empty config)) script.old →
+        × ((config : Configuration) → Holds (beginning (fresh config)) script.old →
         Breaks (script_text form config) (whole_text form config) (S.left source.old) (S.left source.new)
         (K.held sink.old) (K.held sink.new)) }
     ensures write_fault { IsErrOf result KvError.WriteFault →
-        K.failed_between sink.old sink.new × ((config : Configuration) → Holds (beginning (empty config)) script.old →
+        K.failed_between sink.old sink.new × ((config : Configuration) → Holds (beginning (fresh config)) script.old →
         Stops (script_text form config) (whole_text form config) (S.left source.old) (S.left source.new)
         (K.held sink.old) (K.held sink.new)) }
     ensures memory { IsErrOf result KvError.OutOfMemory → (config : Configuration) →
-        Holds (beginning (empty config)) script.old →
+        Holds (beginning (fresh config)) script.old →
         StopsWhole (script_text form config) (whole_text form config) (S.left source.old) (S.left source.new)
         (K.held sink.old) (K.held sink.new) }
     ensures fault { IfErr result IsRunFault }
@@ -159,7 +159,7 @@ pub fn run_script<S: BoundedInput, K: Output>(
     ensures refused { IfErr result (λ e. IsBadConfiguration e → (source.new ≡ source.old) × (sink.new ≡ sink.old)) }
 {
     let bucket = Bucket::open(alloc, config)?;
-    let mut script = Script::new(alloc, bucket);
+    let mut script = Script::new(alloc, Interpreter::new(bucket));
     let mut buffer = new_buffer(alloc, BUFFER_BYTES)?;
     answer_lines(&mut script, alloc, form, &mut buffer, source, sink)
 }

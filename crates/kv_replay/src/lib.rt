@@ -2,10 +2,13 @@
 #![tactic(auto)]
 
 mod answer;
+mod batch;
+mod batches;
 mod bounded_input;
 mod engine;
 mod failures;
 mod input;
+mod interpreter;
 mod lines;
 mod output;
 mod pouring;

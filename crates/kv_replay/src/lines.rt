@@ -1,19 +1,16 @@
-//! A script that is being read: the bucket so far, and the line that has begun.
+//! A script that is being read: the session so far, and the line that has begun.
 
 ghost use Rattle.std.specs.Prelude.{◌≡◌, ◌++◌, [], OnOk, IfErr, IsErrOf};
-ghost use Rattle.kv_single.specs.Held.{Represents};
-ghost use Rattle.kv_model.specs.State.{State};
 ghost use Rattle.kv_replay.specs.Faults.{IsWriteOrMemory};
-ghost use Rattle.kv_replay.specs.inside.Reading.{Reading, after_bytes, ended, grown, line_ended, said, within};
-ghost use Rattle.kv_replay.specs.inside.Scripted.{Holds};
-ghost use Rattle.kv_replay.specs.Text.{line_text, line_next};
+ghost use Rattle.kv_replay.specs.inside.Reading.{Reading, after_bytes, closed, ended, grown, line_ended, said, within};
+ghost use Rattle.kv_replay.specs.inside.Scripted.{Holds, Stands};
+ghost use Rattle.kv_replay.specs.Sessions.{Session, end_text, line_text, line_next};
 ghost use Rattle.kv_replay.specs.inside.Written.{Pours, PoursFront, Puts};
 
-use crate::answer::pour_line;
+use crate::interpreter::Interpreter;
 use crate::output::Output;
 use kv_keys::KvError;
 use kv_script::{Form, without_return};
-use kv_single::Bucket;
 use memchr::memchr;
 use std::alloc::{AllocError, Global};
 use std::marker::Model;
@@ -23,14 +20,17 @@ pub const KEPT_BYTES: usize = 1_400_001;
 
 /// A script that is being read.
 pub(crate) struct Script {
-    bucket: Bucket,
+    session: Interpreter,
     line: Vec<u8>,
 }
 
 // Field by field: a derived drop makes each proof longer that owns one.
 impl Drop for Script {
     fn drop(self) {
-        let Self { bucket: _, line: _ } = self;
+        let Self {
+            session: _,
+            line: _,
+        } = self;
     }
 }
 
@@ -39,23 +39,23 @@ impl Model for Script {
 
     ghost Value = { Scripted };
 
-    ghost view = { λ s. record { bucket = s.bucket; line = s.line.items } };
+    ghost view = { λ s. record { session = s.session; line = s.line.items } };
 }
 
 impl Script {
     /// Before the first line.
-    pub(crate) fn new(alloc: Global, bucket: Bucket) -> Script
-        ensures bucket { result.bucket ≡ bucket }
+    pub(crate) fn new(alloc: Global, session: Interpreter) -> Script
+        ensures session { result.session ≡ session }
         ensures line { result.line ≡ [] }
     {
         Script {
-            bucket,
+            session,
             line: Vec::new(alloc),
         }
     }
 
     /// Answers the line that has begun. Its answers wait behind others, and are written where they are many.
-    #[tactic(auto, unfolding(crate::specs::Text::line_text, crate::specs::Text::line_next))]
+    #[tactic(auto, unfolding(crate::specs::Sessions::line_text, crate::specs::Sessions::line_next))]
     pub(crate) fn end_line<K: Output>(
         &mut self,
         alloc: Global,
@@ -64,33 +64,52 @@ impl Script {
         sink: &mut K,
     ) -> Result<(), KvError>
         ensures same { K.goes_on sink.old sink.new }
-        ensures ok { OnOk result ((r : Reading State) → Holds r self.old →
+        ensures ok { OnOk result ((r : Reading Session) → Holds r self.old →
             Pours (ended KEPT_BYTES (line_text form) (line_next form) r)
             (K.held sink.old) out.old.items (K.held sink.new) out.new.items
             × Holds (line_ended KEPT_BYTES (line_text form) (line_next form) r) self.new) }
         ensures write_fault { IsErrOf result KvError.WriteFault →
-            K.failed_between sink.old sink.new × ((r : Reading State) → Holds r self.old →
+            K.failed_between sink.old sink.new × ((r : Reading Session) → Holds r self.old →
             Puts (out.old.items ++ ended KEPT_BYTES (line_text form) (line_next form) r) (K.held sink.old)
             (K.held sink.new)) }
-        ensures memory { IsErrOf result KvError.OutOfMemory → (r : Reading State) → Holds r self.old →
+        ensures memory { IsErrOf result KvError.OutOfMemory → (r : Reading Session) → Holds r self.old →
             PoursFront (ended KEPT_BYTES (line_text form) (line_next form) r)
             (K.held sink.old) out.old.items (K.held sink.new) out.new.items }
         ensures fault { IfErr result IsWriteOrMemory }
     {
-        pour_line(
-            alloc,
-            form,
-            &mut self.bucket,
-            without_return(&self.line),
-            out,
-            sink,
-        )?;
+        self.session
+            .take_line(alloc, form, without_return(&self.line), out, sink)?;
         self.line.clear();
         Ok(())
     }
 
+    /// Answers the line that the end of the input ends, and then the batch that has begun, if one has.
+    pub(crate) fn end_input<K: Output>(
+        &mut self,
+        alloc: Global,
+        form: Form,
+        out: &mut Vec<u8>,
+        sink: &mut K,
+    ) -> Result<(), KvError>
+        ensures same { K.goes_on sink.old sink.new }
+        ensures ok { OnOk result ((r : Reading Session) → Holds r self.old →
+            Pours (closed KEPT_BYTES (line_text form) (line_next form) end_text r)
+            (K.held sink.old) out.old.items (K.held sink.new) out.new.items) }
+        ensures write_fault { IsErrOf result KvError.WriteFault →
+            K.failed_between sink.old sink.new × ((r : Reading Session) → Holds r self.old →
+            Puts (out.old.items ++ closed KEPT_BYTES (line_text form) (line_next form) end_text r) (K.held sink.old)
+            (K.held sink.new)) }
+        ensures memory { IsErrOf result KvError.OutOfMemory → (r : Reading Session) → Holds r self.old →
+            PoursFront (closed KEPT_BYTES (line_text form) (line_next form) end_text r)
+            (K.held sink.old) out.old.items (K.held sink.new) out.new.items }
+        ensures fault { IfErr result IsWriteOrMemory }
+    {
+        self.end_line(alloc, form, out, sink)?;
+        self.session.end(alloc, out, sink)
+    }
+
     /// Answers a line that lies whole in what was read, where none has begun.
-    #[tactic(auto, unfolding(crate::specs::Text::line_text, crate::specs::Text::line_next))]
+    #[tactic(auto, unfolding(crate::specs::Sessions::line_text, crate::specs::Sessions::line_next))]
     fn answer_whole<K: Output>(
         &mut self,
         alloc: Global,
@@ -100,25 +119,19 @@ impl Script {
         sink: &mut K,
     ) -> Result<(), KvError>
         ensures same { K.goes_on sink.old sink.new }
-        ensures ok { OnOk result ((state : State) → Represents state self.old.bucket →
-            Pours (line_text form state line.now) (K.held sink.old) out.old.items (K.held sink.new) out.new.items
-            × (Represents (line_next form state line.now) self.new.bucket × (self.new.line ≡ self.old.line))) }
+        ensures ok { OnOk result ((s : Session) → Stands s self.old.session →
+            Pours (line_text form s line.now) (K.held sink.old) out.old.items (K.held sink.new) out.new.items
+            × (Stands (line_next form s line.now) self.new.session × (self.new.line ≡ self.old.line))) }
         ensures write_fault { IsErrOf result KvError.WriteFault →
-            K.failed_between sink.old sink.new × ((state : State) → Represents state self.old.bucket →
-            Puts (out.old.items ++ line_text form state line.now) (K.held sink.old) (K.held sink.new)) }
-        ensures memory { IsErrOf result KvError.OutOfMemory → (state : State) → Represents state self.old.bucket →
-            PoursFront (line_text form state line.now)
+            K.failed_between sink.old sink.new × ((s : Session) → Stands s self.old.session →
+            Puts (out.old.items ++ line_text form s line.now) (K.held sink.old) (K.held sink.new)) }
+        ensures memory { IsErrOf result KvError.OutOfMemory → (s : Session) → Stands s self.old.session →
+            PoursFront (line_text form s line.now)
             (K.held sink.old) out.old.items (K.held sink.new) out.new.items }
         ensures fault { IfErr result IsWriteOrMemory }
     {
-        pour_line(
-            alloc,
-            form,
-            &mut self.bucket,
-            without_return(line),
-            out,
-            sink,
-        )
+        self.session
+            .take_line(alloc, form, without_return(line), out, sink)
     }
 
     /// Takes bytes of the line that has begun. No more are kept than show that it is too long.
@@ -143,15 +156,15 @@ impl Script {
         sink: &mut K,
     ) -> Result<(), KvError>
         ensures same { K.goes_on sink.old sink.new }
-        ensures ok { OnOk result ((r : Reading State) → Holds r self.old →
+        ensures ok { OnOk result ((r : Reading Session) → Holds r self.old →
             Pours (ended KEPT_BYTES (line_text form) (line_next form) (within KEPT_BYTES r rest.now))
             (K.held sink.old) out.old.items (K.held sink.new) out.new.items
             × Holds (line_ended KEPT_BYTES (line_text form) (line_next form) (within KEPT_BYTES r rest.now)) self.new) }
         ensures write_fault { IsErrOf result KvError.WriteFault →
-            K.failed_between sink.old sink.new × ((r : Reading State) → Holds r self.old →
+            K.failed_between sink.old sink.new × ((r : Reading Session) → Holds r self.old →
             Puts (out.old.items ++ ended KEPT_BYTES (line_text form) (line_next form) (within KEPT_BYTES r rest.now))
             (K.held sink.old) (K.held sink.new)) }
-        ensures memory { IsErrOf result KvError.OutOfMemory → (r : Reading State) → Holds r self.old →
+        ensures memory { IsErrOf result KvError.OutOfMemory → (r : Reading Session) → Holds r self.old →
             PoursFront (ended KEPT_BYTES (line_text form) (line_next form) (within KEPT_BYTES r rest.now))
             (K.held sink.old) out.old.items (K.held sink.new) out.new.items }
         ensures fault { IfErr result IsWriteOrMemory }
@@ -173,15 +186,15 @@ impl Script {
         sink: &mut K,
     ) -> Result<(), KvError>
         ensures same { K.goes_on sink.old sink.new }
-        ensures ok { OnOk result ((r : Reading State) → Holds r self.old →
+        ensures ok { OnOk result ((r : Reading Session) → Holds r self.old →
             Pours (said KEPT_BYTES (line_text form) (line_next form) r bytes.now)
             (K.held sink.old) out.old.items (K.held sink.new) out.new.items
             × Holds (after_bytes KEPT_BYTES (line_text form) (line_next form) r bytes.now) self.new) }
         ensures write_fault { IsErrOf result KvError.WriteFault →
-            K.failed_between sink.old sink.new × ((r : Reading State) → Holds r self.old →
+            K.failed_between sink.old sink.new × ((r : Reading Session) → Holds r self.old →
             Puts (out.old.items ++ said KEPT_BYTES (line_text form) (line_next form) r bytes.now)
             (K.held sink.old) (K.held sink.new)) }
-        ensures memory { IsErrOf result KvError.OutOfMemory → (r : Reading State) → Holds r self.old →
+        ensures memory { IsErrOf result KvError.OutOfMemory → (r : Reading Session) → Holds r self.old →
             PoursFront (said KEPT_BYTES (line_text form) (line_next form) r bytes.now)
             (K.held sink.old) out.old.items (K.held sink.new) out.new.items }
         ensures fault { IfErr result IsWriteOrMemory }

@@ -37,6 +37,7 @@ of the line as it stands.
   seal                      seal                         end all writes
   compact R                 compact 4                    free the writes up to R that are kept no longer
   place K                   place app.port               where a key stands in the hash trie
+  batch N                   batch 2                      the writes of the next N lines in one step, or none of them
 
 Empty lines and lines that begin with # are skipped. A refused line is answered, and the script goes on.
 

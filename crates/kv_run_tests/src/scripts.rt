@@ -11,6 +11,7 @@ use std::process::Abort;
 use std::test::Fail;
 
 mod adapters;
+mod batches;
 mod devices;
 mod ends_of_lines;
 mod failing;

@@ -10,10 +10,10 @@ use Rattle.kv_keys.specs.Grammar.{is_key}
 use Rattle.kv_keys.specs.declared.error.KvError.TheVariants.{BadCommand, BadFloor, Lagged, WatchBehind, WrongLastRevision}
 use Rattle.kv_model.specs.declared.write.Op.TheVariants.{Delete, Put}
 use Rattle.kv_model.specs.Requests.{create, put, update}
-use Rattle.kv_script.specs.Commands.{Compact, Get, Take, Write, command_in, named_command, present_words_command, text_command}
+use Rattle.kv_script.specs.Commands.{Batch, Compact, Get, line_write, Take, Write, command_in, named_command, present_words_command, text_command}
 use Rattle.kv_script.specs.declared.form.Form.TheVariants.{Base64, Text}
 use Rattle.kv_script.specs.Line.{line}
-use Rattle.kv_script.specs.Text.{compacted_text, empty_text, entry_text, history_text, keys_text, marker_text, place_text, refusal_text, revision_text, sealed_text, status_text, stopped_text, taken_entry_text, told_text, watch_text, worker_refusal_text}
+use Rattle.kv_script.specs.Text.{compacted_text, empty_text, entry_text, history_text, keys_text, marker_text, place_text, refusal_text, revision_text, sealed_text, status_text, stopped_text, taken_entry_text, told_text, watch_text, revisions_text, batch_refusal_text, revisions_behind, worker_refusal_text}
 use Rattle.kv_script.specs.Words.{number_of, value_of, words_of}
 
 revision : revision_text 12 ≡ line (codes "{\"revision\":12}")
@@ -104,6 +104,18 @@ worker_refusal : worker_refusal_text 1 (WrongLastRevision 0) ≡ line (codes "{\
 unfolding worker_refusal_text digits escape_byte
 worker_refusal = refl
 
+revisions : revisions_text (revisions_behind 2 3) ≡ line (codes "{\"revisions\":[3,4,5]}")
+unfolding revisions_text digits escape_byte
+revisions = refl
+
+no_revisions : revisions_text [] ≡ line (codes "{\"revisions\":[]}")
+unfolding revisions_text digits escape_byte
+no_revisions = refl
+
+batch_refusal : batch_refusal_text 2 (WrongLastRevision 0) ≡ line (codes "{\"at\":2,\"code\":11,\"error\":\"WrongLastRevision\",\"last\":0}")
+unfolding batch_refusal_text digits escape_byte
+batch_refusal = refl
+
 -- words
 value : value_of (codes "MQ==") ≡ Some (codes "1")
 unfolding base64_on_literals
@@ -143,6 +155,19 @@ compact_without_floor = refl
 compact_with_a_word : present_words_command (words_of (codes "compact x")) ≡ Err BadCommand
 unfolding named_command
 compact_with_a_word = refl
+
+batch_line : present_words_command (words_of (codes "batch 02")) ≡ Ok (Batch 2)
+unfolding named_command
+batch_line = refl
+
+batch_without_number : present_words_command (words_of (codes "batch two")) ≡ Err BadCommand
+unfolding named_command
+batch_without_number = refl
+
+-- a read in a batch is no command, whatever its key
+read_in_batch : line_write Base64 (codes "get .a") ≡ Err BadCommand
+unfolding line_write
+read_in_batch = refl
 
 two_spaces : present_words_command (words_of (codes "get  a")) ≡ Err BadCommand
 two_spaces = refl

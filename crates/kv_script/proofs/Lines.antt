@@ -11,11 +11,11 @@ use Rattle.kv_keys.specs.declared.error.KvError.{KvError}
 use Rattle.kv_keys.specs.declared.error.KvError.TheVariants.{OutOfMemory, BadBucket, BadConfig, BadKey, BadFilter, OptionsClash, ValueTooLarge, Sealed, JournalFull, KeyExists, WrongLastRevision, KeyNotFound, NoSuchWatch, TooManyWatches, NoReader, BadCommand, ReadFault, WriteFault, BadFloor, WatchBehind, Lagged}
 use Rattle.kv_model.specs.declared.status.Status.{Status}
 use Rattle.kv_model.specs.Given.{Entry}
-use Rattle.kv_script.specs.inside.Fields.{number_field, base64_field, base64_fields, value_field, value_fields, entry_fields, entry_object, entry_items, key_items, watch_field, worker_field, sealed_fields, compacted_fields, marker_fields, empty_fields, stopped_fields, status_fields, place_fields, detail_fields, refusal_fields, list_fields}
+use Rattle.kv_script.specs.inside.Fields.{number_field, base64_field, base64_fields, value_field, value_fields, entry_fields, entry_object, entry_items, key_items, watch_field, worker_field, sealed_fields, compacted_fields, marker_fields, empty_fields, stopped_fields, status_fields, place_fields, detail_fields, refusal_fields, placed_fields, number_items, list_fields}
 use Rattle.kv_script.specs.declared.form.Form.{Form}
 use Rattle.kv_script.specs.declared.form.Form.TheVariants.{Base64, Text}
 use Rattle.kv_script.specs.Line.{Member, object_text, array_text, line}
-use Rattle.kv_script.specs.Text.{truth_text, one, base64_members, value_members, entry_members, detail_members, refusal_members, watch_members, worker_members, status_members, listed_text, place_digits, revision_text, sealed_text, entry_text, history_text, keys_text, watch_text, taken_entry_text, marker_text, empty_text, stopped_text, compacted_text, status_text, place_text, refusal_text, told_text, worker_refusal_text}
+use Rattle.kv_script.specs.Text.{truth_text, one, base64_members, value_members, entry_members, detail_members, refusal_members, watch_members, worker_members, status_members, listed_text, place_digits, revision_text, sealed_text, entry_text, history_text, keys_text, watch_text, taken_entry_text, marker_text, empty_text, stopped_text, compacted_text, status_text, place_text, refusal_text, told_text, revisions_text, batch_refusal_text, worker_refusal_text}
 use Rattle.kv_script.proofs.Compact.{compact-object, compact-array, AreMembers, AreItems}
 
 pub revision_line : (revision : ℕ) → line (compact_text (object (number_field (codes "revision") revision no_members))) ≡ revision_text revision
@@ -161,3 +161,20 @@ refusal_line error = ap line (refusal_compact error no_members [] tt)
 pub worker_refusal_line : (worker : ℕ) (error : KvError) → line (compact_text (object (refusal_fields error (worker_field worker)))) ≡ worker_refusal_text worker error
 unfolding serde_json_on_literals worker_refusal_text
 worker_refusal_line worker error = ap line (refusal_compact error (worker_field worker) (worker_members worker) (refl, refl, tt))
+
+pub batch_refusal_line : (place : ℕ) (error : KvError) → line (compact_text (object (placed_fields place error))) ≡ batch_refusal_text place error
+unfolding serde_json_on_literals batch_refusal_text
+batch_refusal_line place error =
+    ap line (compact-object (placed_fields place error) ((codes "at", decimal place) ∷ refusal_members error [])
+    (refl, refl, (refl, refl, (refl, refl, detail_are error no_members [] tt))))
+
+numbers_are : (ns : List ℕ) → AreItems (number_items ns) (map decimal ns)
+unfolding serde_json_on_literals
+numbers_are [] = tt
+numbers_are (n ∷ ns) = (refl, numbers_are ns)
+
+pub revisions_line : (revisions : List ℕ) → line (compact_text (object (list_fields (codes "revisions") (number_items revisions)))) ≡ revisions_text revisions
+unfolding serde_json_on_literals revisions_text
+revisions_line revisions =
+    ap line (compact-object (list_fields (codes "revisions") (number_items revisions)) (one (codes "revisions") (array_text (map decimal revisions)))
+    (refl, compact-array (number_items revisions) (map decimal revisions) (numbers_are revisions), tt))

@@ -9,7 +9,7 @@ use Rattle.kv_script.specs.declared.answering.field.Field.TheVariants.{Number, T
 use Rattle.kv_script.specs.declared.answering.field.Field.TheVariants as fields
 use Rattle.kv_script.specs.declared.form.Form.{Form}
 use Rattle.kv_script.specs.declared.form.Form.TheVariants.{Base64, Text}
-use Rattle.kv_script.specs.inside.Fields.{base64_field, base64_fields, value_field, value_fields, entry_fields, entry_items, key_items, list_fields}
+use Rattle.kv_script.specs.inside.Fields.{base64_field, base64_fields, value_field, value_fields, entry_fields, entry_items, key_items, number_items, list_fields}
 use Rattle.kv_script.specs.inside.Objects.{fields_of}
 
 pub fields_whole : (fields : List Field) → members_have_float (fields_of fields) ≡ false
@@ -50,3 +50,10 @@ names_whole (key ∷ keys) = names_whole keys
 
 pub keys_whole : (keys : List (List ℕ)) → has_float (object (list_fields (codes "keys") (key_items keys))) ≡ false
 keys_whole keys = rw (names_whole keys) refl
+
+numbers_whole : (ns : List ℕ) → items_have_float (number_items ns) ≡ false
+numbers_whole [] = refl
+numbers_whole (n ∷ ns) = numbers_whole ns
+
+pub revisions_whole : (revisions : List ℕ) → has_float (object (list_fields (codes "revisions") (number_items revisions))) ≡ false
+revisions_whole revisions = rw (numbers_whole revisions) refl

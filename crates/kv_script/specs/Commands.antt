@@ -1,7 +1,7 @@
 -- What a line of a script asks for.
-use Rattle.std.specs.Prelude.{◌≡◌, ℕ, ◌==◌, ◌&&◌, nat_le, Bool, true, if◌then◌else◌, List, [], ◌∷◌, map, length, slice_index_or, codes, bytes_eq, ⊤, Option, Some, None, option_map, option_and_then, Result, Ok, Err}
+use Rattle.std.specs.Prelude.{◌≡◌, ℕ, ◌==◌, ◌&&◌, ◌||◌, nat_le, nat_eq, Bool, true, if◌then◌else◌, List, [], ◌∷◌, map, length, slice_index_or, codes, bytes_eq, ⊤, Option, Some, None, option_map, option_and_then, Result, Ok, Err}
 use Rattle.std.specs.Borrow.{Bor}
-use Rattle.std.specs.List.{join_with_byte, list_all}
+use Rattle.std.specs.List.{join_with_byte, list_all, starts_with}
 use Rattle.std.specs.Result.{result_map_both}
 use Rattle.std.specs.Str.{is_utf8}
 use Rattle.kv_keys.specs.Grammar.{is_present, is_key, is_filter, parts, are_filters}
@@ -9,6 +9,7 @@ use Rattle.kv_keys.specs.declared.error.KvError.{KvError}
 use Rattle.kv_keys.specs.declared.error.KvError.TheVariants.{OutOfMemory, BadKey, BadFilter, BadCommand}
 use Rattle.kv_model.specs.Requests.{Asked, asked, put, create, update, delete, purge}
 use Rattle.kv_model.specs.declared.options.Options.{Options}
+use Rattle.kv_model.specs.declared.request.Request.{Request}
 use Rattle.kv_script.specs.Words.{words_of, number_of, value_of}
 use Rattle.kv_script.specs.Choices.{are_options, options_of}
 use Rattle.kv_script.specs.declared.parsing.command.Command.{Command}
@@ -30,6 +31,7 @@ pub data Meaning : Type 0 where
   Seal : Meaning
   Compact : (floor : ℕ) → Meaning
   Place : (key : List ℕ) → Meaning
+  Batch : (count : ℕ) → Meaning
 
 abbrev pub meaning_of : Command → Meaning
 meaning_of (commands.Write request) = Write (asked request)
@@ -44,6 +46,7 @@ meaning_of commands.Status = Status
 meaning_of commands.Seal = Seal
 meaning_of (commands.Compact floor) = Compact floor
 meaning_of (commands.Place key) = Place key
+meaning_of (commands.Batch count) = Batch count
 
 -- a line without its end is skipped where it is empty, or begins with `#`
 abbrev pub is_skipped : List ℕ → Bool
@@ -136,7 +139,7 @@ take_command arguments =
     (λ watch. or_bad_command (take_count (word arguments 1)) (λ count. Ok (Take watch count)))
     else Err BadCommand
 
--- stop ID, compact R
+-- stop ID, compact R, batch N
 abbrev pub number_command : (ℕ → Meaning) → List (List ℕ) → Result Meaning KvError
 number_command makes arguments =
     if length arguments == 1 then or_bad_command (number_of (word arguments 0)) (λ number. Ok (makes number)) else
@@ -164,6 +167,7 @@ named_command name arguments =
     else if bytes_eq name (codes "seal") then lone_command Seal arguments
     else if bytes_eq name (codes "compact") then number_command Compact arguments
     else if bytes_eq name (codes "place") then key_command Place arguments
+    else if bytes_eq name (codes "batch") then number_command Batch arguments
     else Err BadCommand
 
 abbrev pub words_command : List (List ℕ) → Result Meaning KvError
@@ -216,16 +220,39 @@ is_within_limits line = is_utf8 line && nat_le (length line) 1400000
 unfoldable pub line_command : Form → List ℕ → Result Meaning KvError
 line_command form line = if is_within_limits line then command_in form (words_of line) else Err BadCommand
 
+-- a line begins with the word of a write, and a space
+abbrev pub names_write : List ℕ → Bool
+names_write line =
+    (((starts_with nat_eq line (codes "put ") || starts_with nat_eq line (codes "create "))
+    || starts_with nat_eq line (codes "update "))
+    || starts_with nat_eq line (codes "delete "))
+    || starts_with nat_eq line (codes "purge ")
+
+abbrev pub write_of : Result Meaning KvError → Result Asked KvError
+write_of (Ok (Write asked)) = Ok asked
+write_of (Ok meaning) = Err BadCommand
+write_of (Err error) = Err error
+
+-- the write that a line of a batch asks for, or why it is refused: a line that names no write is no command there,
+-- whatever follows its first word
+unfoldable pub line_write : Form → List ℕ → Result Asked KvError
+line_write form line = if names_write line then write_of (line_command form line) else Err BadCommand
+
 -- the words of a `&[&str]`
 abbrev pub texts : List (Bor (List ℕ)) → List (List ℕ)
 texts words = map (λ word. word.now) words
 
 -- the error is why the line is refused, unless memory ran out
-abbrev pub Fails : KvError → Result Meaning KvError → Type 0
-Fails OutOfMemory outcome = ⊤
-Fails error outcome = outcome ≡ Err error
+abbrev pub Fails : {X : Type 0} → KvError → Result X KvError → Type 0
+Fails {X} OutOfMemory outcome = ⊤
+Fails {X} error outcome = outcome ≡ Err error
 
 -- a result gives what the line asks for, unless memory ran out
 abbrev pub Gives : Result Command KvError → Result Meaning KvError → Type 0
 Gives (Ok command) outcome = outcome ≡ Ok (meaning_of command)
 Gives (Err error) outcome = Fails error outcome
+
+-- likewise for a line of a batch
+abbrev pub GivesWrite : Result Request KvError → Result Asked KvError → Type 0
+GivesWrite (Ok request) outcome = outcome ≡ Ok (asked request)
+GivesWrite (Err error) outcome = Fails error outcome

@@ -1,6 +1,6 @@
 -- The text of each answer: one compact object on a line, its members in the byte order of their names. `quoted` is a
 -- text as JSON writes it; keys, names, base64 and digits have nothing that it escapes.
-use Rattle.std.specs.Prelude.{ℕ, List, [], ◌∷◌, map, codes, decimal, if◌then◌else◌, Bool, true, false, Option, Some, None}
+use Rattle.std.specs.Prelude.{ℕ, zero, suc, ◌+◌, List, [], ◌∷◌, map, codes, decimal, if◌then◌else◌, Bool, true, false, Option, Some, None}
 use Rattle.std.specs.Int.{to_be_bytes, w32}
 use Rattle.std.specs.Str.{is_utf8}
 use Rattle.base64.specs.GeneralPurpose.{encode_of}
@@ -89,6 +89,11 @@ place_digits place = encode_lower (to_be_bytes w32 place)
 abbrev pub one : List ℕ → List ℕ → List Member
 one name text = (name, text) ∷ []
 
+-- so many revisions, the first of them right behind one
+abbrev pub revisions_behind : ℕ → ℕ → List ℕ
+revisions_behind last zero = []
+revisions_behind last (suc n) = (last + 1) ∷ revisions_behind (last + 1) n
+
 -- an accepted write
 unfoldable pub revision_text : ℕ → List ℕ
 revision_text revision = line (object_text (one (codes "revision") (decimal revision)))
@@ -145,6 +150,14 @@ place_text place = line (object_text (one (codes "place") (quoted (place_digits 
 -- a refusal
 unfoldable pub refusal_text : KvError → List ℕ
 refusal_text error = line (object_text (refusal_members error []))
+
+-- an accepted batch, by the revisions of its writes
+unfoldable pub revisions_text : List ℕ → List ℕ
+revisions_text revisions = line (object_text (one (codes "revisions") (array_text (map decimal revisions))))
+
+-- a batch that is refused for the line at this place, from 1
+unfoldable pub batch_refusal_text : ℕ → KvError → List ℕ
+batch_refusal_text place error = line (object_text ((codes "at", decimal place) ∷ refusal_members error []))
 
 -- an accepted write of a worker of a race
 unfoldable pub told_text : ℕ → ℕ → List ℕ

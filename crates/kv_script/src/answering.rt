@@ -1,6 +1,7 @@
 //! The text of each answer, and of each refusal.
 
 pub(crate) mod answers;
+pub(crate) mod batches;
 pub(crate) mod entries;
 pub(crate) mod field;
 pub(crate) mod history;

@@ -22,6 +22,10 @@ module _ {S : Type 0} (limit : ℕ) (text : S → List ℕ → List ℕ) (next :
   abbrev pub ended : Reading S → List ℕ
   ended r = text r.state r.line
 
+  -- and what the end of the input says behind it
+  abbrev pub closed : (S → List ℕ) → Reading S → List ℕ
+  closed ending r = ended r ++ ending (next r.state r.line)
+
   -- behind its end
   abbrev pub line_ended : Reading S → Reading S
   line_ended r = record { state = next r.state r.line; line = [] }

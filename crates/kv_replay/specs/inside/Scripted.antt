@@ -1,14 +1,24 @@
--- What a script's run holds: a bucket that represents a state of the model, and the line that has begun.
-use Rattle.std.specs.Prelude.{◌≡◌, ℕ, List}
-use Rattle.kv_model.specs.State.{State}
+-- What a script's run holds: a session, and the line that has begun.
+use Rattle.std.specs.Prelude.{◌≡◌, ℕ, List, Option, option_map}
 use Rattle.kv_single.specs.Held.{Bucketed, Represents}
+use Rattle.kv_replay.specs.Sessions.{Session}
+use Rattle.kv_replay.specs.inside.Gathering.{Gathered, gathered}
 use Rattle.kv_replay.specs.inside.Reading.{Reading}
 
-pub record Scripted : Type 0 where
+pub record Sessioned : Type 0 where
   pub bucket : Bucketed
+  pub batch : Option Gathered
+
+-- the bucket represents the state, and what is kept of the batch is of its lines
+pub record Stands (session : Session) (held : Sessioned) : Type 0 where
+  pub bucket : Represents session.state held.bucket
+  pub batch : held.batch ≡ option_map gathered session.batch
+
+pub record Scripted : Type 0 where
+  pub session : Sessioned
   pub line : List ℕ
 
--- the bucket represents the state, and the line is the one that has begun
-pub record Holds (reading : Reading State) (script : Scripted) : Type 0 where
-  pub bucket : Represents reading.state script.bucket
+-- the session stands, and the line is the one that has begun
+pub record Holds (reading : Reading Session) (script : Scripted) : Type 0 where
+  pub session : Stands reading.state script.session
   pub line : script.line ≡ reading.line

@@ -19,6 +19,8 @@ const LINES: &[(Form, &str)] = &[
     (Form::Base64, "get k"),
     (Form::Base64, "put k a b"),
     (Form::Text, "take 1 1"),
+    // Its lines would stand behind it, and here is none.
+    (Form::Base64, "batch 0"),
     (Form::Base64, "seal"),
     (Form::Base64, "compact 2"),
     (Form::Base64, "stop 1"),
@@ -37,6 +39,7 @@ const ANSWERS: &str = "{\"code\":16,\"error\":\"BadCommand\"}\n\
     {\"key\":\"k\",\"op\":\"PUT\",\"revision\":2,\"size\":3,\"value\":\"YSBi\"}\n\
     {\"code\":16,\"error\":\"BadCommand\"}\n\
     {\"base64\":\"/w==\",\"key\":\"k\",\"op\":\"PUT\",\"revision\":1,\"size\":1,\"watch\":1}\n\
+    {\"code\":16,\"error\":\"BadCommand\"}\n\
     {\"sealed\":true}\n\
     {\"code\":20,\"error\":\"WatchBehind\",\"watch\":1}\n\
     {\"handed\":1,\"stopped\":1}\n\

@@ -3,8 +3,9 @@
 use kv_keys::KvError;
 use kv_model::Status;
 use kv_script::{
-    append_compacted, append_empty, append_marker, append_place, append_refusal, append_revision,
-    append_sealed, append_status, append_stopped, append_told, append_watch, append_worker_refusal,
+    append_batch_refusal, append_compacted, append_empty, append_marker, append_place,
+    append_refusal, append_revision, append_revisions, append_sealed, append_status,
+    append_stopped, append_told, append_watch, append_worker_refusal,
 };
 use kv_test_tools::again;
 use std::alloc::{AllocError, Global};
@@ -15,6 +16,7 @@ use std::test::Fail;
 #[derive(Clone, Copy)]
 enum Answer {
     Revision(u64),
+    Revisions { before: u64, last: u64 },
     Sealed,
     Compacted(u64),
     Watch(u64),
@@ -25,6 +27,7 @@ enum Answer {
     Place(u32),
     Told { worker: u64, revision: u64 },
     Refusal(KvError),
+    BatchRefusal { place: u64, error: KvError },
     WorkerRefusal { worker: u64, error: KvError },
 }
 
@@ -44,6 +47,20 @@ const LAGGED: KvError = KvError::Lagged { floor: 9 };
 
 const ANSWERS: &[(Answer, &str)] = &[
     (Answer::Revision(7), "{\"revision\":7}\n"),
+    (
+        Answer::Revisions {
+            before: 8,
+            last: 11,
+        },
+        "{\"revisions\":[9,10,11]}\n",
+    ),
+    (
+        Answer::Revisions {
+            before: u64::MAX,
+            last: u64::MAX,
+        },
+        "{\"revisions\":[]}\n",
+    ),
     (Answer::Sealed, "{\"sealed\":true}\n"),
     (Answer::Compacted(4), "{\"compacted\":4}\n"),
     (Answer::Watch(1), "{\"watch\":1}\n"),
@@ -92,6 +109,34 @@ const ANSWERS: &[(Answer, &str)] = &[
         "{\"code\":21,\"error\":\"Lagged\",\"floor\":9}\n",
     ),
     (
+        Answer::BatchRefusal {
+            place: 2,
+            error: KvError::BadKey,
+        },
+        "{\"at\":2,\"code\":4,\"error\":\"BadKey\"}\n",
+    ),
+    (
+        Answer::BatchRefusal {
+            place: 10,
+            error: LAST,
+        },
+        "{\"at\":10,\"code\":11,\"error\":\"WrongLastRevision\",\"last\":0}\n",
+    ),
+    (
+        Answer::BatchRefusal {
+            place: 1,
+            error: BEHIND,
+        },
+        "{\"at\":1,\"code\":20,\"error\":\"WatchBehind\",\"watch\":4}\n",
+    ),
+    (
+        Answer::BatchRefusal {
+            place: 1,
+            error: LAGGED,
+        },
+        "{\"at\":1,\"code\":21,\"error\":\"Lagged\",\"floor\":9}\n",
+    ),
+    (
         Answer::WorkerRefusal {
             worker: 1,
             error: KvError::Sealed,
@@ -124,6 +169,7 @@ const ANSWERS: &[(Answer, &str)] = &[
 fn append(alloc: Global, out: &mut Vec<u8>, answer: Answer) -> Result<(), AllocError> {
     match answer {
         Answer::Revision(revision) => append_revision(alloc, out, revision),
+        Answer::Revisions { before, last } => append_revisions(alloc, out, before, last),
         Answer::Sealed => append_sealed(alloc, out),
         Answer::Compacted(floor) => append_compacted(alloc, out, floor),
         Answer::Watch(watch) => append_watch(alloc, out, watch),
@@ -134,6 +180,7 @@ fn append(alloc: Global, out: &mut Vec<u8>, answer: Answer) -> Result<(), AllocE
         Answer::Place(place) => append_place(alloc, out, place),
         Answer::Told { worker, revision } => append_told(alloc, out, worker, revision),
         Answer::Refusal(error) => append_refusal(alloc, out, error),
+        Answer::BatchRefusal { place, error } => append_batch_refusal(alloc, out, place, error),
         Answer::WorkerRefusal { worker, error } => append_worker_refusal(alloc, out, worker, error),
     }
 }

@@ -2,7 +2,7 @@
 
 use kv_keys::KvError;
 use kv_model::{Options, Request, Start};
-use kv_script::{Command, Form, is_skipped, parse};
+use kv_script::{Command, Form, is_skipped, parse, parse_write};
 use kv_test_tools::again;
 use std::alloc::{AllocError, Global};
 use std::process::Abort;
@@ -60,6 +60,13 @@ const COMMANDS: &[(Form, &str, Asked)] = &[
         ("compact", "", b"", Some(u64::MAX)),
     ),
     (Form::Base64, "place zinke", ("place", "zinke", b"", None)),
+    (Form::Base64, "batch 0", ("batch", "", b"", Some(0))),
+    (Form::Base64, "batch 002", ("batch", "", b"", Some(2))),
+    (
+        Form::Base64,
+        "batch 18446744073709551615",
+        ("batch", "", b"", Some(u64::MAX)),
+    ),
     (Form::Text, "put k hello", ("put", "k", b"hello", None)),
     (
         Form::Text,
@@ -99,6 +106,7 @@ const COMMANDS: &[(Form, &str, Asked)] = &[
     (Form::Text, "take 1 9", ("take", "", b"", Some(1))),
     (Form::Text, "status", ("status", "", b"", None)),
     (Form::Text, "compact 4", ("compact", "", b"", Some(4))),
+    (Form::Text, "batch 4", ("batch", "", b"", Some(4))),
 ];
 
 // Lines of watches, and of their options the start, whether markers are left out, and whether values are.
@@ -144,6 +152,7 @@ fn parts(command: &Command) -> (&str, &str, &[u8], Option<u64>) {
         Command::Seal => ("seal", "", b"", None),
         Command::Compact(floor) => ("compact", "", b"", Some(*floor)),
         Command::Place(key) => ("place", key.as_str(), b"", None),
+        Command::Batch(count) => ("batch", "", b"", Some(*count)),
     }
 }
 
@@ -153,6 +162,39 @@ fn has_options(alloc: Global, line: &str, options: Options) -> Result<bool, KvEr
         Command::Watch(_, found) => Ok(found == options),
         _ => Ok(false),
     }
+}
+
+// What a line of a batch asks for, or why it is refused there.
+fn asked_in_batch(alloc: Global, line: &str) -> Result<Request, KvError> {
+    again(|| parse_write(alloc, Form::Base64, line.as_bytes()))
+}
+
+// Lines of a batch that ask for no write, and what each is refused by.
+const NO_WRITES: &[(&str, KvError)] = &[
+    ("get a", KvError::BadCommand),
+    ("get .a", KvError::BadCommand),
+    ("batch 1", KvError::BadCommand),
+    ("put", KvError::BadCommand),
+    ("puts a -", KvError::BadCommand),
+    ("put a MQ", KvError::BadCommand),
+    ("purge .a 1", KvError::BadKey),
+];
+
+#[test]
+fn lines_of_a_batch_ask_for_writes(rt: HostRuntime) -> Result<(), Fail> {
+    let request = asked_in_batch(rt.alloc(), "update n 7 TWFu")?;
+    holds(
+        &rt,
+        "update",
+        parts_of_write(&request) == ("update", "n", b"Man", Some(7)),
+    );
+    for (line, error) in NO_WRITES {
+        match asked_in_batch(rt.alloc(), line) {
+            Ok(_) => holds(&rt, line, false),
+            Err(found) => holds(&rt, line, found == *error),
+        }
+    }
+    Ok(())
 }
 
 fn asks<R: Abort>(

@@ -62,6 +62,10 @@ abbrev pub key_items : List (List ℕ) → Items
 key_items [] = no_items
 key_items (key ∷ keys) = item (string key) (key_items keys)
 
+abbrev pub number_items : List ℕ → Items
+number_items [] = no_items
+number_items (n ∷ ns) = item (number (unsigned n)) (number_items ns)
+
 abbrev pub watch_field : ℕ → Members
 watch_field watch = number_field (codes "watch") watch no_members
 
@@ -117,6 +121,10 @@ detail_fields error more = more
 
 abbrev pub refusal_fields : KvError → Members → Members
 refusal_fields error more = plain_fields error (detail_fields error more)
+
+-- a refusal, and in front of it the place that it tells of
+abbrev pub placed_fields : ℕ → KvError → Members
+placed_fields place error = number_field (codes "at") place (refusal_fields error no_members)
 
 abbrev pub list_fields : List ℕ → Items → Members
 list_fields name items = member name (array items) no_members

@@ -1,5 +1,5 @@
--- The JSON of entries, of histories and of keys, as they are shown, for clauses of this crate alone.
-use Rattle.std.specs.Prelude.{ℕ, List, map, codes, Option, Some, None}
+-- The JSON of entries, of histories, of keys and of revisions, as they are shown, for clauses of this crate alone.
+use Rattle.std.specs.Prelude.{ℕ, ◌-◌, List, map, codes, Option, Some, None}
 use Rattle.std.specs.Borrow.{Bor}
 use Rattle.std.specs.Option.{option_copied}
 use Rattle.serde_json.specs.Data.{Data, object, Items, Members, no_members}
@@ -7,7 +7,8 @@ use Rattle.kv_model.specs.State.{read_entry}
 use Rattle.kv_model.specs.declared.write.Write.{Write}
 use Rattle.kv_script.specs.declared.form.Form.{Form}
 use Rattle.kv_script.specs.declared.answering.shown.Shown.{Shown}
-use Rattle.kv_script.specs.inside.Fields.{entry_fields, entry_items, head_fields, key_items, list_fields, parts_entry, watch_field}
+use Rattle.kv_script.specs.Text.{revisions_behind}
+use Rattle.kv_script.specs.inside.Fields.{entry_fields, entry_items, head_fields, key_items, list_fields, number_items, parts_entry, watch_field}
 
 abbrev pub head_of : Shown → Members → Members
 head_of shown = head_fields shown.key.now shown.op shown.revision shown.size
@@ -39,3 +40,10 @@ listed_keys keys = key_items (map (λ key. key.now) keys)
 
 abbrev pub keys_object : List (Bor (List ℕ)) → Data
 keys_object keys = object (list_fields (codes "keys") (listed_keys keys))
+
+-- the revisions behind one, up to another
+abbrev pub listed_revisions : ℕ → ℕ → Items
+listed_revisions before last = number_items (revisions_behind before (last - before))
+
+abbrev pub revisions_object : ℕ → ℕ → Data
+revisions_object before last = object (list_fields (codes "revisions") (listed_revisions before last))

@@ -1,11 +1,11 @@
 //! Refusals.
 
-ghost use Rattle.std.specs.Prelude.{◌≡◌, ◌++◌, OnOk, OnErr};
+ghost use Rattle.std.specs.Prelude.{◌≡◌, ◌++◌, OnOk, OnErr, codes};
 ghost use Rattle.serde_json.specs.Data.{object, no_members};
 ghost use Rattle.serde_json.specs.Written.{compact_text};
-ghost use Rattle.kv_script.specs.inside.Fields.{number_field, worker_field, plain_fields, refusal_fields};
+ghost use Rattle.kv_script.specs.inside.Fields.{number_field, worker_field, placed_fields, plain_fields, refusal_fields};
 ghost use Rattle.kv_script.specs.Line.{line};
-ghost use Rattle.kv_script.specs.Text.{refusal_text, worker_refusal_text};
+ghost use Rattle.kv_script.specs.Text.{batch_refusal_text, refusal_text, worker_refusal_text};
 
 use crate::answering::field::{Field, append_object};
 use kv_keys::KvError;
@@ -133,4 +133,87 @@ pub fn append_worker_refusal(
     ensures err { OnErr result (out.new.items ≡ out.old.items) }
 {
     append_said_of_worker(alloc, out, worker, error)
+}
+
+fn append_carrying_at(
+    alloc: Global,
+    out: &mut Vec<u8>,
+    place: u64,
+    error: KvError,
+    name: &str,
+    n: u64,
+) -> Result<(), AllocError>
+    ensures ok { OnOk result (out.new.items
+        ≡ out.old.items ++ line (compact_text (object (number_field (codes "at") place
+        (plain_fields error (number_field name.now n no_members)))))) }
+    ensures err { OnErr result (out.new.items ≡ out.old.items) }
+{
+    append_object(
+        alloc,
+        out,
+        &[
+            Field::Number("at", place),
+            Field::Number("code", error.code()),
+            Field::Text("error", error.name()),
+            Field::Number(name, n),
+        ],
+    )
+}
+
+fn append_plain_at(
+    alloc: Global,
+    out: &mut Vec<u8>,
+    place: u64,
+    error: KvError,
+) -> Result<(), AllocError>
+    ensures ok { OnOk result (out.new.items
+        ≡ out.old.items ++ line (compact_text (object (number_field (codes "at") place
+        (plain_fields error no_members))))) }
+    ensures err { OnErr result (out.new.items ≡ out.old.items) }
+{
+    append_object(
+        alloc,
+        out,
+        &[
+            Field::Number("at", place),
+            Field::Number("code", error.code()),
+            Field::Text("error", error.name()),
+        ],
+    )
+}
+
+fn append_said_at(
+    alloc: Global,
+    out: &mut Vec<u8>,
+    place: u64,
+    error: KvError,
+) -> Result<(), AllocError>
+    ensures ok { OnOk result (out.new.items
+        ≡ out.old.items ++ line (compact_text (object (placed_fields place error)))) }
+    ensures err { OnErr result (out.new.items ≡ out.old.items) }
+{
+    match error {
+        KvError::WrongLastRevision { last } => {
+            append_carrying_at(alloc, out, place, error, "last", last)
+        }
+        KvError::WatchBehind { watch } => {
+            append_carrying_at(alloc, out, place, error, "watch", watch)
+        }
+        KvError::Lagged { floor } => append_carrying_at(alloc, out, place, error, "floor", floor),
+        _ => append_plain_at(alloc, out, place, error),
+    }
+}
+
+/// A batch that is refused for one of its lines, by the place of that line, from 1.
+#[tactic(auto, using(crate::proofs::Lines::batch_refusal_line))]
+pub fn append_batch_refusal(
+    alloc: Global,
+    out: &mut Vec<u8>,
+    place: u64,
+    error: KvError,
+) -> Result<(), AllocError>
+    ensures ok { OnOk result (out.new.items ≡ out.old.items ++ batch_refusal_text place error) }
+    ensures err { OnErr result (out.new.items ≡ out.old.items) }
+{
+    append_said_at(alloc, out, place, error)
 }

@@ -30,4 +30,6 @@ pub enum Command {
     Compact(u64),
     /// The place of a key in a hash trie.
     Place(Key),
+    /// `batch`: the writes of so many lines, in one step.
+    Batch(u64),
 }

@@ -4,7 +4,7 @@ ghost use Rattle.std.specs.Prelude.{◌≡◌};
 ghost use Rattle.std.specs.Io.BufRead.{strip_last};
 ghost use Rattle.std.specs.List.{list_all};
 ghost use Rattle.kv_keys.specs.Grammar.{is_present};
-ghost use Rattle.kv_script.specs.Commands.{Gives, texts, is_skipped, named_command, words_command, present_words_command, text_command, command_in, line_command};
+ghost use Rattle.kv_script.specs.Commands.{Gives, GivesWrite, texts, is_skipped, names_write, line_write, named_command, words_command, present_words_command, text_command, command_in, line_command};
 ghost use Rattle.kv_script.specs.Words.{words_of};
 
 use crate::form::Form;
@@ -13,6 +13,7 @@ use crate::parsing::in_text::text_command;
 use crate::parsing::words::split_word;
 use crate::parsing::{reads, watches, writes};
 use kv_keys::KvError;
+use kv_model::Request;
 use std::alloc::Global;
 use std::str;
 
@@ -59,6 +60,7 @@ fn named_command(alloc: Global, name: &str, arguments: &[&str]) -> Result<Comman
         "seal" => writes::seal_command(arguments),
         "compact" => writes::compact_command(arguments),
         "place" => reads::place_command(alloc, arguments),
+        "batch" => writes::batch_command(arguments),
         _ => Err(KvError::BadCommand),
     }
 }
@@ -138,4 +140,31 @@ pub fn parse(alloc: Global, form: Form, line: &[u8]) -> Result<Command, KvError>
         return Err(KvError::BadCommand);
     };
     command_in(alloc, form, text)
+}
+
+/// Whether a line begins with the word of a write, and a space.
+fn names_write(line: &[u8]) -> bool
+    ensures { result ≡ names_write line.now }
+{
+    line.starts_with(b"put ")
+        || line.starts_with(b"create ")
+        || line.starts_with(b"update ")
+        || line.starts_with(b"delete ")
+        || line.starts_with(b"purge ")
+}
+
+/// Reads a line of a batch, without its end, that is not to be skipped. One that names no write is BadCommand there,
+/// whatever follows its first word.
+#[tactic(auto, unfolding(crate::specs::Commands::line_write))]
+pub fn parse_write(alloc: Global, form: Form, line: &[u8]) -> Result<Request, KvError>
+    ensures { GivesWrite result (line_write form line.now) }
+{
+    if !names_write(line) {
+        return Err(KvError::BadCommand);
+    }
+    match parse(alloc, form, line) {
+        Ok(Command::Write(request)) => Ok(request),
+        Ok(_) => Err(KvError::BadCommand),
+        Err(error) => Err(error),
+    }
 }

@@ -1,8 +1,8 @@
-//! Commands that write, and those that seal and compact.
+//! Commands that write, alone or several in one step, and those that seal and compact.
 
 ghost use Rattle.std.specs.Prelude.{◌≡◌};
 ghost use Rattle.kv_model.specs.Requests.{put, create, delete, purge};
-ghost use Rattle.kv_script.specs.Commands.{Gives, Compact, Seal, texts, put_command, update_command, delete_command, lone_command, number_command};
+ghost use Rattle.kv_script.specs.Commands.{Gives, Batch, Compact, Seal, texts, put_command, update_command, delete_command, lone_command, number_command};
 
 use crate::parsing::command::Command;
 use crate::parsing::numbers::{number_of, optional_number};
@@ -104,6 +104,19 @@ pub(crate) fn compact_command(arguments: &[&str]) -> Result<Command, KvError>
     };
     match number_of(floor) {
         Some(floor) => Ok(Command::Compact(floor)),
+        None => Err(KvError::BadCommand),
+    }
+}
+
+/// `batch N`
+pub(crate) fn batch_command(arguments: &[&str]) -> Result<Command, KvError>
+    ensures { Gives result (number_command Batch (texts arguments.now)) }
+{
+    let [count] = *arguments else {
+        return Err(KvError::BadCommand);
+    };
+    match number_of(count) {
+        Some(count) => Ok(Command::Batch(count)),
         None => Err(KvError::BadCommand),
     }
 }

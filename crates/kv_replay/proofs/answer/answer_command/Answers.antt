@@ -61,3 +61,6 @@ returns-in-Keys-clause-ok c = rw c.in-Keys.is (on_ok_weaker c.answer_keys.result
 
 pub returns-in-Status-clause-ok : goal.returns-in-Status-clause-ok
 returns-in-Status-clause-ok c = rw c.in-Status.is (on_ok_weaker c.answer_status.result (λ all state r. does_once state state _ _ _ _ (all c.args.form state r) r) c.answer_status.ensures.ok)
+
+pub returns-in-Batch-clause-err : goal.returns-in-Batch-clause-err
+returns-in-Batch-clause-err c = on_err_weaker c.answer_refusal.result (λ same state r. ends_at_once state _ _ _ _ same r) c.answer_refusal.ensures.err

@@ -1,6 +1,6 @@
 use Rattle.std.proofs.Common.{Err, ap}
 use Rattle.std.proofs.lemmas.Result.{on_ok_weaker}
-use Rattle.kv_replay.specs.Text.{line_text, line_next}
+use Rattle.kv_replay.specs.Sessions.{line_text, line_next}
 use Rattle.kv_replay.specs.inside.Reading.{said}
 use Rattle.kv_replay.specs.declared.lines.TheConstants.{KEPT_BYTES}
 use Rattle.kv_replay.proofs.Pours.{poured_all, poured_front, poured_front_part, poured_part}

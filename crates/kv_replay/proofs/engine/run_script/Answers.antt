@@ -5,8 +5,9 @@ use Rattle.kv_single.specs.Held.{Represents}
 use Rattle.kv_model.specs.State.{empty}
 use Rattle.kv_keys.specs.declared.error.KvError.TheVariants.{OutOfMemory}
 use Rattle.kv_replay.specs.Faults.{EndsRun}
+use Rattle.kv_replay.specs.Sessions.{fresh}
 use Rattle.kv_replay.specs.inside.Reading.{beginning}
-use Rattle.kv_replay.specs.inside.Scripted.{Holds}
+use Rattle.kv_replay.specs.inside.Scripted.{Holds, Stands}
 use Rattle.kv_replay.proofs.Ending.{ends_opening, ends_run, handed_on, nothing_done, on_ok}
 use Rattle.kv_replay.proofs.engine.run_script.Goals as goal
 use Rattle.kv_model.specs.Configuration.{configure}
@@ -30,8 +31,11 @@ pub returns-clause-ran : goal.returns-clause-ran
 returns-clause-ran g c =
     let config = c.args.config.now in
     let legal : configure config ≡ Ok config = search rules in
-    let holding : Holds (beginning (empty config)) c.new-script.result = record {
-      bucket = subst (Represents (empty config)) (sym c.new-script.ensures.bucket) c.in_ok-bucket.ensures.ok;
+    let holding : Holds (beginning (fresh config)) c.new-script.result = record {
+      session = subst (Stands (fresh config)) (sym c.new-script.ensures.session) (record {
+        bucket = subst (Represents (empty config)) (sym c.new.ensures.bucket) c.in_ok-bucket.ensures.ok;
+        batch = c.new.ensures.batch;
+      });
       line = c.new-script.ensures.line;
     } in
     record {

@@ -1,5 +1,5 @@
 use Rattle.std.proofs.Common.{◌≤◌, length}
-use Rattle.kv_model.specs.State.{State}
+use Rattle.kv_replay.specs.Sessions.{Session}
 use Rattle.kv_replay.specs.inside.Reading.{Reading}
 use Rattle.kv_replay.specs.inside.Scripted.{Holds}
 use Rattle.kv_replay.proofs.TakingLines.{Took}
@@ -9,7 +9,7 @@ use Rattle.kv_replay.proofs.lines.Script.take_bytes.Given as goal
 abbrev pub invariant-lines : goal.invariant-lines
 invariant-lines g l = record {
   same : g.K.Output.goes_on l.initial.sink l.sink;
-  took : (r : Reading State) → Holds r l.initial.self
+  took : (r : Reading Session) → Holds r l.initial.self
       → Took l.form r l.bytes (g.K.Output.held l.initial.sink) l.initial.out.items (g.K.Output.held l.sink) l.out.items l.self l.left;
   shorter : length l.left ≤ length l.bytes;
 }

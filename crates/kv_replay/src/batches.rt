@@ -1,0 +1,134 @@
+//! Answers to batches.
+
+ghost use Rattle.std.specs.Prelude.{◌≡◌, ◌≢◌, ◌<◌, ◌+◌, ◌++◌, [], Err, OnOk, OnErr, IfErr, IsErrOf, length, map};
+ghost use Rattle.kv_single.specs.Held.{Represents};
+ghost use Rattle.kv_model.specs.Batches.{accept_all, after_batch};
+ghost use Rattle.kv_model.specs.Requests.{asked};
+ghost use Rattle.kv_model.specs.State.{State};
+ghost use Rattle.kv_keys.specs.declared.error.KvError.TheVariants.{OutOfMemory};
+ghost use Rattle.kv_script.specs.Text.{batch_refusal_text};
+ghost use Rattle.kv_replay.specs.Batches.{outcome, outcome_text};
+ghost use Rattle.kv_replay.specs.Faults.{IsWriteOrMemory};
+ghost use Rattle.kv_replay.specs.inside.Written.{Pours, Puts};
+
+use crate::batch::Batch;
+use crate::output::Output;
+use crate::pouring::pour_many;
+use kv_keys::KvError;
+use kv_script::{append_batch_refusal, append_revisions};
+use kv_single::{Bucket, Request};
+use std::alloc::Global;
+
+/// The place from 1 of the request at a place from 0 of so many.
+fn place_of(at: usize, count: usize) -> u64
+    ensures { at < count → result ≡ at + 1 }
+{
+    if at < count { at as u64 + 1 } else { 0 }
+}
+
+/// A batch that the bucket refused, by the place of its line from 1.
+fn answer_refused(
+    alloc: Global,
+    place: u64,
+    error: KvError,
+    out: &mut Vec<u8>,
+) -> Result<(), KvError>
+    ensures cause { OnOk result (error ≢ OutOfMemory) }
+    ensures ok { OnOk result (out.new.items ≡ out.old.items ++ batch_refusal_text place error) }
+    ensures err { OnErr result (out.new.items ≡ out.old.items) }
+    ensures memory { IfErr result (λ e. e ≡ OutOfMemory) }
+{
+    match error {
+        KvError::OutOfMemory => Err(KvError::OutOfMemory),
+        other => {
+            append_batch_refusal(alloc, out, place, other)?;
+            Ok(())
+        }
+    }
+}
+
+/// Does all that is asked in one step, or nothing. After want of memory nothing was appended.
+fn answer_requests(
+    alloc: Global,
+    bucket: &mut Bucket,
+    requests: &[Request],
+    out: &mut Vec<u8>,
+) -> Result<(), KvError>
+    ensures ok { OnOk result ((state : State) → Represents state bucket.old →
+        (out.new.items
+        ≡ out.old.items ++ outcome_text (accept_all state.config (map asked requests.now) state.acts))
+        × Represents (after_batch state (accept_all state.config (map asked requests.now) state.acts)) bucket.new) }
+    ensures err { OnErr result (out.new.items ≡ out.old.items) }
+    ensures memory { IfErr result (λ e. e ≡ OutOfMemory) }
+{
+    let before = bucket.version().revision();
+    match bucket.write_all(requests) {
+        Ok(_) => {
+            append_revisions(alloc, out, before, bucket.version().revision())?;
+            Ok(())
+        }
+        Err(refused) => {
+            let place = place_of(refused.at, requests.len());
+            answer_refused(alloc, place, refused.error, out)
+        }
+    }
+}
+
+/// A batch that is refused for a line that asks for no write, behind so many that do.
+fn answer_unread(
+    alloc: Global,
+    before: &[Request],
+    error: KvError,
+    out: &mut Vec<u8>,
+) -> Result<(), KvError>
+    ensures ok { OnOk result (out.new.items
+        ≡ out.old.items ++ outcome_text (Err (record { at = length before.now; error = error }))) }
+    ensures err { OnErr result (out.new.items ≡ out.old.items) }
+    ensures memory { IfErr result (λ e. e ≡ OutOfMemory) }
+{
+    append_batch_refusal(alloc, out, before.len() as u64 + 1, error)?;
+    Ok(())
+}
+
+/// Ends a batch: does what its lines ask for. After want of memory nothing was appended.
+fn answer_batch(
+    alloc: Global,
+    bucket: &mut Bucket,
+    batch: &Batch,
+    out: &mut Vec<u8>,
+) -> Result<(), KvError>
+    ensures ok { OnOk result ((state : State) → Represents state bucket.old →
+        (out.new.items ≡ out.old.items ++ outcome_text (outcome state batch.now.asked))
+        × Represents (after_batch state (outcome state batch.now.asked)) bucket.new) }
+    ensures err { OnErr result (out.new.items ≡ out.old.items) }
+    ensures memory { IfErr result (λ e. e ≡ OutOfMemory) }
+{
+    match batch.asked() {
+        (requests, None) => answer_requests(alloc, bucket, requests, out),
+        (before, Some(error)) => answer_unread(alloc, before, error, out),
+    }
+}
+
+/// Ends a batch. Its answer waits behind others, and is written where they are many.
+pub(crate) fn pour_batch<K: Output>(
+    alloc: Global,
+    bucket: &mut Bucket,
+    batch: &Batch,
+    out: &mut Vec<u8>,
+    sink: &mut K,
+) -> Result<(), KvError>
+    ensures same { K.goes_on sink.old sink.new }
+    ensures ok { OnOk result ((state : State) → Represents state bucket.old →
+        Pours (outcome_text (outcome state batch.now.asked)) (K.held sink.old) out.old.items
+        (K.held sink.new) out.new.items
+        × Represents (after_batch state (outcome state batch.now.asked)) bucket.new) }
+    ensures write_fault { IsErrOf result KvError.WriteFault →
+        K.failed_between sink.old sink.new × ((state : State) → Represents state bucket.old →
+        Puts (out.old.items ++ outcome_text (outcome state batch.now.asked)) (K.held sink.old) (K.held sink.new)) }
+    ensures memory { IsErrOf result KvError.OutOfMemory →
+        Pours [] (K.held sink.old) out.old.items (K.held sink.new) out.new.items }
+    ensures fault { IfErr result IsWriteOrMemory }
+{
+    answer_batch(alloc, bucket, batch, out)?;
+    pour_many(out, sink)
+}
