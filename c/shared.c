@@ -360,6 +360,22 @@ uint64_t kv_shared_purge(kv_shared *shared, const uint8_t *key, size_t key_size,
                                  revision);
 }
 
+/* A batch of no writes is no act: nothing is published. */
+uint64_t kv_shared_write_all(kv_shared *shared, kv_batch *batch, uint64_t *revision, size_t *at) {
+    struct core *core = enter_to_act(shared);
+    size_t size = 0;
+    uint64_t code;
+    if (!core)
+        return KV_CLOSED;
+    code = kv_batch_size(batch, &size);
+    if (code == KV_OK)
+        code = kv_batch_write(&core->bucket, batch, revision, at);
+    if (code != KV_OK || size == 0)
+        return leave(shared, core, code);
+    core->last = *revision + size - 1;
+    return leave_published(shared, core, KV_OK);
+}
+
 uint64_t kv_shared_seal(kv_shared *shared) {
     struct core *core = enter_to_act(shared);
     return !core ? KV_CLOSED : leave_published(shared, core, kv_seal(&core->bucket));

@@ -2,7 +2,7 @@
 //
 // The names are those of nats.go's KeyValue and KeyWatcher, so that code written for a bucket of NATS runs on this one. A watch is
 // handed the entries of the moment when it was opened, a nil entry, and then each later matching change once and in order, however
-// slowly it is read. The rules are those of docs/rules.md.
+// slowly it is read. The rules are those of docs/semantics.md.
 package vilgoued
 
 import "runtime"

@@ -41,6 +41,29 @@ static vg_told vg_delete(uintptr_t at, _GoString_ key, _Bool has_last, uint64_t 
 static vg_told vg_purge(uintptr_t at, _GoString_ key, _Bool has_last, uint64_t last) {
     TOLD(kv_shared_purge(SHARED, BYTES(key), has_last, last, &told.number));
 }
+
+// Writes that are gathered.
+enum { PUTS, CREATES, UPDATES, DELETES, PURGES };
+static void vg_batch_close(uintptr_t at) { kv_batch_close((kv_batch *)at); }
+static uint64_t vg_gather(uintptr_t batch, int kind, _GoString_ key, _GoString_ value, _Bool has_last, uint64_t last) {
+    kv_batch *to = (kv_batch *)batch;
+    switch (kind) {
+    case PUTS:
+        return kv_batch_put(to, BYTES(key), BYTES(value));
+    case CREATES:
+        return kv_batch_create(to, BYTES(key), BYTES(value));
+    case UPDATES:
+        return kv_batch_update(to, BYTES(key), BYTES(value), last);
+    case DELETES:
+        return kv_batch_delete(to, BYTES(key), has_last, last);
+    default:
+        return kv_batch_purge(to, BYTES(key), has_last, last);
+    }
+}
+static vg_told vg_write_all(uintptr_t at, uintptr_t batch) {
+    TOLD(kv_shared_write_all(SHARED, (kv_batch *)batch, &told.number, &told.size));
+}
+
 static vg_told vg_seal(uintptr_t at) { TOLD(kv_shared_seal(SHARED)); }
 static vg_told vg_compact(uintptr_t at, uint64_t floor) { TOLD(kv_shared_compact(SHARED, floor, &told.number)); }
 static vg_told vg_reach(uintptr_t at) { TOLD(kv_shared_reach(SHARED, &told.number)); }
@@ -130,6 +153,15 @@ const (
 	ofView   = C.OF_VIEW
 )
 
+// The kinds of writes in a batch, in the same way.
+const (
+	batchPut    = C.PUTS
+	batchCreate = C.CREATES
+	batchUpdate = C.UPDATES
+	batchDelete = C.DELETES
+	batchPurge  = C.PURGES
+)
+
 // What is read, by its number.
 func ofHandle(of int32) C.int { return C.int(of) }
 
@@ -162,6 +194,7 @@ func closeBucket(at C.uintptr_t)   { C.vg_close(at) }
 func closeView(at C.uintptr_t)     { C.vg_view_close(at) }
 func closeReader(at C.uintptr_t)   { C.vg_reader_close(at) }
 func closeFollower(at C.uintptr_t) { C.vg_follower_close(at) }
+func closeBatch(at C.uintptr_t)    { C.vg_batch_close(at) }
 
 // The bytes as a text that is used during one call, while they stay.
 func text(value []byte) string {
@@ -344,6 +377,36 @@ func (h *handle) delete(key string, opts deleteOpts) (uint64, error) {
 
 func (h *handle) purge(key string, opts deleteOpts) (uint64, error) {
 	return written(h, C.vg_purge(h.at, key, C.bool(opts.hasLast), C.uint64_t(opts.last)))
+}
+
+// Gathers all these writes, and makes them in one step.
+func (h *handle) writeAll(writes []batchedWrite) (uint64, error) {
+	batch, err := newHandle(closeBatch)
+	if err != nil {
+		return 0, err
+	}
+	defer runtime.KeepAlive(h)
+	defer closeBatch(batch.at)
+	for at, it := range writes {
+		code := C.vg_gather(batch.at, C.int(it.kind), it.key, it.value, C.bool(it.hasLast), C.uint64_t(it.last))
+		if code != 0 {
+			return 0, h.refusedAt(at, refusal(code, 0))
+		}
+	}
+	told := C.vg_write_all(h.at, batch.at)
+	runtime.KeepAlive(batch)
+	if told.code != 0 {
+		return 0, h.refusedAt(int(told.size), refusal(told.code, told.number))
+	}
+	return uint64(told.number), nil
+}
+
+// The refusal of a write of a batch. That the bucket is closed comes before every other one.
+func (h *handle) refusedAt(at int, err error) error {
+	if C.vg_get_status(ofBucket, h.at).code != 0 {
+		return ErrClosed
+	}
+	return BatchRefused{At: at, Err: err}
 }
 
 func (h *handle) seal() error {

@@ -6,7 +6,7 @@
  *
  * Each function that returns a number returns KV_OK or why it was refused. A refused call leaves the bucket as it was,
  * and copies nothing. What it would have told it leaves as it was too, but for what is said here of
- * KV_WRONG_LAST_REVISION, KV_WATCH_BEHIND, KV_LAGGED and KV_TOO_LITTLE_ROOM.
+ * KV_WRONG_LAST_REVISION, KV_WATCH_BEHIND, KV_LAGGED, KV_TOO_LITTLE_ROOM and the place of kv_batch_write.
  */
 #ifndef VILGOUED_H
 #define VILGOUED_H
@@ -68,6 +68,13 @@ typedef struct kv_feed {
     void *at;
 } kv_feed;
 
+/* Writes that are gathered, to be made in one step. With all bytes 0 it is empty: nothing opens it. It may be gathered on
+ * another thread than the bucket's. */
+typedef struct kv_batch {
+    bool is_open;
+    void *at;
+} kv_batch;
+
 typedef struct kv_limits {
     uint64_t history;        /* 1 to 64 entries of each key are kept */
     uint64_t value_limit;    /* 0 to 1,048,576 bytes of a value */
@@ -112,6 +119,27 @@ uint64_t kv_delete(kv_bucket *bucket, const uint8_t *key, size_t key_size, bool 
 uint64_t kv_purge(kv_bucket *bucket, const uint8_t *key, size_t key_size, bool has_last, uint64_t last,
                   uint64_t *revision);
 uint64_t kv_seal(kv_bucket *bucket);
+
+/* Gathers a write behind those that are gathered. The key and the value are copied. KV_BAD_KEY, or KV_VALUE_TOO_LARGE
+ * above 1,048,576 bytes, where no bucket would accept it; the other refusals come from kv_batch_write. */
+uint64_t kv_batch_put(kv_batch *batch, const uint8_t *key, size_t key_size, const uint8_t *value, size_t value_size);
+uint64_t kv_batch_create(kv_batch *batch, const uint8_t *key, size_t key_size, const uint8_t *value, size_t value_size);
+uint64_t kv_batch_update(kv_batch *batch, const uint8_t *key, size_t key_size, const uint8_t *value, size_t value_size,
+                         uint64_t last);
+uint64_t kv_batch_delete(kv_batch *batch, const uint8_t *key, size_t key_size, bool has_last, uint64_t last);
+uint64_t kv_batch_purge(kv_batch *batch, const uint8_t *key, size_t key_size, bool has_last, uint64_t last);
+/* *size tells how many writes are gathered. */
+uint64_t kv_batch_size(kv_batch *batch, size_t *size);
+/* Makes all that is gathered in one step, or nothing of it: each write is judged behind those before it, so an update
+ * may name the revision of an earlier one. *revision is that of the first write, and the others have those from there
+ * on; where nothing is gathered it is the bucket's last one. Then the batch is empty.
+ *
+ * Where one is refused, with the code that it has as a single write, the bucket and the batch are as they were, and *at
+ * is the place of that write, from 0. It is told with each code but KV_CLOSED, and else stays as it was. With
+ * KV_WRONG_LAST_REVISION, *revision is the last revision of its key, those before it in the batch counted. */
+uint64_t kv_batch_write(kv_bucket *bucket, kv_batch *batch, uint64_t *revision, size_t *at);
+/* Empties the batch. */
+void kv_batch_close(kv_batch *batch);
 
 /* Compacts to a floor: of the writes at or below it only the retained ones stay stored. KV_BAD_FLOOR where the floor is
  * 0, above the last revision, or below the floor so far; else KV_WATCH_BEHIND where a watch has still to be handed an

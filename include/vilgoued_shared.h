@@ -81,6 +81,11 @@ uint64_t kv_shared_purge(kv_shared *shared, const uint8_t *key, size_t key_size,
                          uint64_t *revision);
 uint64_t kv_shared_seal(kv_shared *shared);
 
+/* Makes all that is gathered in a batch in one step, or nothing of it, as kv_batch_write. It is published in one step
+ * too: a reader's next call reads all of it, and no reader, follower or view ends between two of its writes. It holds
+ * the mutex for as long as all its writes take. Any thread; one call at a time uses the batch. */
+uint64_t kv_shared_write_all(kv_shared *shared, kv_batch *batch, uint64_t *revision, size_t *at);
+
 /* Compacts to a floor, as kv_compact, and publishes that. Any thread. It holds the mutex while it looks at each key
  * and at each stored write. Readers and followers refuse nothing: a follower that has gone on to no revision as high
  * as the floor lags from then on. */

@@ -395,6 +395,7 @@ def page(figures, load, machine, left_out, charts):
            "speaks of time or memory. Where no other is named, the maps, the lock and the channels are the kit's, and not those of Rust's "
            "library; Rust's own crates, which are faster at most of it, have tables of their own, by rustc's release build. Where there "
            "are more threads than processors, they share them.")
+    yield "- What a call takes from C, and what the packages for Rust and Go add, is [measured apart](layers.md)."
     yield ""
     yield "All figures are in [figures.tsv](figures.tsv), drawn by `scripts/charts.py` where matplotlib is there."
     for group, title, heading, how in GROUPS:

@@ -10,6 +10,7 @@
 Any thread may use a bucket. It stands on libvilgoued.so, which lies inside of this package or where VILGOUED_LIB names it.
 `vilgoued.nats` has the same bucket on a NATS server, and needs no library.
 """
+from ._batch import Batch
 from ._bucket import Bucket
 from ._items import MARKER, Entry, Item, Marker, Op, Status, Value
 from ._mirror import Mirror
@@ -23,7 +24,7 @@ from .refusals import (
 )
 
 __all__ = [
-    "Bucket", "Entry", "Feed", "Item", "MARKER", "Marker", "Mirror", "Op", "Snapshot", "Status",
+    "Batch", "Bucket", "Entry", "Feed", "Item", "MARKER", "Marker", "Mirror", "Op", "Snapshot", "Status",
     "Value", "Watch", "KvError", "OutOfMemory", "BadBucket", "BadConfig", "BadKey", "BadFilter",
     "OptionsClash", "ValueTooLarge", "Sealed", "JournalFull", "KeyExists", "WrongLastRevision",
     "KeyNotFound", "NoSuchWatch", "TooManyWatches", "BadFloor", "WatchBehind", "Lagged", "Closed",

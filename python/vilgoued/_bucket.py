@@ -6,6 +6,7 @@ from types import TracebackType
 from typing import Any, List, Optional, SupportsIndex, Type
 
 from ._arguments import Data, Name, data_of, name_of, number_of, options_of
+from ._batch import Batch
 from ._items import Entry
 from ._library import Function, Limits, check, give_back, library, room
 from ._mirror import Mirror
@@ -80,6 +81,11 @@ class Bucket(Reads):
 
     def __delitem__(self, key: Name) -> None:
         self.delete(key)
+
+    def batch(self) -> Batch:
+        """Gathers writes, and makes them in one step, or none of them: `with bucket.batch() as batch` makes them at the end of
+        its block. A watch is handed them one by one, and no read sees some of them without the others."""
+        return Batch(self)
 
     def seal(self) -> None:
         """Ends the writes."""

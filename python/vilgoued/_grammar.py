@@ -1,4 +1,4 @@
-"""The grammar of names (docs/rules.md), where no library looks at them."""
+"""The grammar of names (docs/semantics.md), where no library looks at them."""
 from __future__ import annotations
 
 import re

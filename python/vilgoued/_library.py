@@ -77,6 +77,7 @@ _FUNCTIONS: Dict[str, _Kinds] = {
     "kv_shared_update": [_AT, *_BYTES, *_BYTES, _NUMBER, _AT],
     "kv_shared_delete": [_AT, *_BYTES, _FLAG, _NUMBER, _AT],
     "kv_shared_purge": [_AT, *_BYTES, _FLAG, _NUMBER, _AT],
+    "kv_shared_write_all": [_AT, _AT, _AT, _AT],
     "kv_shared_seal": [_AT],
     "kv_shared_compact": [_AT, _NUMBER, _AT],
     "kv_shared_reach": [_AT, _AT],
@@ -88,6 +89,12 @@ _FUNCTIONS: Dict[str, _Kinds] = {
     "kv_follower_next": [_AT, _NUMBER, *_ROOM, *_ROOM, _AT, _AT],
     "kv_follower_fd": [_AT, _AT],
     "kv_follower_stop": [_AT],
+    "kv_batch_put": [_AT, *_BYTES, *_BYTES],
+    "kv_batch_create": [_AT, *_BYTES, *_BYTES],
+    "kv_batch_update": [_AT, *_BYTES, *_BYTES, _NUMBER],
+    "kv_batch_delete": [_AT, *_BYTES, _FLAG, _NUMBER],
+    "kv_batch_purge": [_AT, *_BYTES, _FLAG, _NUMBER],
+    "kv_batch_size": [_AT, _AT],
     "kv_snapshot": [_AT, _AT],
     "kv_feed_open": [_AT, *_BYTES, _AT, _AT],
     "kv_feed_refresh": [_AT, _AT, _AT],
@@ -96,7 +103,7 @@ _FUNCTIONS: Dict[str, _Kinds] = {
     **{"kv_shared_" + name: kinds for name, kinds in _READS.items()},
     **{"kv_view_" + name: kinds for name, kinds in _READS.items()},
 }
-_CLOSES = ("kv_shared_close", "kv_follower_close", "kv_view_close", "kv_feed_close")
+_CLOSES = ("kv_shared_close", "kv_follower_close", "kv_view_close", "kv_feed_close", "kv_batch_close")
 
 
 def _places() -> Iterator[str]:

@@ -84,7 +84,8 @@ class Bucket(Finds):
                 ("value_limit", value_limit, config["max_msg_size"]),
             ):
                 if asked not in (None, found):
-                    raise BadConfig(f"the bucket {self.name} is there, with {setting} {found} and not {asked}")
+                    raise BadConfig(f"the bucket {self.name} is there, with {setting} {found} and not {asked}: "
+                                    "leave that out, or name another bucket")
             self._history = config["max_msgs_per_subject"]
         except BaseException:
             self.close()
@@ -97,7 +98,7 @@ class Bucket(Finds):
             if error.code != _NO_STREAM:
                 raise
             if not make:
-                raise ServerError(f"there is no bucket {self.name}", error.code) from None
+                raise ServerError(f"there is no bucket {self.name}: name one that is there", error.code) from None
         made = self._api("STREAM.CREATE", {
             "name": self._stream,
             "subjects": [self._subject(">")],
@@ -126,7 +127,7 @@ class Bucket(Finds):
             raise Closed()
         head, answer = self._server.request(subject, headers, payload)
         if head.startswith(b"NATS/1.0 503"):
-            raise ServerError(f"nobody at {self._server.where} keeps buckets, or the bucket {self.name} is gone")
+            raise ServerError(f"nobody at {self._server.where} keeps buckets, or the bucket {self.name} is gone: nats-server -js keeps them")
         told: Dict[str, Any] = json.loads(answer)
         if "error" in told:
             raise ServerError(told["error"]["description"], told["error"]["err_code"])
@@ -312,17 +313,21 @@ class Bucket(Finds):
         """The keys that match and their values, as a mapping that keeps itself up to date. Each access asks the server."""
         return Mirror(self, filters)
 
+    def batch(self) -> Any:
+        """Is refused: a server makes each write by itself."""
+        raise NotImplementedError("a server has no batches")
+
     def snapshot(self) -> Any:
         """Is refused: a server has none."""
-        raise NotImplementedError("a server has no snapshots")
+        raise NotImplementedError("a server has no snapshots: get and keys read what is there now")
 
     def compact(self, floor: SupportsIndex) -> None:
         """Is refused: a server has no floors. What is no longer retained is gone there, with no call."""
-        raise NotImplementedError("a server has no floors")
+        raise NotImplementedError("a server has no floors: it frees by itself what the history leaves out")
 
     def reach(self) -> int:
         """Is refused in the same way."""
-        raise NotImplementedError("a server has no floors")
+        raise NotImplementedError("a server has no floors: it frees by itself what the history leaves out")
 
     def _wake(self) -> None:
         for bell in list(self._bells):

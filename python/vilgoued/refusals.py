@@ -1,4 +1,4 @@
-"""Why calls are refused: a class for each reason, with its code (docs/rules.md). A refused call leaves the bucket as it was."""
+"""Why calls are refused: a class for each reason, with its code (docs/semantics.md). A refused call leaves the bucket as it was."""
 from __future__ import annotations
 
 from typing import Dict, Optional, Type
@@ -32,83 +32,96 @@ __all__ = [
 
 
 class KvError(Exception):
-    """Why a call was refused."""
+    """Why a call was refused. Where that was a write of a batch, `at` is its place in the batch, from 0."""
 
     code: Optional[int] = None
+    at: Optional[int] = None
     _text = ""
 
-    def __str__(self) -> str:
+    def _tell(self) -> str:
         return super().__str__() or self._text
+
+    def __str__(self) -> str:
+        return self._tell() if self.at is None else f"{self._tell()} (write {self.at} of a batch)"
 
 
 class OutOfMemory(KvError):
     """Memory was refused. The call can be made again."""
 
     code = 1
-    _text = "a request for memory was refused"
+    _text = "a request for memory was refused: the bucket is as it was, and the call can be made again"
 
 
 class BadBucket(KvError):
     """The name is none of a bucket."""
 
     code = 2
-    _text = "a bucket's name has 1 to 64 letters, digits, _ and -"
+    _text = "a bucket's name has 1 to 64 letters, digits, _ and -: choose such a name"
 
 
 class BadConfig(KvError):
     """A number is outside its limits."""
 
     code = 3
-    _text = "a number is outside its limits"
+    _text = (
+        "a number is outside its limits: history is 1 to 64, value_limit at most 1048576, write_limit 1 to 1000000, "
+        "revision_limit 1 to 4294967295"
+    )
 
 
 class BadKey(KvError):
     """The text is no key."""
 
     code = 4
-    _text = "a key has 1 to 255 letters, digits and -/_= in tokens with a dot between two"
+    _text = "a key has 1 to 255 letters, digits and -/_= in tokens with a dot between two, none of which is empty"
 
 
 class BadFilter(KvError):
     """The text is no filter, or no list of filters."""
 
     code = 5
-    _text = "a filter is a key, in which * may stand for a token and > at the end for the rest"
+    _text = (
+        "a filter is a key, in which * may stand for a token and > at the end for the rest; a list has 1 to 16 of them, "
+        "with a comma between two"
+    )
 
 
 class OptionsClash(KvError):
     """Two of `history`, `updates` and `since`."""
 
     code = 6
-    _text = "two of history, updates and since"
+    _text = "two of history, updates and since: a watch begins with one of them"
 
 
 class ValueTooLarge(KvError):
     """The value is longer than `value_limit`."""
 
     code = 7
-    _text = "the value is longer than value_limit"
+    _text = "the value is longer than value_limit: write a shorter one, or open the bucket with a higher limit"
 
 
 class Sealed(KvError):
     """A write to a sealed bucket."""
 
     code = 8
-    _text = "the bucket is sealed"
+    _text = "the bucket is sealed: it takes no more writes, and can still be read"
 
 
 class JournalFull(KvError):
     """The bucket stores as many writes as it may, or gave its last revision."""
 
     code = 9
-    _text = "the stored writes reach write_limit, or the last revision revision_limit"
+    _text = (
+        "the stored writes reach write_limit: compact(reach()) frees those that were overwritten; "
+        "or the last revision reaches revision_limit, which ends the writes"
+    )
 
 
 class KeyExists(KvError):
     """A create of a key that has a value."""
 
     code = 10
-    _text = "the key has a value"
+    _text = "the key has a value: update it at its last revision, or put"
 
 
 class WrongLastRevision(KvError):
@@ -120,36 +133,38 @@ class WrongLastRevision(KvError):
         super().__init__(last)
         self.last = last
 
-    def __str__(self) -> str:
-        return f"the key's last revision is {self.last}"
+    def _tell(self) -> str:
+        return f"the key's last revision is {self.last}: read the key again, and give this one"
 
 
 class KeyNotFound(KvError):
     """There is no such entry."""
 
     code = 12
-    _text = "there is no such entry"
+    _text = "there is no such entry: the key has no value, or no longer the one of this revision"
 
 
 class NoSuchWatch(KvError):
     """The watch was stopped."""
 
     code = 13
-    _text = "the watch was stopped, or never opened"
+    _text = "the watch was stopped, or never opened: open another"
 
 
 class TooManyWatches(KvError):
     """64 watches are open, or all numbers were given."""
 
     code = 14
-    _text = "64 watches are open, or all numbers were given"
+    _text = "64 watches are open, or all numbers were given: stop one, or follow it"
 
 
 class BadFloor(KvError):
     """The floor is 0, above the last revision, or below the last compaction's."""
 
     code = 19
-    _text = "the floor is 0, above the last revision, or below the last compaction's"
+    _text = (
+        "the floor is 0, above the last revision, or below the last compaction's: reach() tells the highest that nobody refuses"
+    )
 
 
 class WatchBehind(KvError):
@@ -161,8 +176,11 @@ class WatchBehind(KvError):
         super().__init__(watch)
         self.watch = watch
 
-    def __str__(self) -> str:
-        return f"the watch {self.watch} has still to be handed an entry at or below the floor"
+    def _tell(self) -> str:
+        return (
+            f"the watch {self.watch} has still to be handed an entry at or below the floor: "
+            "take from it, stop it, or compact to reach()"
+        )
 
 
 class Lagged(KvError):
@@ -174,15 +192,15 @@ class Lagged(KvError):
         super().__init__(floor)
         self.floor = floor
 
-    def __str__(self) -> str:
-        return f"what follows lags behind a compaction, whose floor is {self.floor}"
+    def _tell(self) -> str:
+        return f"what follows lags behind a compaction, whose floor is {self.floor}: open a new watch, which begins with what there is"
 
 
 class Closed(KvError):
     """The bucket, the snapshot or the feed is closed."""
 
     code = 32
-    _text = "it is closed"
+    _text = "it is closed: open another"
 
 
 class TooLittleRoom(KvError):
@@ -210,14 +228,14 @@ class OlderView(KvError):
     """The snapshot has fewer writes than the one that the feed has gone on to."""
 
     code = 36
-    _text = "the snapshot is older than the one that the feed has gone on to"
+    _text = "the snapshot is older than the one that the feed has gone on to: take a newer one"
 
 
 class NoDescriptor(KvError):
     """The system gives no descriptor to wait on."""
 
     code = 64
-    _text = "the system gives no descriptor: too many files are open"
+    _text = "the system gives no descriptor: too many files are open; close some, or raise the limit (ulimit -n)"
 
 
 _CLASSES: Dict[int, Type[KvError]] = {
@@ -225,8 +243,9 @@ _CLASSES: Dict[int, Type[KvError]] = {
 }
 
 
-def refusal(code: int, number: int) -> KvError:
-    """The refusal of this code; the three that tell a number have this one."""
-    if code in (11, 20, 21):
-        return _CLASSES[code](number)
-    return _CLASSES[code]()
+def refusal(code: int, number: int, at: Optional[int] = None) -> KvError:
+    """The refusal of this code; the three that tell a number have this one. One of a batch has the place of its write."""
+    told = _CLASSES[code](number) if code in (11, 20, 21) else _CLASSES[code]()
+    if at is not None:
+        told.at = at
+    return told

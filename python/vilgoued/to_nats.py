@@ -46,7 +46,7 @@ def run(program: str, arguments: List[str], script: bytes) -> Tuple[List[Entry],
     """The retained entries of the bucket that a script makes, and its status."""
     done = subprocess.run([program, *arguments], input=script + b"\n" + tail(script), stdout=subprocess.PIPE)
     if done.returncode != 0:
-        raise Failed("the script was not run to its end, and nothing was written")
+        raise Failed("the script was not run to its end, and nothing was written: why stands above")
     answers: List[_Answer] = [json.loads(line) for line in done.stdout.splitlines()]
     watch = next((it["watch"] for it in reversed(answers) if list(it) == ["watch"]), None)
     if watch is None or "history" not in answers[-1]:
@@ -98,7 +98,8 @@ def main() -> None:
         with Bucket(asked.url, asked.name, status["history"]) as bucket:
             last = bucket.status().last
             if last > 0 and asked.after is None:
-                raise Failed("the bucket %s has had writes, up to revision %d, and nothing was written" % (asked.name, last))
+                raise Failed("the bucket %s has had writes, up to revision %d, and nothing was written: "
+                             "name an empty one, or go on with --after R" % (asked.name, last))
             entries = [entry for entry in entries if entry.revision > (asked.after or 0)]
             print(progress(entries, copy(entries, bucket)))
     except (Failed, KvError, OSError, ValueError) as error:

@@ -1,7 +1,8 @@
 //! A bucket.
 use crate::sys::{self, Shared};
-use crate::{Entry, Error, Follower, Limits, Options, Reader, Snapshot, Status, Watch};
+use crate::{BatchRefused, Entry, Error, Follower, Limits, Options, Reader, Snapshot, Status, Watch, Write};
 use std::fmt;
+use std::ops::Range;
 use std::sync::Arc;
 
 /// A bucket, which any number of threads use at once. It is freed where it is dropped or closed.
@@ -63,6 +64,26 @@ impl Bucket {
     /// The same, where `last` is the key's last revision. WrongLastRevision.
     pub fn purge_at(&self, key: &str, last: u64) -> Result<u64, Error> {
         self.shared.purge(key, Some(last))
+    }
+
+    /// Makes several writes in one step, or none of them, and answers their revisions, in their order. Each is judged behind
+    /// those before it, so an update may name the revision of an earlier one. No read sees some of them without the others; a
+    /// follower is handed them one by one, and then what is written later. Of no writes nothing is made, and the range is empty.
+    ///
+    /// Where one is refused, nothing has changed: the refusal has its place, and what it is refused with as a single write.
+    ///
+    /// ```
+    /// # use vilgoued::{BatchRefused, Bucket, Error, Limits, Write};
+    /// let bucket = Bucket::open("accounts", Limits::default())?;
+    /// assert_eq!(bucket.write_all(&[Write::put("anna", "40"), Write::put("berta", "60")])?, 1..3);
+    /// let moved = [Write::update("anna", "50", 1), Write::update("berta", "50", 1)];
+    /// let refused = bucket.write_all(&moved).unwrap_err();
+    /// assert_eq!(refused, BatchRefused { at: 1, error: Error::WrongLastRevision { last: 2 } });
+    /// assert_eq!(bucket.get("anna")?.unwrap().value(), Some(&b"40"[..]));
+    /// # Ok::<(), Error>(())
+    /// ```
+    pub fn write_all(&self, writes: &[Write<'_>]) -> Result<Range<u64>, BatchRefused> {
+        self.shared.write_all(writes)
     }
 
     /// Ends the writes.

@@ -20,7 +20,7 @@
 //! ```
 //!
 //! A watch is handed the entries of the moment when it was opened, the end marker, and then each later matching change once
-//! and in order, however slowly it is read. The rules are those of `docs/rules.md`, and so are the names of refusals.
+//! and in order, however slowly it is read. The rules are those of `docs/semantics.md`, and so are the names of refusals.
 //!
 //! | | goes to another thread | is used by several threads at once |
 //! |---|---|---|
@@ -32,6 +32,7 @@
 #![warn(missing_docs)]
 #![warn(clippy::undocumented_unsafe_blocks)]
 
+mod batch;
 mod bucket;
 mod entry;
 mod follower;
@@ -41,6 +42,7 @@ mod refusals;
 mod sys;
 mod watch;
 
+pub use batch::{BatchRefused, Write};
 pub use bucket::Bucket;
 pub use entry::{Entry, Item, Op, Status};
 pub use follower::{Follower, Stopper};

@@ -3,10 +3,11 @@
 #![allow(unsafe_code)]
 
 use crate::entry::Numbers;
-use crate::{Entry, Error, Item, Limits, Op, Options, Start, Status};
+use crate::{BatchRefused, Entry, Error, Item, Limits, Op, Options, Start, Status, Write};
 use std::cell::UnsafeCell;
 use std::marker::PhantomData;
 use std::mem::MaybeUninit;
+use std::ops::Range;
 use std::os::raw::{c_int, c_void};
 use std::os::unix::io::{BorrowedFd, RawFd};
 use std::ptr;
@@ -31,7 +32,7 @@ mod c {
         pub at: *mut c_void,
     }
 
-    /// kv_view, kv_reader and kv_follower.
+    /// kv_view, kv_reader, kv_follower and kv_batch.
     #[repr(C)]
     pub struct Handle {
         pub is_open: bool,
@@ -170,6 +171,20 @@ mod c {
             last: u64,
             revision: *mut u64,
         ) -> u64;
+        pub fn kv_shared_write_all(at: *mut Shared, batch: *mut Handle, revision: *mut u64, place: *mut usize) -> u64;
+        pub fn kv_batch_put(at: *mut Handle, key: *const u8, key_size: usize, value: *const u8, value_size: usize) -> u64;
+        pub fn kv_batch_create(at: *mut Handle, key: *const u8, key_size: usize, value: *const u8, value_size: usize) -> u64;
+        pub fn kv_batch_update(
+            at: *mut Handle,
+            key: *const u8,
+            key_size: usize,
+            value: *const u8,
+            value_size: usize,
+            last: u64,
+        ) -> u64;
+        pub fn kv_batch_delete(at: *mut Handle, key: *const u8, key_size: usize, has_last: bool, last: u64) -> u64;
+        pub fn kv_batch_purge(at: *mut Handle, key: *const u8, key_size: usize, has_last: bool, last: u64) -> u64;
+        pub fn kv_batch_close(at: *mut Handle);
         pub fn kv_shared_seal(at: *mut Shared) -> u64;
         pub fn kv_shared_compact(at: *mut Shared, floor: u64, watch: *mut u64) -> u64;
         pub fn kv_shared_reach(at: *mut Shared, floor: *mut u64) -> u64;
@@ -460,6 +475,23 @@ impl Shared {
         })
     }
 
+    pub fn write_all(&self, writes: &[Write<'_>]) -> Result<Range<u64>, BatchRefused> {
+        let mut batch = Batch(closed().into_inner());
+        for (at, write) in writes.iter().enumerate() {
+            if let Err(error) = batch.gather(write) {
+                // That the bucket is closed comes before every other refusal.
+                self.reads().status().map_err(|error| BatchRefused { at: 0, error })?;
+                return Err(BatchRefused { at, error });
+            }
+        }
+        let (mut revision, mut at) = (0, 0);
+        // SAFETY: the bucket may be used by any thread, the batch is ours, and so are the numbers.
+        let code = unsafe { c::kv_shared_write_all(self.at(), &mut batch.0, &mut revision, &mut at) };
+        check(code, revision).map_err(|error| BatchRefused { at, error })?;
+        let first = if writes.is_empty() { revision + 1 } else { revision };
+        Ok(first..first + writes.len() as u64)
+    }
+
     pub fn seal(&self) -> Result<(), Error> {
         // SAFETY: the handle may be used by any thread.
         check(unsafe { c::kv_shared_seal(self.at()) }, 0).map(drop)
@@ -567,6 +599,35 @@ impl Room {
         // SAFETY: the call that took the item copied so many bytes, which fit, and nothing has been copied since.
         let value = unsafe { slice::from_raw_parts(self.value.as_ptr(), item.value_size) };
         Entry::of(&self.key[..item.key_size], value, numbers_of(item))
+    }
+}
+
+/// Writes that are gathered for one call.
+struct Batch(c::Handle);
+
+impl Batch {
+    fn gather(&mut self, write: &Write<'_>) -> Result<(), Error> {
+        let at = &mut self.0;
+        // SAFETY: the handle is ours, and the others are borrows that last for the call, with their sizes.
+        let code = unsafe {
+            match *write {
+                Write::Put { key, value } => c::kv_batch_put(at, key.as_ptr(), key.len(), value.as_ptr(), value.len()),
+                Write::Create { key, value } => c::kv_batch_create(at, key.as_ptr(), key.len(), value.as_ptr(), value.len()),
+                Write::Update { key, value, last } => {
+                    c::kv_batch_update(at, key.as_ptr(), key.len(), value.as_ptr(), value.len(), last)
+                }
+                Write::Delete { key, last } => c::kv_batch_delete(at, key.as_ptr(), key.len(), last.is_some(), last.unwrap_or(0)),
+                Write::Purge { key, last } => c::kv_batch_purge(at, key.as_ptr(), key.len(), last.is_some(), last.unwrap_or(0)),
+            }
+        };
+        check(code, 0).map(drop)
+    }
+}
+
+impl Drop for Batch {
+    fn drop(&mut self) {
+        // SAFETY: nobody else has the handle. One that is empty stays so.
+        unsafe { c::kv_batch_close(&mut self.0) }
     }
 }
 

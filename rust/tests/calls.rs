@@ -1,6 +1,6 @@
 //! What calls answer.
 use std::time::{Duration, Instant};
-use vilgoued::{Bucket, Entry, Error, Item, Limits, Op, Options, Start};
+use vilgoued::{Bucket, Entry, Error, Item, Limits, Op, Options, Start, Write};
 
 fn shown(item: Item) -> String {
     item.into_entry().map_or("marker".to_owned(), |it| {
@@ -90,6 +90,40 @@ fn values_of_all_sizes_come_as_they_were_put() {
     assert!(handed == values);
     let kept: Vec<_> = bucket.history("a").unwrap().into_iter().map(|it| it.into_value().unwrap()).collect();
     assert!(kept == values);
+}
+
+#[test]
+fn a_batch_is_made_in_one_step_and_handed_out_write_by_write() {
+    let bucket = Bucket::open("settings", Limits::with_history(2)).unwrap();
+    assert_eq!(bucket.write_all(&[]), Ok(1..1));
+    let follower = bucket.follow(">", Options { start: Start::Updates, ..Options::default() }).unwrap();
+    let value = vec![56, 49];
+    let asked = [
+        Write::put("app.port", "80"),
+        Write::create("db", &[0, 1, 2]),
+        Write::update("app.port", &value, 1),
+        Write::delete("db"),
+        Write::purge_at("db", 4),
+        Write::delete_at("app.port", 3),
+        Write::purge("app.port"),
+        Write::create("app.port", ""),
+    ];
+    assert_eq!(bucket.write_all(&asked), Ok(1..9));
+    assert_eq!(
+        all(follower),
+        [
+            "app.port PUT 1 2 Some(\"80\")",
+            "db PUT 2 3 Some(\"\\0\\u{1}\\u{2}\")",
+            "app.port PUT 3 2 Some(\"81\")",
+            "db DEL 4 0 None",
+            "db PURGE 5 0 None",
+            "app.port DEL 6 0 None",
+            "app.port PURGE 7 0 None",
+            "app.port PUT 8 0 Some(\"\")",
+        ]
+    );
+    assert_eq!(bucket.write_all(&[]), Ok(9..9));
+    assert_eq!(bucket.status().unwrap().last, 8);
 }
 
 #[test]

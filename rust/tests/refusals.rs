@@ -1,6 +1,6 @@
 //! Each refusal, with its data; and that bad input changes nothing.
 use std::time::Duration;
-use vilgoued::{Bucket, Error, Item, Limits, Options, Start};
+use vilgoued::{BatchRefused, Bucket, Error, Item, Limits, Options, Start, Write};
 
 fn open() -> Bucket {
     Bucket::open("settings", Limits { value_limit: 8, ..Limits::default() }).unwrap()
@@ -92,6 +92,34 @@ fn another_last_revision_is_told() {
 }
 
 #[test]
+fn a_batch_is_refused_for_one_of_its_writes_and_changes_nothing() {
+    let bucket = open();
+    bucket.put("a", "1").unwrap();
+    let large = vec![0; (1 << 20) + 1];
+    for (writes, at, error) in [
+        ([Write::put("b", "2"), Write::create("b", "3")], 1, Error::KeyExists),
+        ([Write::update("a", "2", 7), Write::put("b", "3")], 0, Error::WrongLastRevision { last: 1 }),
+        ([Write::put("a", "2"), Write::update("a", "3", 1)], 1, Error::WrongLastRevision { last: 2 }),
+        ([Write::put("a", "2"), Write::delete_at("a", 1)], 1, Error::WrongLastRevision { last: 2 }),
+        ([Write::put("a", "2"), Write::purge_at("b", 1)], 1, Error::WrongLastRevision { last: 0 }),
+        ([Write::put("b", "2"), Write::put("b", "123456789")], 1, Error::ValueTooLarge),
+        ([Write::put("b", "2"), Write::create("b", &large)], 1, Error::ValueTooLarge),
+        ([Write::put("b", "2"), Write::delete("b..c")], 1, Error::BadKey),
+        ([Write::update("", "2", 1), Write::purge("b")], 0, Error::BadKey),
+    ] {
+        assert_eq!(bucket.write_all(&writes), Err(BatchRefused { at, error }));
+        assert_eq!(bucket.status().unwrap().last, 1);
+    }
+    let refused = BatchRefused { at: 1, error: Error::KeyExists };
+    assert_eq!(refused.to_string(), "the write 1 of a batch is refused");
+    assert_eq!(std::error::Error::source(&refused).unwrap().to_string(), "the key has a value");
+    assert_eq!(Error::from(refused), Error::KeyExists);
+    bucket.seal().unwrap();
+    assert_eq!(bucket.write_all(&[Write::put("a", "2")]), Err(BatchRefused { at: 0, error: Error::Sealed }));
+    assert_eq!(bucket.write_all(&[]), Ok(2..2));
+}
+
+#[test]
 fn what_is_not_there_is_none() {
     let bucket = open();
     bucket.put("a", "1").unwrap();
@@ -174,6 +202,9 @@ fn what_is_closed_is_told_so() {
     assert_eq!(bucket.update("a", "2", 1), Err(Error::Closed));
     assert_eq!(bucket.delete("a"), Err(Error::Closed));
     assert_eq!(bucket.purge("a"), Err(Error::Closed));
+    let closed = Err(BatchRefused { at: 0, error: Error::Closed });
+    assert_eq!(bucket.write_all(&[Write::put("a", "1"), Write::put("", "2")]), closed);
+    assert_eq!(bucket.write_all(&[]), closed);
     assert_eq!(bucket.get("a"), Err(Error::Closed));
     assert_eq!(bucket.get_at("a", 1), Err(Error::Closed));
     assert_eq!(bucket.keys(">"), Err(Error::Closed));

@@ -1,7 +1,7 @@
 //! Many threads at once.
 use std::collections::BTreeMap;
 use std::sync::atomic::{AtomicBool, Ordering};
-use vilgoued::{Bucket, Error, Item, Limits, Options, Start};
+use vilgoued::{Bucket, Error, Item, Limits, Options, Start, Write};
 
 const WRITERS: u64 = 4;
 const FOLLOWERS: usize = 8;
@@ -55,6 +55,47 @@ fn eight_followers_lose_nothing_of_a_hundred_thousand_writes_of_four() {
     for one in handed {
         assert!(one == written);
     }
+}
+
+#[test]
+fn nobody_sees_half_of_a_batch() {
+    let bucket = Bucket::open("settings", Limits::default()).unwrap();
+    let mut follower = bucket.follow(">", Options { start: Start::Updates, ..Options::default() }).unwrap();
+    std::thread::scope(|scope| {
+        let writers: Vec<_> = (0..2)
+            .map(|writer| {
+                let bucket = &bucket;
+                scope.spawn(move || {
+                    for at in 0..WRITES / 5 {
+                        let value = format!("{writer} {at}");
+                        bucket.write_all(&[Write::put("left", &value), Write::put("right", &value)]).unwrap();
+                    }
+                })
+            })
+            .collect();
+        scope.spawn(|| {
+            let reader = bucket.reader().unwrap();
+            while reader.status().unwrap().last < WRITES / 5 * 4 {
+                assert_eq!(reader.status().unwrap().last % 2, 0);
+                let moment = bucket.snapshot().unwrap();
+                let [left, right] = ["left", "right"].map(|key| moment.get(key).unwrap().and_then(vilgoued::Entry::into_value));
+                assert_eq!(left, right);
+            }
+        });
+        scope.spawn(move || {
+            let mut handed = 0;
+            while let Ok(left) = follower.wait() {
+                let (left, right) = (left.into_entry().unwrap(), follower.next().unwrap().unwrap().into_entry().unwrap());
+                assert_eq!((left.key(), right.key(), left.value()), ("left", "right", right.value()));
+                handed += 2;
+            }
+            assert_eq!(handed, WRITES / 5 * 4);
+        });
+        for writer in writers {
+            writer.join().unwrap();
+        }
+        bucket.finish().unwrap();
+    });
 }
 
 #[test]

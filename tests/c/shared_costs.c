@@ -1,5 +1,6 @@
-/* What calls of a bucket that threads share take, at 10,000 keys with values of 16 bytes. It prints figures: of puts
- * and gets processor time of the thread that calls, of wake-ups the time that goes by. */
+/* What calls of a bucket that threads share take, at 10,000 keys with values of 16 bytes. Gets ask for 500 of these, as
+ * the bench's do beside a writer. It prints figures: of puts and gets processor time of the thread that calls, of wake-ups
+ * the time that goes by. */
 #include "vilgoued_shared.h"
 #include "wanting.h"
 #include <poll.h>
@@ -7,7 +8,7 @@
 #include <stdatomic.h>
 #include <time.h>
 
-enum { KEYS = 10000, PUTS = 200000, GETS = 1000000, WAKES = 500 };
+enum { KEYS = 10000, ASKED = 500, PUTS = 200000, GETS = 1000000, WAKES = 500 };
 
 static const kv_limits limits = {1, 1048576, 1000000, 4294967295};
 static const kv_options updates = {KV_UPDATES, 0, false, false};
@@ -104,7 +105,7 @@ static double a_get(kv_reader *r, bool is_one) {
     uint64_t revision;
     double began = spent();
     for (uint64_t i = 0; i < GETS; i++) {
-        const char *key = key_of(is_one ? 0 : i);
+        const char *key = key_of(is_one ? 0 : i % ASKED);
         WANT(kv_reader_get(r, B(key), room, sizeof room, &size, &revision) == KV_OK);
     }
     return (spent() - began) / GETS;
@@ -119,7 +120,7 @@ static double a_get_of_a_view(void) {
     WANT(kv_shared_snapshot(&bucket, &view) == KV_OK);
     began = spent();
     for (uint64_t i = 0; i < GETS; i++) {
-        const char *key = key_of(i);
+        const char *key = key_of(i % ASKED);
         WANT(kv_view_get(&view, B(key), room, sizeof room, &size, &revision) == KV_OK);
     }
     began = spent() - began;
@@ -133,7 +134,7 @@ static double a_get_under_the_mutex(void) {
     uint64_t revision;
     double began = spent();
     for (uint64_t i = 0; i < GETS; i++) {
-        const char *key = key_of(i);
+        const char *key = key_of(i % ASKED);
         WANT(kv_shared_get(&bucket, B(key), room, sizeof room, &size, &revision) == KV_OK);
     }
     return (spent() - began) / GETS;

@@ -30,6 +30,7 @@ static void session(void) {
     kv_reader r = {0};
     kv_follower all = {0}, some = {0}, late = {0};
     kv_view view = {0};
+    kv_batch batch = {0};
     kv_status status;
     uint64_t revision, number, floor, handed, of_all = 0, of_some = 0, of_late = 0;
     size_t size, count;
@@ -64,6 +65,10 @@ static void session(void) {
     TRY(kv_shared_create(&b, B("db.port"), B("1"), &revision));
     TRY(kv_shared_update(&b, B("db.port"), B("2"), 41, &revision));
     TRY(kv_shared_purge(&b, B("app.k2"), false, 0, &revision));
+    TRY(kv_batch_put(&batch, B("app.k1"), B("4")));
+    TRY(kv_batch_purge(&batch, B("app.k1"), true, 44));
+    TRY(kv_shared_write_all(&b, &batch, &revision, &size));
+    WANT(revision == 44 && !batch.is_open);
     TRY(kv_shared_history(&b, B("db.port"), 1, value, sizeof value, &item, &count));
     WANT(count == 2 && item.revision == 42 && value[0] == '2');
     TRY(kv_reader_history(&r, B("db.port"), 1, value, sizeof value, &item, &count));
@@ -75,22 +80,22 @@ static void session(void) {
     TRY(kv_follower_open(&b, B(">"), &latest, &late));
     TRY(kv_shared_seal(&b));
     entries += drained(&all, &of_all);
-    WANT(entries == 43 && of_all == 43);
-    /* The keys of four writes match, and the two of db.port. */
-    WANT(drained(&some, &of_some) == 6 && of_some == 42);
-    WANT(drained(&late, &of_late) == 11 && of_late == 43);
+    WANT(entries == 45 && of_all == 45);
+    /* The keys of six writes match, and the two of db.port. */
+    WANT(drained(&some, &of_some) == 8 && of_some == 45);
+    WANT(drained(&late, &of_late) == 11 && of_late == 45);
     do
         TRY(kv_shared_take(&b, number, key, sizeof key, value, sizeof value, &item));
     while (item.kind != KV_EMPTY);
     TRY(kv_shared_stop(&b, number, &handed));
-    WANT(handed == 42);
+    WANT(handed == 44);
     TRY(kv_shared_reach(&b, &floor));
-    WANT(floor == 43);
+    WANT(floor == 45);
     TRY(kv_shared_compact(&b, floor, &number));
     WANT(drained(&all, &of_all) == 0);
     TRY(kv_shared_get_status(&b, &status));
     TRY(kv_reader_get_status(&r, &status));
-    WANT(status.stored == status.values && status.stored < 43 && status.sealed);
+    WANT(status.stored == status.values && status.stored < 45 && status.sealed);
     TRY(kv_shared_finish(&b));
     TRY(kv_follower_stop(&late));
     kv_shared_close(&b);

@@ -217,6 +217,102 @@ static void all_at_once(void) {
            each * WRITERS, WRITERS);
 }
 
+/* Batches of two keys that always have the same value: nobody is shown the one without the other. */
+
+enum { PAIRERS = 2 };
+
+static void *writes_pairs(void *with) {
+    kv_batch batch = {0};
+    uint64_t last = 0;
+    for (int i = 0; i < rounds; i++) {
+        char text[32];
+        uint64_t revision = 0;
+        size_t at = 77;
+        snprintf(text, sizeof text, "%d of %d", i, (int)(intptr_t)with);
+        WANT(kv_batch_put(&batch, B("pair.left"), B(text)) == KV_OK && kv_batch_put(&batch, B("pair.right"), B(text)) == KV_OK);
+        WANT(kv_shared_write_all(&bucket, &batch, &revision, &at) == KV_OK && revision > last && at == 77);
+        last = revision + 1;
+        is_known(last);
+        /* One that is refused at its second write. */
+        if (i % 8 == 0) {
+            WANT(kv_batch_put(&batch, B("pair.left"), B("half")) == KV_OK);
+            WANT(kv_batch_create(&batch, B("pair.right"), B("half")) == KV_OK);
+            WANT(kv_shared_write_all(&bucket, &batch, &revision, &at) == KV_KEY_EXISTS && at == 1);
+            kv_batch_close(&batch);
+        }
+    }
+    return NULL;
+}
+
+// cppcheck-suppress constParameter ; a thread takes a pointer to what may change
+static void *reads_pairs(void *with) {
+    kv_reader reader = {0};
+    uint64_t last = 0;
+    WANT(kv_reader_open(&bucket, &reader) == KV_OK);
+    while (last < (uint64_t)rounds * PAIRERS * 2) {
+        uint64_t before = atomic_load(&known), left = 0, right = 0;
+        uint8_t of_left[32], of_right[32];
+        size_t left_size = 0, right_size = 0;
+        kv_view view = {0};
+        kv_status status;
+        WANT(kv_reader_get_status(&reader, &status) == KV_OK && status.last % 2 == 0);
+        WANT(status.last >= before && status.last >= last);
+        last = status.last;
+        is_known(last);
+        if (!with || last == 0)
+            continue;
+        WANT(kv_shared_snapshot(&bucket, &view) == KV_OK);
+        WANT(kv_view_get(&view, B("pair.left"), of_left, sizeof of_left, &left_size, &left) == KV_OK);
+        WANT(kv_view_get(&view, B("pair.right"), of_right, sizeof of_right, &right_size, &right) == KV_OK);
+        WANT(right == left + 1 && left >= last - 1 && left_size == right_size && !memcmp(of_left, of_right, left_size));
+        kv_view_close(&view);
+    }
+    kv_reader_close(&reader);
+    return NULL;
+}
+
+/* One that is handed the left of a pair has the right of it at once. */
+static void *follows_pairs(void *with) {
+    kv_follower *f = with;
+    uint64_t revision = 0;
+    for (;;) {
+        struct taken left, right;
+        uint64_t code = next(f, PATIENCE, &left);
+        if (code == KV_CLOSED)
+            break;
+        WANT(code == KV_OK && left.item.kind == KV_ENTRY && !strcmp(left.key, "pair.left"));
+        WANT(next(f, 0, &right) == KV_OK && right.item.kind == KV_ENTRY && !strcmp(right.key, "pair.right"));
+        WANT(left.item.revision == revision + 1 && right.item.revision == revision + 2 && !strcmp(left.value, right.value));
+        revision += 2;
+    }
+    WANT(revision == (uint64_t)rounds * PAIRERS * 2);
+    return NULL;
+}
+
+static void batches_are_whole(void) {
+    pthread_t writers[PAIRERS], readers[2], followers[2];
+    kv_follower following[2] = {{0}, {0}};
+    atomic_store(&known, 0);
+    WANT(kv_shared_open(&bucket, B("settings"), &limits) == KV_OK);
+    for (int i = 0; i < 2; i++) {
+        WANT(kv_follower_open(&bucket, B("pair.*"), &updates, &following[i]) == KV_OK);
+        begin(&followers[i], follows_pairs, &following[i]);
+        begin(&readers[i], reads_pairs, (void *)(intptr_t)i);
+    }
+    for (int i = 0; i < PAIRERS; i++)
+        begin(&writers[i], writes_pairs, (void *)(intptr_t)i);
+    for (int i = 0; i < PAIRERS; i++)
+        end(writers[i]);
+    WANT(kv_shared_finish(&bucket) == KV_OK);
+    for (int i = 0; i < 2; i++) {
+        end(readers[i]);
+        end(followers[i]);
+        kv_follower_close(&following[i]);
+    }
+    kv_shared_close(&bucket);
+    printf("%d batches of two: each reader, view and follower has both writes of each or neither\n", rounds * PAIRERS);
+}
+
 /* Two threads that answer each other: each wake-up that were lost would end the wait of both. */
 
 static void *answers(void *with) {
@@ -490,6 +586,7 @@ int main(int argc, char **argv) {
     rounds /= less;
     closes = closes / less + 8;
     all_at_once();
+    batches_are_whole();
     no_wake_up_is_lost();
     sleeps_for_nothing();
     sleeps_on();

@@ -73,6 +73,7 @@ static void are_closed(kv_shared *b, kv_reader *r, kv_follower *f) {
     kv_view view = {0};
     kv_reader another = {0};
     kv_follower second = {0};
+    kv_batch batch = {0};
     int fd = -7;
     WANT(REFUSED(kv_shared_put(b, B("n o"), B("1"), &told.number), KV_CLOSED));
     WANT(REFUSED(kv_shared_create(b, B("a"), B("1"), &told.number), KV_CLOSED));
@@ -80,6 +81,7 @@ static void are_closed(kv_shared *b, kv_reader *r, kv_follower *f) {
     WANT(REFUSED(kv_shared_delete(b, B("a"), false, 0, &told.number), KV_CLOSED));
     WANT(REFUSED(kv_shared_purge(b, B("a"), false, 0, &told.number), KV_CLOSED));
     WANT(kv_shared_seal(b) == KV_CLOSED && kv_shared_finish(b) == KV_CLOSED);
+    WANT(REFUSED(kv_shared_write_all(b, &batch, &told.number, &told.size), KV_CLOSED));
     WANT(REFUSED(kv_shared_compact(b, 1, &told.number), KV_CLOSED));
     WANT(REFUSED(kv_shared_reach(b, &told.number), KV_CLOSED));
     WANT(REFUSED(kv_shared_get(b, B("a"), value, sizeof value, &told.size, &told.number), KV_CLOSED));
@@ -161,6 +163,38 @@ static void written(void) {
     WANT(kv_shared_seal(&b) == KV_OK && kv_shared_seal(&b) == KV_OK);
     WANT(REFUSED(kv_shared_put(&b, B("a"), B("8"), &told.number), KV_SEALED));
     WANT(OK(kv_shared_get_status(&b, &told.status)) && told.status.last == 7 && told.status.sealed);
+    kv_shared_close(&b);
+}
+
+static void written_at_once(void) {
+    static const kv_limits small = {3, 2, 7, 100};
+    kv_shared b = {0};
+    kv_batch batch = {0};
+    kv_reader r = {0};
+    kv_follower f = {0};
+    int fd = -1;
+    WANT(kv_shared_open(&b, B("settings"), &small) == KV_OK && kv_follower_open(&b, B(">"), &updates, &f) == KV_OK);
+    WANT(kv_reader_open(&b, &r) == KV_OK && kv_follower_fd(&f, &fd) == KV_OK && hands_kind(&f, KV_EMPTY));
+    WANT((mark(), kv_shared_write_all(&b, &batch, &told.number, &told.size) == KV_OK && told.number == 0));
+    WANT(marked(&told.size, sizeof told.size) && !is_readable(fd));
+    WANT(kv_batch_put(&batch, B("a"), B("1")) == KV_OK && kv_batch_put(&batch, B("b"), B("2")) == KV_OK);
+    WANT(kv_batch_update(&batch, B("a"), B("3"), 1) == KV_OK);
+    WANT((mark(), kv_shared_write_all(&b, &batch, &told.number, &told.size) == KV_OK && told.number == 1));
+    WANT(marked(&told.size, sizeof told.size) && !batch.is_open && is_readable(fd));
+    WANT(hands(&f, "a", KV_PUT, 1, "1") && hands(&f, "b", KV_PUT, 2, "2") && hands(&f, "a", KV_PUT, 3, "3"));
+    WANT(hands_kind(&f, KV_EMPTY) && OK(kv_reader_get(&r, B("a"), value, 1, &told.size, &told.number)));
+    WANT(told.number == 3 && OK(kv_shared_reach(&b, &told.number)) && told.number == 3 && puts_one(&b, "a", "4", 4));
+    WANT(kv_batch_put(&batch, B("a"), B("5")) == KV_OK && kv_batch_delete(&batch, B("b"), true, 3) == KV_OK);
+    WANT(TELLS(kv_shared_write_all(&b, &batch, &told.number, &told.size), KV_WRONG_LAST_REVISION, number, 2));
+    WANT(told.size == 1 && batch.is_open && OK(kv_shared_get_status(&b, &told.status)) && told.status.last == 4);
+    kv_batch_close(&batch);
+    for (int i = 0; i < 4; i++)
+        WANT(kv_batch_put(&batch, B("a"), B("5")) == KV_OK);
+    WANT(TELLS(kv_shared_write_all(&b, &batch, &told.number, &told.size), KV_JOURNAL_FULL, size, 3));
+    WANT(marked(&told.number, sizeof told.number) && hands(&f, "a", KV_PUT, 4, "4") && hands_kind(&f, KV_EMPTY));
+    kv_batch_close(&batch);
+    kv_follower_close(&f);
+    kv_reader_close(&r);
     kv_shared_close(&b);
 }
 
@@ -400,6 +434,7 @@ int main(void) {
     closed();
     opened();
     written();
+    written_at_once();
     are_read();
     watched();
     followed();

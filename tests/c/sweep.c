@@ -7,6 +7,7 @@ static void session(void) {
     static const kv_limits limits = {3, 1048576, 1000000, 4294967295};
     static const kv_options latest = {KV_LATEST, 0, false, false};
     kv_bucket b = {0};
+    kv_batch batch = {0};
     kv_view view = {0}, later = {0};
     kv_feed feed = {0};
     uint64_t revision, number, handed, floor;
@@ -41,6 +42,15 @@ static void session(void) {
     TRY(kv_update(&b, B("db.port"), B("2"), 62, &revision));
     TRY(kv_history(&b, B("db.port"), 1, value, sizeof value, &item, &size));
     WANT(size == 2 && item.revision == 63 && value[0] == '2');
+    TRY(kv_batch_put(&batch, B("app.k1"), B("3")));
+    TRY(kv_batch_delete(&batch, B("app.k1"), true, 64));
+    TRY(kv_batch_create(&batch, B("app.a-key-of-more-than-24-bytes"), B("a value of more than 24 bytes")));
+    TRY(kv_batch_update(&batch, B("db.port"), B("4"), 63));
+    TRY(kv_batch_purge(&batch, B("db.port"), false, 0));
+    count = 77;
+    TRY(kv_batch_write(&b, &batch, &revision, &count));
+    /* Where memory was refused, the place of that write was told. */
+    WANT(revision == 64 && !batch.is_open && (count == 77 || count < 5));
     TRY(kv_seal(&b));
     TRY(kv_view_get(&view, B("app.k1"), value, sizeof value, &size, &revision));
     WANT(revision == 41);
@@ -57,15 +67,15 @@ static void session(void) {
         TRY(kv_take(&b, number, key, sizeof key, value, sizeof value, &item));
         seen += item.kind == KV_ENTRY;
     } while (item.kind != KV_EMPTY);
-    WANT(seen == 63);
+    WANT(seen == 68);
     TRY(kv_stop(&b, number, &handed));
-    WANT(handed == 64);
+    WANT(handed == 69);
     TRY(kv_reach(&b, &floor));
-    WANT(floor == 63);
+    WANT(floor == 68);
     TRY(kv_compact(&b, 40, &floor));
-    TRY(kv_compact(&b, 63, &floor));
+    TRY(kv_compact(&b, 68, &floor));
     TRY(kv_get_status(&b, &status));
-    WANT(status.stored == status.values && status.stored < 63);
+    WANT(status.stored == status.values && status.stored < 68);
     kv_close(&b);
     kv_view_close(&view);
     kv_view_close(&later);

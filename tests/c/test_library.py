@@ -3,7 +3,7 @@ for memory refused; with sanitizers and valgrind where they are installed."""
 import shutil, unittest
 
 from tests.c.compiling import CHECKED, ProgramTest, ran
-from tests.pages.examples import first_block, lines_of
+from tests.pages.examples import blocks, first_block, lines_of
 
 
 class Programs(ProgramTest):
@@ -19,6 +19,9 @@ class Programs(ProgramTest):
     def test_the_example_says_what_it_is_to_say(self):
         self.assertEqual(ran(self.built("example", "-O2")).splitlines(), lines_of("tests/c/example.stdout"))
 
+    def test_the_example_of_a_batch_says_what_it_is_to_say(self):
+        self.assertEqual(ran(self.built("batch_example", "-O2")).splitlines(), lines_of("tests/c/batch_example.stdout"))
+
     def test_with_sanitizers(self):
         self.needs(*CHECKED)
         for name in "use", "threads", "sweep":
@@ -33,6 +36,8 @@ class Programs(ProgramTest):
 class Quoted(unittest.TestCase):
     def test_the_page_quotes_the_example(self):
         self.assertEqual(first_block("docs/c.md", "c"), lines_of("tests/c/example.c"))
+        self.assertIn(lines_of("tests/c/batch_example.c"), blocks("docs/c.md", "c"))
+        self.assertIn(lines_of("tests/c/batch_example.stdout"), blocks("docs/c.md", "text"))
 
 
 if __name__ == "__main__":

@@ -43,6 +43,7 @@ static void layout(void) {
     WANT(sizeof(kv_bucket) == 16 && offsetof(kv_bucket, is_open) == 0 && offsetof(kv_bucket, at) == 8);
     WANT(sizeof(kv_view) == 16 && offsetof(kv_view, is_open) == 0 && offsetof(kv_view, at) == 8);
     WANT(sizeof(kv_feed) == 16 && offsetof(kv_feed, is_open) == 0 && offsetof(kv_feed, at) == 8);
+    WANT(sizeof(kv_batch) == 16 && offsetof(kv_batch, is_open) == 0 && offsetof(kv_batch, at) == 8);
     WANT(sizeof(kv_limits) == 32 && offsetof(kv_limits, revision_limit) == 24);
     WANT(sizeof(kv_options) == 24 && offsetof(kv_options, from) == 8 && offsetof(kv_options, headers_only) == 17);
     WANT(sizeof(kv_item) == 48 && offsetof(kv_item, op) == 4 && offsetof(kv_item, revision) == 8 &&
@@ -53,6 +54,7 @@ static void layout(void) {
 
 static void closed(void) {
     kv_bucket b = {0};
+    kv_batch batch = {0};
     kv_view view = {0}, open = {0};
     kv_feed feed = {0};
     kv_status status;
@@ -77,7 +79,10 @@ static void closed(void) {
     WANT(kv_feed_take(&feed, key, sizeof key, value, sizeof value, &item) == KV_CLOSED);
     WANT(kv_feed_refresh(&feed, &view, &n) == KV_CLOSED);
     WANT(kv_compact(&b, 1, &n) == KV_CLOSED && kv_reach(&b, &n) == KV_CLOSED);
-    WANT(n == 77 && size == 77 && !view.is_open);
+    WANT(kv_batch_write(&b, &batch, &n, &size) == KV_CLOSED);
+    WANT(kv_batch_put(&batch, B("a"), B("1")) == KV_OK && kv_batch_write(&b, &batch, &n, &size) == KV_CLOSED);
+    WANT(n == 77 && size == 77 && !view.is_open && batch.is_open);
+    kv_batch_close(&batch);
     kv_close(&b);
     kv_view_close(&view);
     kv_feed_close(&feed);
@@ -136,6 +141,108 @@ static void written(void) {
     WANT(kv_put(&b, B("a"), B("1"), &n) == KV_SEALED && n == 6);
     WANT(kv_get_status(&b, &status) == KV_OK && status.sealed);
     kv_close(&b);
+}
+
+static size_t gathered_in(kv_batch *batch) {
+    size_t size = 77;
+    return kv_batch_size(batch, &size) == KV_OK ? size : 77;
+}
+
+/* A batch of one write of each kind, of which the update and the purge name revisions of writes before them. */
+static void gather_each_kind(kv_batch *batch) {
+    WANT(kv_batch_put(batch, B("app.port"), B("80")) == KV_OK && batch->is_open);
+    WANT(kv_batch_create(batch, B("db"), B("x")) == KV_OK);
+    WANT(kv_batch_update(batch, B("app.port"), B("81"), 2) == KV_OK);
+    WANT(kv_batch_delete(batch, B("db"), false, 0) == KV_OK);
+    WANT(kv_batch_purge(batch, B("db"), true, 5) == KV_OK && gathered_in(batch) == 5);
+}
+
+static void written_at_once(void) {
+    kv_bucket b = {0};
+    kv_batch batch = {0};
+    kv_options updates = {KV_UPDATES, 0, false, false};
+    uint64_t n = 0;
+    size_t at = 77, count = 0;
+    WANT(kv_open(&b, B("settings"), &largest) == KV_OK && kv_put(&b, B("app.port"), B("79"), &n) == KV_OK && n == 1);
+    WANT(kv_watch(&b, B(">"), &updates, &n) == KV_OK && n == 1);
+    gather_each_kind(&batch);
+    WANT(kv_batch_write(&b, &batch, &n, &at) == KV_OK && n == 2 && at == 77 && !batch.is_open);
+    WANT(take(&b, 1) == KV_OK && shows("app.port", KV_PUT, 2, "80") && take(&b, 1) == KV_OK && shows("db", KV_PUT, 3, "x"));
+    WANT(take(&b, 1) == KV_OK && shows("app.port", KV_PUT, 4, "81"));
+    WANT(take(&b, 1) == KV_OK && shows("db", KV_DELETE, 5, NULL));
+    WANT(take(&b, 1) == KV_OK && shows("db", KV_PURGE, 6, NULL) && take(&b, 1) == KV_OK && item.kind == KV_EMPTY);
+    WANT(kv_history(&b, B("db"), 0, value, sizeof value, &item, &count) == KV_OK && count == 1 && item.revision == 6);
+    /* It is empty now, and can be filled again. */
+    WANT(gathered_in(&batch) == 0 && kv_batch_write(&b, &batch, &n, &at) == KV_OK && n == 6 && at == 77);
+    WANT(kv_batch_put(&batch, B("db"), B("y")) == KV_OK && kv_batch_write(&b, &batch, &n, &at) == KV_OK && n == 7);
+    kv_batch_close(&batch);
+    kv_close(&b);
+}
+
+/* A refusal of the write at this place, which leaves the bucket and the batch. */
+static bool is_refused_at(kv_bucket *b, kv_batch *batch, uint64_t code, size_t at) {
+    size_t size = gathered_in(batch);
+    kv_status before, after;
+    mark();
+    memset(&before, MARK, sizeof before);
+    memset(&after, MARK, sizeof after);
+    return kv_get_status(b, &before) == KV_OK && kv_batch_write(b, batch, &told.number, &told.size) == code &&
+           told.size == at && marked(&told.count, sizeof told.count) && kv_get_status(b, &after) == KV_OK &&
+           !memcmp(&before, &after, sizeof before) && gathered_in(batch) == size;
+}
+
+static void refused_at_once(void) {
+    kv_bucket b = {0};
+    kv_view view = {0};
+    kv_batch batch = {0}, other = {0};
+    kv_limits small = {3, 2, 4, 100};
+    uint64_t n = 0;
+    size_t size = 0;
+    WANT(kv_open(&b, B("settings"), &small) == KV_OK && kv_put(&b, B("a"), B("1"), &n) == KV_OK);
+    WANT(kv_batch_put(&batch, B("b"), B("2")) == KV_OK && kv_batch_create(&batch, B("b"), B("3")) == KV_OK);
+    WANT(is_refused_at(&b, &batch, KV_KEY_EXISTS, 1) && marked(&told.number, sizeof told.number));
+    WANT(kv_get(&b, B("b"), value, sizeof value, &size, &n) == KV_KEY_NOT_FOUND);
+    kv_batch_close(&batch);
+    WANT(!batch.is_open && gathered_in(&batch) == 0);
+    WANT(kv_batch_put(&batch, B("a"), B("2")) == KV_OK && kv_batch_update(&batch, B("a"), B("3"), 1) == KV_OK);
+    WANT(is_refused_at(&b, &batch, KV_WRONG_LAST_REVISION, 1) && told.number == 2);
+    kv_batch_close(&batch);
+    WANT(kv_batch_put(&batch, B("a"), B("123")) == KV_OK && is_refused_at(&b, &batch, KV_VALUE_TOO_LARGE, 0));
+    kv_batch_close(&batch);
+    for (int i = 0; i < 4; i++)
+        WANT(kv_batch_put(&batch, B("a"), B("1")) == KV_OK);
+    WANT(is_refused_at(&b, &batch, KV_JOURNAL_FULL, 3) && marked(&told.number, sizeof told.number));
+    WANT(kv_seal(&b) == KV_OK && is_refused_at(&b, &batch, KV_SEALED, 0));
+    /* Of no writes none is refused. */
+    WANT(kv_batch_write(&b, &other, &n, &size) == KV_OK && n == 1);
+    /* Handles of other kinds. */
+    WANT(kv_snapshot(&b, &view) == KV_OK);
+    WANT(REFUSED(kv_batch_write(&b, (kv_batch *)&view, &told.number, &told.size), KV_CLOSED));
+    WANT(REFUSED(kv_batch_write((kv_bucket *)&view, &batch, &told.number, &told.size), KV_CLOSED));
+    WANT(REFUSED(kv_batch_size((kv_batch *)&view, &told.size), KV_CLOSED));
+    WANT(kv_batch_put((kv_batch *)&view, B("n o"), B("1")) == KV_CLOSED && view.is_open && gathered_in(&batch) == 4);
+    WANT(REFUSED(kv_put((kv_bucket *)&batch, B("a"), B("1"), &told.number), KV_CLOSED));
+    kv_view_close(&view);
+    kv_batch_close(&batch);
+    kv_batch_close(&batch);
+    kv_close(&b);
+}
+
+/* What no bucket accepts is not gathered. */
+static void not_gathered(void) {
+    kv_batch batch = {0};
+    uint8_t *large = calloc(1, 1048577);
+    WANT(large && kv_batch_put(&batch, B("n o"), B("1")) == KV_BAD_KEY && !batch.is_open);
+    WANT(kv_batch_put(&batch, B("a"), large, 1048577) == KV_VALUE_TOO_LARGE && !batch.is_open);
+    WANT(kv_batch_put(&batch, B("a"), large, 1048576) == KV_OK && gathered_in(&batch) == 1);
+    WANT(kv_batch_create(&batch, B("n o"), large, 1048577) == KV_BAD_KEY);
+    WANT(kv_batch_create(&batch, B("a"), large, 1048577) == KV_VALUE_TOO_LARGE);
+    WANT(kv_batch_update(&batch, B("n o"), B("1"), 1) == KV_BAD_KEY);
+    WANT(kv_batch_update(&batch, B("a"), large, 1048577, 1) == KV_VALUE_TOO_LARGE);
+    WANT(kv_batch_delete(&batch, (const uint8_t *)"a\xff", 2, false, 0) == KV_BAD_KEY);
+    WANT(kv_batch_purge(&batch, B("a..b"), true, 1) == KV_BAD_KEY && gathered_in(&batch) == 1);
+    kv_batch_close(&batch);
+    free(large);
 }
 
 static void kept(void) {
@@ -508,6 +615,9 @@ int main(void) {
     closed();
     opened();
     written();
+    written_at_once();
+    refused_at_once();
+    not_gathered();
     kept();
     watched();
     listed();

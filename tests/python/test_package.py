@@ -129,7 +129,7 @@ class Style(unittest.TestCase):
 class Refusals(unittest.TestCase):
     def test_their_codes_and_names_are_those_of_the_rules(self):
         from vilgoued import refusals
-        with open(os.path.join(top, "docs", "rules.md"), encoding="utf-8") as page:
+        with open(os.path.join(top, "docs", "semantics.md"), encoding="utf-8") as page:
             rules = {name: int(code) for code, name in re.findall(r"^\| (\d+) \| (\w+) \|", page.read(), re.M)}
         own = {it.__name__: it.code for it in refusals._CLASSES.values()}
         for name, code in rules.items():

@@ -23,7 +23,7 @@ class Sanitizers(unittest.TestCase):
             self.skipTest("%s has no AddressSanitizer" % C)
         # What Python itself still has at its end is no leak of the library.
         environment = dict(os.environ, LD_PRELOAD=path, ASAN_OPTIONS="detect_leaks=0", PYTHONMALLOC="malloc")
-        for module in "tests.python.test_scripts", "tests.python.test_vilgoued", "tests.python.test_following":
+        for module in "tests.python.test_scripts", "tests.python.test_vilgoued", "tests.python.test_batches", "tests.python.test_following":
             with self.subTest(module):
                 command = [sys.executable, "-B", "-m", "unittest", module]
                 done = subprocess.run(command, cwd=top, env=environment, stdin=subprocess.DEVNULL, capture_output=True, text=True)

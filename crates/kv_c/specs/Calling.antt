@@ -1,5 +1,5 @@
 -- What C is told by a call, in the words of the model.
-use Rattle.std.specs.Prelude.{◌≡◌, ℕ, ◌<◌, Bool, true, false, List, [], ◌∷◌, Option, Some, None, ◌==◌, if◌then◌else◌, Result, Ok, Err, IsTrue, take, length, slice_get, nat_le}
+use Rattle.std.specs.Prelude.{◌≡◌, ℕ, ◌<◌, Bool, true, false, List, Option, Some, None, ◌==◌, if◌then◌else◌, Result, Ok, Err, IsTrue, take, length, slice_get, nat_le}
 use Rattle.kv_model.specs.Answers.{Answer, Revision}
 use Rattle.kv_model.specs.Given.{Item as Given}
 use Rattle.kv_model.specs.declared.call.Call.{Call}
@@ -9,14 +9,13 @@ use Rattle.kv_c.specs.Handing.{IsEntry}
 use Rattle.kv_c.specs.Feeding.{Fed, HandsNext, HasHanded, IsRefreshed, Opens, lags, next_of}
 use Rattle.kv_single.specs.Held.{Bucketed, Represents}
 use Rattle.kv_c.specs.declared.content.Content.{Content}
-use Rattle.kv_c.specs.declared.content.Content.TheVariants.{Bucket, View, Feed}
+use Rattle.kv_c.specs.declared.content.Content.TheVariants.{Bucket, View, Feed, Batch}
 use Rattle.kv_keys.specs.Grammar.{is_key}
 use Rattle.kv_keys.specs.declared.error.KvError.{KvError}
 use Rattle.kv_keys.specs.declared.error.KvError.TheVariants.{BadKey, OutOfMemory}
 use Rattle.kv_model.specs.Acts.{Act, Write}
 use Rattle.kv_store.specs.Standing.{StandsFor}
 use Rattle.kv_store.specs.Stored.{Stored}
-use Rattle.kv_model.specs.Runs.{Exchange}
 use Rattle.kv_model.specs.State.{State, may_compact}
 use Rattle.kv_single.specs.Stepping.{IsStep}
 use Rattle.kv_model.specs.declared.call.Call.TheVariants as calls
@@ -34,12 +33,14 @@ holds_bucket None = false
 holds_bucket (Some (Bucket b)) = true
 holds_bucket (Some (View v)) = false
 holds_bucket (Some (Feed f)) = false
+holds_bucket (Some (Batch whats)) = false
 
 abbrev pub holds_feed : Option Content → Bool
 holds_feed None = false
 holds_feed (Some (Bucket b)) = false
 holds_feed (Some (View v)) = false
 holds_feed (Some (Feed f)) = true
+holds_feed (Some (Batch whats)) = false
 
 -- what is read through a handle: the version of a bucket, or a view
 abbrev pub version_in : Option Content → Option Stored
@@ -47,6 +48,7 @@ version_in None = None
 version_in (Some (Bucket b)) = Some b.version
 version_in (Some (View v)) = Some v
 version_in (Some (Feed f)) = None
+version_in (Some (Batch whats)) = None
 
 -- a handle is open, on a bucket that represents the state
 abbrev pub StandsAt : State → Option Content → Type 0
@@ -54,6 +56,7 @@ StandsAt state None = ⊥
 StandsAt state (Some (Bucket b)) = Represents state b
 StandsAt state (Some (View v)) = ⊥
 StandsAt state (Some (Feed f)) = ⊥
+StandsAt state (Some (Batch whats)) = ⊥
 
 -- a version stands for these acts under this configuration
 abbrev pub Reads : Configuration → List Act → Option Stored → Type 0
@@ -78,12 +81,6 @@ Accepts what old revision new = ⊥
 abbrev pub Steps : Call → Answer → Option Content → Option Content → Type 0
 Steps call answer (Some (Bucket old)) (Some (Bucket new)) = IsStep old call answer new
 Steps call answer old new = ⊥
-
--- steps of what a handle holds in a row: each call with its answer
-abbrev pub AreSteps : Option Content → List Exchange → Option Content → Type 0
-AreSteps old [] new = new ≡ old
-AreSteps old (exchange ∷ told) new = (next : Option Content) × Steps exchange.call exchange.answer old next ×
-    AreSteps next told new
 
 -- the highest floor for which a compaction is not refused, 0 where there is none
 abbrev pub IsReach : State → ℕ → Type 0
@@ -127,6 +124,7 @@ FeedsBy began acts n None = ⊥
 FeedsBy began acts n (Some (Bucket b)) = ⊥
 FeedsBy began acts n (Some (View v)) = ⊥
 FeedsBy began acts n (Some (Feed f)) = HasHanded began acts n f
+FeedsBy began acts n (Some (Batch whats)) = ⊥
 
 -- and this is the item that comes next
 abbrev pub comes_next : List Act → List Act → ℕ → Option Content → Option Given
@@ -134,6 +132,7 @@ comes_next began acts n None = None
 comes_next began acts n (Some (Bucket b)) = None
 comes_next began acts n (Some (View v)) = None
 comes_next began acts n (Some (Feed f)) = next_of began acts n f
+comes_next began acts n (Some (Batch whats)) = None
 
 -- a request as it was read, or why there is none
 abbrev pub IsAsked : Asked → Result Request KvError → Type 0

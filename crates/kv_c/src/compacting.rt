@@ -44,7 +44,7 @@ fn compact_in(content: &mut Content, floor: u64, watch: &mut u64) -> u64
 {
     match content {
         Content::Bucket(bucket) => compact(bucket, floor, watch),
-        Content::View(_) | Content::Feed(_) => CLOSED,
+        Content::View(_) | Content::Feed(_) | Content::Batch(_) => CLOSED,
     }
 }
 
@@ -81,7 +81,7 @@ fn reach_of(content: &Content, floor: &mut u64) -> u64
             *floor = bucket.reach();
             0
         }
-        Content::View(_) | Content::Feed(_) => CLOSED,
+        Content::View(_) | Content::Feed(_) | Content::Batch(_) => CLOSED,
     }
 }
 

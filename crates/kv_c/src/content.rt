@@ -1,11 +1,14 @@
 //! What a handle holds while it is open.
 
-ghost use Rattle.std.specs.Prelude.{◌≡◌, Some};
+ghost use Rattle.std.specs.Prelude.{◌≡◌, IfNone, IfSome, None, Some, map};
 ghost use Rattle.std.specs.Option.{option_copied};
+ghost use Rattle.kv_c.specs.Batching.{gathered};
 ghost use Rattle.kv_c.specs.Calling.{version_in};
+ghost use Rattle.kv_model.specs.Requests.{asked};
 
+use crate::batch::Batch;
 use crate::feed::Feed;
-use kv_single::{Bucket, Version};
+use kv_single::{Bucket, Request, Version};
 
 /// What a handle holds while it is open.
 #[derive(Drop)]
@@ -16,6 +19,8 @@ pub enum Content {
     View(Version),
     /// A watch over views.
     Feed(Feed),
+    /// Requests that are gathered.
+    Batch(Batch),
 }
 
 impl Content {
@@ -26,7 +31,18 @@ impl Content {
         match self {
             Content::Bucket(bucket) => Some(bucket.version()),
             Content::View(version) => Some(version),
-            Content::Feed(_) => None,
+            Content::Feed(_) | Content::Batch(_) => None,
+        }
+    }
+
+    /// The requests that are gathered in it.
+    pub(crate) fn requests(&self) -> Option<&[Request]>
+        ensures some { IfSome result (λ requests. gathered (Some self.now) ≡ Some (map asked requests.now)) }
+        ensures none { IfNone result (gathered (Some self.now) ≡ None) }
+    {
+        match self {
+            Content::Batch(batch) => Some(batch.requests()),
+            Content::Bucket(_) | Content::View(_) | Content::Feed(_) => None,
         }
     }
 }

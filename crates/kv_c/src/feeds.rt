@@ -174,7 +174,7 @@ fn refresh_in(content: &mut Content, version: &Version, floor: &mut u64) -> u64
 {
     match content {
         Content::Feed(feed) => refresh_to(feed, version, floor),
-        Content::Bucket(_) | Content::View(_) => CLOSED,
+        Content::Bucket(_) | Content::View(_) | Content::Batch(_) => CLOSED,
     }
 }
 
@@ -241,7 +241,7 @@ fn take_in(content: &mut Content, keys: &mut [u8], values: &mut [u8], item: &mut
 {
     match content {
         Content::Feed(feed) => feed.take(keys, values, item),
-        Content::Bucket(_) | Content::View(_) => CLOSED,
+        Content::Bucket(_) | Content::View(_) | Content::Batch(_) => CLOSED,
     }
 }
 

@@ -4,11 +4,13 @@
 #![tactic(auto)]
 
 mod asking;
+mod batch;
 mod codes;
 mod compacting;
 mod content;
 mod feed;
 mod feeds;
+mod gathering;
 mod handing;
 mod handle;
 pub mod laws;

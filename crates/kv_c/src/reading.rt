@@ -261,7 +261,7 @@ fn status_of_bucket(content: &Content, numbers: &mut Numbers) -> u64
             *numbers = numbers_of(bucket.version(), bucket.watches());
             0
         }
-        Content::View(_) | Content::Feed(_) => CLOSED,
+        Content::View(_) | Content::Feed(_) | Content::Batch(_) => CLOSED,
     }
 }
 

@@ -62,7 +62,7 @@ fn watch(
             Some(options) => opened(alloc, bucket, filters, options, number),
             None => NO_SUCH_START,
         },
-        Content::View(_) | Content::Feed(_) => CLOSED,
+        Content::View(_) | Content::Feed(_) | Content::Batch(_) => CLOSED,
     }
 }
 
@@ -145,7 +145,7 @@ fn take(
 {
     match content {
         Content::Bucket(bucket) => take_from(bucket, number, keys, values, item),
-        Content::View(_) | Content::Feed(_) => CLOSED,
+        Content::View(_) | Content::Feed(_) | Content::Batch(_) => CLOSED,
     }
 }
 
@@ -201,7 +201,7 @@ fn stop(content: &mut Content, number: u64, handed: &mut u64) -> u64
 {
     match content {
         Content::Bucket(bucket) => hand_out(stop_in(bucket, number), handed),
-        Content::View(_) | Content::Feed(_) => CLOSED,
+        Content::View(_) | Content::Feed(_) | Content::Batch(_) => CLOSED,
     }
 }
 

@@ -56,7 +56,7 @@ fn write_in(content: &mut Content, request: Result<Request, KvError>, revision: 
 {
     match content {
         Content::Bucket(bucket) => write_to(bucket, request, revision),
-        Content::View(_) | Content::Feed(_) => CLOSED,
+        Content::View(_) | Content::Feed(_) | Content::Batch(_) => CLOSED,
     }
 }
 
@@ -227,7 +227,7 @@ fn seal_in(content: &mut Content) -> u64
 {
     match content {
         Content::Bucket(bucket) => seal(bucket),
-        Content::View(_) | Content::Feed(_) => CLOSED,
+        Content::View(_) | Content::Feed(_) | Content::Batch(_) => CLOSED,
     }
 }
 

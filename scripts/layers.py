@@ -1,0 +1,81 @@
+#!/usr/bin/env python3
+"""layers.py: measures what a call of the library takes from C, and what the packages for Rust and Go add to it, and writes
+docs/bench/layers.md. It wants the library (./library), a C compiler, cargo and go, and takes half a minute."""
+import datetime, os, re, subprocess, sys, tempfile
+
+if __name__ == "__main__":
+    sys.dont_write_bytecode = True
+    sys.path.insert(0, os.path.dirname(os.path.dirname(os.path.realpath(__file__))))
+from scripts import top
+
+PAGE = os.path.join(top, "docs", "bench", "layers.md")
+LIBRARY = os.path.join(top, "lib", "libvilgoued.a")
+# What each program of a package prints for a call.
+ADDED = re.compile(r"^(.+): (\d+) ns in C, (\d+) ns here, (-?\d+) ns added$", re.M)
+# And what that of the shell prints.
+TOLD = re.compile(r"^(.+?) {2,}(\d+) ns$", re.M)
+
+
+class Missing(Exception):
+    """What has to be there first."""
+
+
+def printed(words, folder, **more):
+    try:
+        done = subprocess.run(words, cwd=os.path.join(top, folder), stdin=subprocess.DEVNULL, capture_output=True, text=True,
+                              env={**os.environ, **more})
+    except FileNotFoundError as error:
+        raise Missing("there is no %s: apt-get install cargo golang-go build-essential" % error.filename) from error
+    if done.returncode != 0:
+        raise Missing("%s ended with status %d: %s" % (" ".join(words), done.returncode, done.stderr.strip()))
+    return done.stdout
+
+
+def shell():
+    """What calls of a bucket that threads share take in C: what, and nanoseconds."""
+    with tempfile.TemporaryDirectory() as folder:
+        program = os.path.join(folder, "costs")
+        printed(["cc", "-O2", "-I", "include", "-I", "tests/c", "tests/c/shared_costs.c", LIBRARY, "-lpthread", "-o", program], "")
+        return [(call.strip(), ns + " ns") for call, ns in TOLD.findall(printed([program], ""))]
+
+
+def packages():
+    """What each package adds to a call: its name, the call, and nanoseconds in C, there, and between the two."""
+    rust = printed(["cargo", "run", "--release", "--offline", "--quiet", "--example", "costs"], "rust", VILGOUED_LIB=LIBRARY)
+    go = printed(["go", "run", "./costs"], "go", GOFLAGS="-mod=mod", GOPROXY="off")
+    return [(name, call, *("%d ns" % int(ns) for ns in rest)) for name, text in (("Rust", rust), ("Go", go)) for call, *rest in ADDED.findall(text)]
+
+
+def table(head, rows):
+    return "\n".join("| %s |" % " | ".join(row) for row in (head, ["---"] * len(head), *rows))
+
+
+def page(of_shell, of_packages, day):
+    return """# What the library takes from C, Rust and Go
+
+`scripts/layers.py` wrote this page on %s, on %d processors with nothing else to do. Nothing of it is promised.
+
+Calls of a bucket that threads share, among 10,000 keys with values of 16 bytes, where gets ask for 500 of them (`tests/c/shared_costs.c`):
+
+%s
+
+What the packages add to a call, the least of 200 rounds among 16 keys (`rust/examples/costs.rs`, `go/costs`):
+
+%s
+""" % (day, os.cpu_count() or 1, table(["Call", "Takes"], of_shell),
+       table(["Package", "Call", "In C", "There", "Added"], of_packages))
+
+
+def main():
+    try:
+        if not os.path.exists(LIBRARY):
+            raise Missing("there is no lib/libvilgoued.a: run ./library")
+        text = page(shell(), packages(), datetime.date.today().isoformat())
+    except Missing as error:
+        sys.exit("layers: %s" % error)
+    with open(PAGE, "w", encoding="utf-8") as file:
+        file.write(text)
+
+
+if __name__ == "__main__":
+    main()
