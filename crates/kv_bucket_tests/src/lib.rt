@@ -7,6 +7,8 @@ mod equal;
 #[cfg(test)]
 mod examples;
 #[cfg(test)]
+mod following;
+#[cfg(test)]
 mod races;
 #[cfg(test)]
 mod threads;

@@ -6,7 +6,7 @@ ghost use Rattle.std.specs.Prelude.{◌≡◌};
 
 use crate::equal::equal;
 use again::{again, made};
-use calls::{Call, Step, calls, put_request, steps};
+use calls::{Ask, Call, Step, calls, put_request, requests, steps};
 use kv_bucket::{
     Config, Feed, Filters, KvError, Live, LiveName, Opened, Options, Reader, Start, Taken, Version,
 };
@@ -21,6 +21,7 @@ use std::test::Fail;
 use std::thread::{Threads, join};
 
 mod again;
+mod batches;
 mod cached;
 mod calls;
 mod compacting;
@@ -28,6 +29,7 @@ mod feeds;
 mod lock;
 mod moves;
 mod opening;
+mod pairs;
 mod places;
 mod published;
 mod sights;
@@ -43,7 +45,7 @@ const LATEST: Options = Options {
 #[derive(Clone, Copy, Debug, PartialEq, Eq)]
 enum Answer {
     Done,
-    // The revision of a write, or the number of a watch.
+    // The revision of a write, or of the first of a batch, or the number of a watch.
     Number(u64),
     Entry(u64),
     Marker,
@@ -53,6 +55,8 @@ enum Answer {
     // The last revision of a version, and its floor.
     On(u64, u64),
     Refused(KvError),
+    // A batch, at this one of its requests.
+    RefusedAt(usize, KvError),
 }
 
 fn number(answered: Result<u64, KvError>) -> Answer {
@@ -104,12 +108,18 @@ enum Row {
     ToldOnAGuard,
     LooksInTurn,
     WhoHasSeen,
+    WhoHasSeenBatches,
     Marked,
     FreedPlace,
     LeftBehind,
     Cached,
     TwoFeeds,
     HeldWatch,
+    Batches,
+    ToldBatch,
+    BatchBeforeTheClose,
+    PairsBesideAReader,
+    PairsBesideAFeed,
 }
 
 impl Row {
@@ -120,10 +130,11 @@ impl Row {
         }
     }
 
-    // No row writes more often than this, but the one of the limit, which tries to.
+    // No row writes more often than this, except those of the limit, which try to.
     fn write_limit(self) -> u64 {
         match self {
             Row::Calls(lock::Row::WriteLimitAndSeal) => 2,
+            Row::PairsBesideAReader | Row::PairsBesideAFeed => pairs::WRITES,
             _ => 6,
         }
     }
@@ -160,6 +171,7 @@ fn run_on<N: LiveName + Send + Sync, R: Threads + Wait + Abort + Sync>(
     let (live, mut readers) = opened.live::<N, R>(rt)?;
     match row {
         Row::Closed => opening::closed_first(rt, alloc, live, &mut readers),
+        Row::BatchBeforeTheClose => batches::closed_behind(rt, alloc, live, &mut readers),
         _ => closed_last(rt, alloc, live, &mut readers, row),
     }
 }
@@ -188,6 +200,8 @@ fn run_over<N: LiveName + Send + Sync, R: Threads + Wait + Abort + Sync>(
         Row::BesideAGuard => feeds::beside_a_guard(rt, alloc, live, readers),
         Row::EachPhase => feeds::in_each_phase(rt, alloc, live, readers),
         Row::ToldWrite => told::handed_out(rt, alloc, live, readers),
+        Row::PairsBesideAReader => pairs::beside_a_reader(rt, alloc, live, readers),
+        Row::PairsBesideAFeed => pairs::beside_a_feed(rt, alloc, live, readers),
         _ => run_alone(rt, alloc, live, readers, row),
     }
 }
@@ -209,8 +223,13 @@ fn run_alone<N: LiveName, R: Wait + Abort>(
         Row::HeldWatch => compacting::held_watch(rt, alloc, live, readers),
         Row::ToldOnAGuard => told::on_a_guard(rt, alloc, live, readers),
         Row::LooksInTurn => told::looks_in_turn(rt, alloc, live, readers),
-        Row::WhoHasSeen => published::who_has_seen(rt, alloc, live, readers),
+        Row::WhoHasSeen => published::who_has_seen(rt, alloc, live, readers, published::WRITES),
+        Row::WhoHasSeenBatches => {
+            published::who_has_seen(rt, alloc, live, readers, published::BATCHES)
+        }
         Row::Marked => published::marked(rt, alloc, live, readers),
+        Row::Batches => batches::in_one_step(rt, alloc, live, readers),
+        Row::ToldBatch => batches::told(rt, alloc, live, readers),
         _ => {
             run_unread(rt, alloc, live, row);
             Ok(())

@@ -18,7 +18,7 @@ pub(super) trait Answered: Drop {
 impl Answered for Answer {
     fn refusal(&self) -> Option<KvError> {
         match *self {
-            Answer::Refused(error) => Some(error),
+            Answer::Refused(error) | Answer::RefusedAt(_, error) => Some(error),
             _ => None,
         }
     }

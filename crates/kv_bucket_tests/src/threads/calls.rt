@@ -2,11 +2,21 @@
 //! nothing there: neither its version, nor its watches, nor what each of them is given next.
 
 use super::*;
-use kv_bucket::{Keeper, Key, Request, Stopped};
+use kv_bucket::{BatchRefused, Keeper, Key, Request, Stopped};
+
+// What is asked in a batch.
+#[derive(Clone, Copy)]
+pub(super) enum Ask {
+    Put(&'static str),
+    Create(&'static str),
+    // With the last revision of the key that it asks for.
+    Delete(&'static str, u64),
+}
 
 #[derive(Clone, Copy)]
 pub(super) enum Call {
     Put(&'static str),
+    WriteAll(&'static [Ask]),
     Seal,
     Compact(u64),
     // On a guard of its own.
@@ -17,6 +27,7 @@ pub(super) enum Call {
 #[derive(Clone, Copy)]
 pub(super) enum Step {
     Put(&'static str),
+    WriteAll(&'static [Ask]),
     Delete(&'static str),
     Seal,
     Watch,
@@ -34,6 +45,54 @@ pub(super) fn put_request(alloc: Global, key: &str) -> Result<Request, KvError> 
 fn delete_request(alloc: Global, key: &str) -> Result<Request, KvError> {
     let key = Key::parse(alloc, key)?;
     Ok(Request::Delete { key, last: None })
+}
+
+fn request(alloc: Global, ask: Ask) -> Result<Request, KvError> {
+    match ask {
+        Ask::Put(key) => put_request(alloc, key),
+        Ask::Create(key) => Ok(Request::Create {
+            key: Key::parse(alloc, key)?,
+            value: Vec::new(alloc),
+        }),
+        Ask::Delete(key, last) => Ok(Request::Delete {
+            key: Key::parse(alloc, key)?,
+            last: Some(last),
+        }),
+    }
+}
+
+pub(super) fn requests(alloc: Global, asks: &[Ask]) -> Result<Vec<Request>, KvError> {
+    let mut requests = Vec::new(alloc);
+    for ask in asks {
+        requests.push(request(alloc, *ask)?)?;
+    }
+    Ok(requests)
+}
+
+fn first(answered: Result<u64, BatchRefused>) -> Answer {
+    match answered {
+        Ok(first) => Answer::Number(first),
+        Err(refused) => Answer::RefusedAt(refused.at, refused.error),
+    }
+}
+
+fn write_all<N: LiveName, R: Wait>(rt: &R, alloc: Global, live: &Live<N>, asks: &[Ask]) -> Answer {
+    match requests(alloc, asks) {
+        Ok(requests) => first(live.write_all(rt, &requests)),
+        Err(error) => Answer::Refused(error),
+    }
+}
+
+fn keep_all<N: LiveName, R: Wait>(
+    rt: &R,
+    alloc: Global,
+    keeper: &mut Keeper<N>,
+    asks: &[Ask],
+) -> Answer {
+    match requests(alloc, asks) {
+        Ok(requests) => first(keeper.write_all(rt, &requests)),
+        Err(error) => Answer::Refused(error),
+    }
 }
 
 fn put<N: LiveName, R: Wait>(
@@ -82,6 +141,7 @@ fn step_once<N: LiveName, R: Wait + Abort>(
 ) -> Answer {
     match step {
         Step::Put(key) => number(keep(rt, keeper, put_request(alloc, key))),
+        Step::WriteAll(asks) => keep_all(rt, alloc, keeper, asks),
         Step::Delete(key) => number(keep(rt, keeper, delete_request(alloc, key))),
         Step::Seal => done(keeper.seal(rt)),
         Step::Watch => number(watch(alloc, keeper)),
@@ -99,6 +159,7 @@ fn call_once<N: LiveName, R: Wait + Abort>(
 ) -> Answer {
     match call {
         Call::Put(key) => number(put(rt, alloc, live, key)),
+        Call::WriteAll(asks) => write_all(rt, alloc, live, asks),
         Call::Seal => done(live.seal(rt)),
         Call::Compact(floor) => done(live.compact(rt, floor)),
         Call::Guarded(step) => guarded_once(rt, alloc, live, step),

@@ -3,7 +3,7 @@
 ghost use Rattle.std.specs.Prelude.{◌≡◌};
 
 use crate::equal::equal;
-use crate::waiting::following::{follow_to_the_end, put, watch_all};
+use crate::following::{follow_to_the_end, put, watch_all};
 use kv_bucket::{Config, Feed, KvError, Live, LiveName, Opened, Woken};
 use std::alloc::Global;
 use std::marker::Brand;

@@ -2,7 +2,7 @@
 //! them.
 
 use crate::equal::equal;
-use crate::waiting::following::{follow_to_the_end, put, watch_all};
+use crate::following::{follow_to_the_end, put, watch_all};
 use crate::waiting::opening::{Row, run};
 use crate::waiting::sleepers::pause;
 use kv_bucket::{KvError, Live, LiveName};

@@ -4,7 +4,7 @@
 ghost use Rattle.std.specs.Prelude.{◌≡◌};
 
 use crate::equal::equal;
-use crate::waiting::following::slot;
+use crate::following::slot;
 use crate::waiting::opening::{Row, run};
 use crate::waiting::waits::{Act, Step, make, steps_of, take_step};
 use kv_bucket::{Config, KvError, Live, LiveName, Opened, Reader, Woken};
@@ -71,6 +71,7 @@ fn disturb<N: LiveName, R: Wait + Clock>(
 
 const WOKEN: &[(Act, Woken)] = &[
     (Act::Put, Woken::Changed),
+    (Act::PutTwo, Woken::Changed),
     (Act::Seal, Woken::Changed),
     (Act::Compact, Woken::Changed),
     (Act::Finish, Woken::Closed),

@@ -1,7 +1,7 @@
 //! Tests of waits: what ends them, and what they answer.
 
 use crate::equal::equal;
-use crate::waiting::following::{From, put, slot, watch};
+use crate::following::{From, put, put_two, slot, watch};
 use crate::waiting::opening::{Row, run};
 use kv_bucket::{Feed, Filters, KvError, Live, LiveName, Reader, Version, Woken};
 use std::alloc::Global;
@@ -15,6 +15,8 @@ use std::time::Duration;
 #[derive(Clone, Copy)]
 pub enum Act {
     Put,
+    // In one batch.
+    PutTwo,
     Seal,
     Compact,
     Finish,
@@ -29,6 +31,10 @@ pub fn make<N: LiveName, R: Wait>(
     match act {
         Act::Put => {
             put(rt, alloc, live)?;
+            Ok(())
+        }
+        Act::PutTwo => {
+            put_two(rt, alloc, live)?;
             Ok(())
         }
         Act::Seal => live.seal(rt),
@@ -176,6 +182,27 @@ const REVISIONS: &[Step] = &[
 #[test]
 fn a_revision_is_waited_for_to_the_end(rt: HostRuntime) -> Result<(), Fail> {
     run(&rt, rt.alloc(), Row::Reader(REVISIONS))?;
+    Ok(())
+}
+
+// A look takes in all of a batch, and what is written behind it is news again.
+const BATCHES: &[Step] = &[
+    Step::Do(Act::PutTwo),
+    Step::Moment(Some(Woken::Changed)),
+    Step::For(1, Some(2)),
+    Step::Moment(None),
+    Step::Do(Act::Put),
+    Step::Moment(Some(Woken::Changed)),
+    Step::For(3, Some(3)),
+    Step::Do(Act::PutTwo),
+    Step::For(4, Some(5)),
+    Step::Moment(None),
+];
+
+// Refutes a notifier that counts a batch as one write: who has looked behind the batch would sleep on behind the next.
+#[test]
+fn a_wait_counts_each_write_of_a_batch(rt: HostRuntime) -> Result<(), Fail> {
+    run(&rt, rt.alloc(), Row::Reader(BATCHES))?;
     Ok(())
 }
 

@@ -13,10 +13,29 @@ const LATEST: Options = Options {
     headers_only: false,
 };
 
-pub fn put<N: LiveName, R: Wait>(rt: &R, alloc: Global, live: &Live<N>) -> Result<u64, KvError> {
+fn request(alloc: Global) -> Result<Request, KvError> {
     let key = Key::parse(alloc, "app.port")?;
     let value = Vec::from_slice(alloc, b"80")?;
-    live.write(rt, &Request::Put { key, value })
+    Ok(Request::Put { key, value })
+}
+
+pub fn put<N: LiveName, R: Wait>(rt: &R, alloc: Global, live: &Live<N>) -> Result<u64, KvError> {
+    live.write(rt, &request(alloc)?)
+}
+
+// Two writes in one step.
+pub fn put_two<N: LiveName, R: Wait>(
+    rt: &R,
+    alloc: Global,
+    live: &Live<N>,
+) -> Result<u64, KvError> {
+    let mut requests = Vec::new(alloc);
+    requests.push(request(alloc)?)?;
+    requests.push(request(alloc)?)?;
+    match live.write_all(rt, &requests) {
+        Ok(first) => Ok(first),
+        Err(refused) => Err(refused.error),
+    }
 }
 
 // A reader at a place that is free.
@@ -57,7 +76,7 @@ pub fn watch_all<N: LiveName, R: Wait>(
 }
 
 // Whether an item comes after all that came before it. The revisions of entries rise one by one.
-fn is_next(item: Taken<'_>, last: &mut u64) -> bool {
+pub fn is_next(item: Taken<'_>, last: &mut u64) -> bool {
     match item {
         Taken::Entry(shown) => {
             *last = last.saturating_add(1);

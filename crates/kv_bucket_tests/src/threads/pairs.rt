@@ -1,0 +1,217 @@
+//! Rows of a writer that always writes two keys together, each time the same value, beside a reader and beside a feed on
+//! another thread: neither of them ever sees one of the two writes without the other. No thread waits for another one.
+
+use super::*;
+use crate::following::is_next;
+use kv_bucket::{Key, Request};
+use std::sync::atomic::{AtomicU64, Ordering};
+
+const PAIRS: u64 = 200;
+// Each pair is two writes.
+pub(super) const WRITES: u64 = 400;
+
+const FIRST: &str = "a";
+
+const SECOND: &str = "b";
+
+fn put_number(alloc: Global, key: &str, number: u64) -> Result<Request, KvError> {
+    let key = Key::parse(alloc, key)?;
+    let value = Vec::from_slice(alloc, &number.to_le_bytes())?;
+    Ok(Request::Put { key, value })
+}
+
+fn pair(alloc: Global, number: u64) -> Result<Vec<Request>, KvError> {
+    let mut requests = Vec::new(alloc);
+    requests.push(put_number(alloc, FIRST, number)?)?;
+    requests.push(put_number(alloc, SECOND, number)?)?;
+    Ok(requests)
+}
+
+fn write_pair<N: LiveName, R: Wait>(
+    rt: &R,
+    alloc: Global,
+    live: &Live<N>,
+    number: u64,
+) -> Result<u64, KvError> {
+    let requests = pair(alloc, number)?;
+    match live.write_all(rt, &requests) {
+        Ok(first) => Ok(first),
+        Err(refused) => Err(refused.error),
+    }
+}
+
+// Each pair follows the one before it.
+fn write_each_pair<N: LiveName, R: Wait + Abort>(
+    rt: &R,
+    alloc: Global,
+    live: &Live<N>,
+) -> Result<(), KvError> {
+    let mut next = 1_u64;
+    for number in 0..PAIRS {
+        equal(rt, write_pair(rt, alloc, live, number)?, next);
+        next = next.saturating_add(2);
+    }
+    Ok(())
+}
+
+// Tells that it has ended, also where it was refused.
+fn write_pairs<N: LiveName, R: Wait + Abort>(
+    rt: &R,
+    alloc: Global,
+    live: &Live<N>,
+    ended: &AtomicU64,
+) -> Result<(), KvError> {
+    let written = write_each_pair(rt, alloc, live);
+    ended.store(1, Ordering::SeqCst);
+    written
+}
+
+fn has_ended(ended: &AtomicU64) -> bool {
+    ended.load(Ordering::SeqCst) == 1
+}
+
+// Refutes a batch whose writes are published one after the other: between them the values differ.
+#[test]
+fn a_reader_sees_both_writes_of_a_batch_or_neither(rt: HostRuntime) -> Result<(), Fail> {
+    run(&rt, rt.alloc(), Row::PairsBesideAReader)?;
+    Ok(())
+}
+
+pub(super) fn beside_a_reader<N: LiveName + Send + Sync, R: Threads + Wait + Abort + Sync>(
+    rt: &R,
+    alloc: Global,
+    live: &Live<N>,
+    readers: &mut Vec<Reader<N>>,
+) -> Result<(), KvError> {
+    let mut reader = last(readers)?;
+    let ended = AtomicU64::new(0);
+    look_beside(rt, alloc, live, &mut reader, &ended)?;
+    reads(rt, &mut reader, Answer::On(WRITES, 0));
+    Ok(())
+}
+
+fn look_beside<N: LiveName + Send + Sync, R: Threads + Wait + Abort + Sync>(
+    rt: &R,
+    alloc: Global,
+    live: &Live<N>,
+    reader: &mut Reader<N>,
+    ended: &AtomicU64,
+) -> Result<(), KvError> {
+    let (written, looked) = join(
+        rt,
+        || write_pairs(rt, alloc, live, ended),
+        || look_at_pairs(rt, alloc, reader, ended),
+    );
+    written?;
+    looked
+}
+
+fn look_at_pairs<N: LiveName, R: Wait + Abort>(
+    rt: &R,
+    alloc: Global,
+    reader: &mut Reader<N>,
+    ended: &AtomicU64,
+) -> Result<(), KvError> {
+    let first = Key::parse(alloc, FIRST)?;
+    let second = Key::parse(alloc, SECOND)?;
+    look_to_the_end(rt, reader, (&first, &second), ended)
+}
+
+// The last look comes behind the last write.
+fn look_to_the_end<N: LiveName, R: Wait + Abort>(
+    rt: &R,
+    reader: &mut Reader<N>,
+    keys: (&Key, &Key),
+    ended: &AtomicU64,
+) -> Result<(), KvError> {
+    for _ in rt.forever() {
+        let is_last = has_ended(ended);
+        let version = reader.version()?;
+        equal(rt, has_whole_pairs(&version, keys), true);
+        if is_last {
+            return Ok(());
+        }
+    }
+    Ok(())
+}
+
+fn has_whole_pairs(version: &Version, (first, second): (&Key, &Key)) -> bool {
+    match (version.get(first), version.get(second)) {
+        (Ok(one), Ok(other)) => one.value() == other.value(),
+        (Err(_), Err(_)) => true,
+        _ => false,
+    }
+}
+
+// Refutes a batch whose writes are published one after the other: the feed would go on to the first of two.
+#[test]
+fn a_feed_goes_on_to_both_writes_of_a_batch_or_to_neither(rt: HostRuntime) -> Result<(), Fail> {
+    run(&rt, rt.alloc(), Row::PairsBesideAFeed)?;
+    Ok(())
+}
+
+pub(super) fn beside_a_feed<N: LiveName + Send + Sync, R: Threads + Wait + Abort + Sync>(
+    rt: &R,
+    alloc: Global,
+    live: &Live<N>,
+    readers: &mut Vec<Reader<N>>,
+) -> Result<(), KvError> {
+    let mut feed = feed_of_last(alloc, readers)?;
+    let ended = AtomicU64::new(0);
+    equal(
+        rt,
+        follow_beside(rt, alloc, live, &mut feed, &ended)?,
+        WRITES,
+    );
+    Ok(())
+}
+
+fn follow_beside<N: LiveName + Send + Sync, R: Threads + Wait + Abort + Sync>(
+    rt: &R,
+    alloc: Global,
+    live: &Live<N>,
+    feed: &mut Feed<N>,
+    ended: &AtomicU64,
+) -> Result<u64, KvError> {
+    let (written, followed) = join(
+        rt,
+        || write_pairs(rt, alloc, live, ended),
+        || follow_to_the_end(rt, feed, ended),
+    );
+    written?;
+    followed
+}
+
+// The revision of the last write that it was handed. The last refresh comes behind the last write.
+fn follow_to_the_end<N: LiveName, R: Wait + Abort>(
+    rt: &R,
+    feed: &mut Feed<N>,
+    ended: &AtomicU64,
+) -> Result<u64, KvError> {
+    let mut last = 0;
+    for _ in rt.forever() {
+        let is_last = has_ended(ended);
+        feed.refresh()?;
+        equal(rt, takes_whole_pairs(feed, &mut last), true);
+        if is_last {
+            return Ok(last);
+        }
+    }
+    Ok(last)
+}
+
+// Whether all that it hands out by its version comes in order, and ends with the second write of a pair.
+fn takes_whole_pairs<N: LiveName>(feed: &mut Feed<N>, last: &mut u64) -> bool {
+    // the marker, each write, and the end
+    for _ in 0..WRITES + 2 {
+        match feed.take() {
+            Taken::Empty => return *last % 2 == 0,
+            item => {
+                if !is_next(item, last) {
+                    return false;
+                }
+            }
+        }
+    }
+    false
+}
