@@ -92,9 +92,9 @@ def only():
     """The name of the one archive for this machine."""
     here, elsewhere = names(), sorted(set(machines().values()))
     if len(here) > 1:
-        raise Missing("dist/ has %d releases for %s: %s" % (len(here), machine(), ", ".join(here)))
+        raise Missing("dist/ has %d releases for %s, of which one may stay: %s" % (len(here), machine(), ", ".join(here)))
     if not here and elsewhere:
-        raise Missing("the release in dist/ is for %s, and this machine is %s" % (" and ".join(elsewhere), machine()))
+        raise Missing("the release in dist/ is for %s, and this machine is %s: get or make one for it" % (" and ".join(elsewhere), machine()))
     if not here:
         raise Missing("there is no release in dist/: ./release makes it")
     return here[0]
@@ -118,4 +118,4 @@ def each(name):
                     data = file.extractfile(header)
                     yield path, Member(data.read() if data else b"", is_run)
     except (tarfile.TarError, EOFError, zlib.error) as error:
-        raise Missing("dist/%s.tar.gz is no whole archive: %s" % (name, error)) from None
+        raise Missing("dist/%s.tar.gz is no whole archive (%s): get it again, or run ./release" % (name, error)) from None

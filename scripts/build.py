@@ -130,7 +130,7 @@ def main():
     signal.signal(signal.SIGINT, signal.SIG_DFL)
     os.chdir(top)
     if kit.command() is None:
-        print("%s: the Rattle kit's command rt is not on the path" % name, file=sys.stderr)
+        print("%s: the Rattle kit's command rt is not on the path: install the kit, whose prover a build needs" % name, file=sys.stderr)
         sys.exit(2)
     whole = kit.crate(name)
     before = current.sources(name)

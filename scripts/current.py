@@ -132,7 +132,7 @@ def main():
     elif words[:1] == ["--keep"]:
         with open(words[2], encoding="utf-8") as file:
             if not keep(words[1], file.read()):
-                sys.exit("%s: its sources changed while it was built" % words[1])
+                sys.exit("%s: its sources changed while it was built: build it again" % words[1])
     else:
         sys.exit(not is_current(words[0]))
 

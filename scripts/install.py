@@ -43,7 +43,7 @@ def main():
     words = sys.argv[1:]
     try:
         if len(words) > 1 or any(word.startswith("-") for word in words):
-            sys.exit("install: the only argument is a folder to install under")
+            sys.exit("install: the only argument is a folder to install under, as in ./install /usr/local")
         install(os.path.abspath(words[0] if words else os.path.expanduser("~/.local")))
     except (archive.Missing, OSError) as error:
         sys.exit("install: %s" % error)

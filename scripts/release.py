@@ -78,7 +78,7 @@ def package():
     """The files of the Python package."""
     paths = [path for path in current.files_in(PACKAGE) if "__pycache__" not in path and not path.endswith(".so")]
     if PACKAGE + "/__init__.py" not in paths:
-        raise Refused("there is no Python package in %s" % PACKAGE)
+        raise Refused("there is no Python package in %s: check out the whole repository" % PACKAGE)
     return {"lib/" + path: read(path) for path in paths}
 
 
@@ -154,7 +154,7 @@ def check():
 def main():
     try:
         if sys.argv[1:] not in ([], ["--check"]):
-            raise Refused("the only argument is --check")
+            raise Refused("the only argument is --check, which compares the release in dist/ with what was built")
         check() if sys.argv[1:] else make()
     except (Refused, archive.Missing, OSError, ValueError, subprocess.CalledProcessError) as error:
         sys.exit("release: %s" % error)

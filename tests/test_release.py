@@ -345,7 +345,8 @@ class Running(Tree):
         self.release()
         self.forget_builds()
         done = self.run_in("./kvbucket", "--build", kit=False)
-        self.assertEqual((done.returncode, done.stderr), (2, "kvbucket: the Rattle kit's command rt is not on the path\n"))
+        self.assertEqual((done.returncode, done.stderr),
+                         (2, "kvbucket: the Rattle kit's command rt is not on the path: install the kit, whose prover a build needs\n"))
 
     def test_a_release_of_other_sources_is_not_run(self):
         self.release()
