@@ -1,3 +1,4 @@
+pub mod Histories
 pub mod Prefixes
 pub mod Publishing
 pub mod Seeing

@@ -41,10 +41,10 @@ acts_from_more revision (y ∷ xs) x =
     let n : revision + 1 + length xs ≡ revision + suc (length xs) = omega arith in
     ap (λ (acts : List Act). Wrote (write_for (asked y) revision) ∷ acts) (acts_from_more (revision + 1) xs x ∙ ap (λ r. acts_from (revision + 1) xs ++ Wrote (write_for (asked x) r) ∷ []) n)
 
-pub added_more : (before now more : List Entry) (revision k : ℕ) (xs ys : List Request) (x : Request) (act : Act) (ends : Bool) (next : ℕ) → acts_in now ≡ acts_in before ++ acts_from revision xs → ys ≡ xs ++ x ∷ [] → length xs ≡ k
-    → act ≡ Wrote (write_for (asked x) (revision + k)) → more ≡ now ++ entry act ends next ∷ [] → acts_in more ≡ acts_in before ++ acts_from revision ys
-added_more before now more revision k xs ys x act ends next so_far grown count is added =
-    let e = entry act ends next in
+pub added_more : (before now more : List Entry) (revision k : ℕ) (xs ys : List Request) (x : Request) (act : Act) (ends : Bool) (right next : ℕ) → acts_in now ≡ acts_in before ++ acts_from revision xs → ys ≡ xs ++ x ∷ [] → length xs ≡ k
+    → act ≡ Wrote (write_for (asked x) (revision + k)) → more ≡ now ++ entry act ends right next ∷ [] → acts_in more ≡ acts_in before ++ acts_from revision ys
+added_more before now more revision k xs ys x act ends right next so_far grown count is added =
+    let e = entry act ends right next in
     let last : act ≡ Wrote (write_for (asked x) (revision + length xs)) = is ∙ ap (λ n. Wrote (write_for (asked x) (revision + n))) (sym count) in
     ap acts_in added
     ∙ (acts_more now e
@@ -56,21 +56,21 @@ added_more before now more revision k xs ys x act ends next so_far grown count i
 abbrev pub IsStepUpTo : ℕ → ℕ → List Entry → Type 0
 IsStepUpTo before total log = (i : ℕ) → before ≤ i → i < length log → i + 1 < before + total → ends_at log i ≡ false
 
-pub step_more : (before total k : ℕ) (now more : List Entry) (act : Act) (ends : Bool) (next : ℕ) → IsStepUpTo before total now → length now ≡ before + k → ends ≡ (k + 1 == total) → more ≡ now ++ entry act ends next ∷ [] → IsStepUpTo before total more
-step_more before total k now more act ends next so_far long is added i from within early =
-    let e = entry act ends next in
+pub step_more : (before total k : ℕ) (now more : List Entry) (act : Act) (ends : Bool) (right next : ℕ) → IsStepUpTo before total now → length now ≡ before + k → ends ≡ (k + 1 == total) → more ≡ now ++ entry act ends right next ∷ [] → IsStepUpTo before total more
+step_more before total k now more act ends right next so_far long is added i from within early =
+    let e = entry act ends right next in
     ap (λ (es : List Entry). ends_at es i) added ∙ by_test (nat_lt i (length now)) refl
   where
-    by_test : (b : Bool) → nat_lt i (length now) ≡ b → ends_at (now ++ entry act ends next ∷ []) i ≡ false
+    by_test : (b : Bool) → nat_lt i (length now) ≡ b → ends_at (now ++ entry act ends right next ∷ []) i ≡ false
     by_test true t =
         let l : i < length now = ltb-true i (length now) t in
-        ap ends_of (at_within now (entry act ends next) i l) ∙ so_far i from l early
+        ap ends_of (at_within now (entry act ends right next) i l) ∙ so_far i from l early
     by_test false t =
         let there : length now ≤ i = grind (arith, nat_tests) in
-        let total_length : length more ≡ length now + 1 = ap length added ∙ length-append now (entry act ends next ∷ []) in
+        let total_length : length more ≡ length now + 1 = ap length added ∙ length-append now (entry act ends right next ∷ []) in
         let here : i ≡ length now = omega (arith, there, within, total_length) in
         let not_last : (k + 1 == total) ≡ false = ne_eqb (k + 1) total (λ f. omega (arith, f, early, here, long)) in
-        ap (ends_at (now ++ entry act ends next ∷ [])) here ∙ (ap ends_of (at_end now (entry act ends next)) ∙ (is ∙ not_last))
+        ap (ends_at (now ++ entry act ends right next ∷ [])) here ∙ (ap ends_of (at_end now (entry act ends right next)) ∙ (is ∙ not_last))
 
 pub step_done : (before total : ℕ) (log : List Entry) → IsStepUpTo before total log → length log ≡ before + total → IsStepFrom before log
 step_done before total log up_to long = λ i from early. up_to i from (omega (arith, early)) (omega (arith, early, long))

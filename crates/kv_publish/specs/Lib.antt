@@ -3,4 +3,5 @@ pub mod Openings
 pub mod Rules
 pub mod Steps
 pub mod Publications
+pub mod Witnesses
 pub mod inside

@@ -1,16 +1,16 @@
--- The rule of the history, and what its steps tell.
-use Rattle.std.specs.Prelude.{ℕ, ◌≡◌, ◌+◌, ◌-◌, ◌≤◌, ◌<◌, Bool, true, false, List, [], ◌∷◌, ◌++◌, length, map, slice_get}
+-- The rule of a log of histories, and what its steps tell.
+use Rattle.std.specs.Prelude.{ℕ, ◌≡◌, ◌+◌, ◌-◌, ◌≤◌, ◌<◌, ◌==◌, Bool, true, false, List, [], ◌∷◌, ◌++◌, length, map, slice_get}
 use Rattle.std.specs.Option.{option_map_or}
 use Rattle.logbook.specs.Pages.{Cell, Step, View, Book, Named, cell, nib, may_make, may_write}
 use Rattle.kv_model.specs.Acts.{Act, Seal, IsPrefix}
 use Rattle.kv_publish.specs.declared.entry.Entry.{Entry}
 
-abbrev pub entry : Act → Bool → ℕ → Entry
-entry act ends next = record { ghost_act = act; ends = ends; next = next }
+abbrev pub entry : Act → Bool → ℕ → ℕ → Entry
+entry act ends right next = record { ghost_act = act; ends = ends; right = right; next = next }
 
 -- stands where a step asks for nothing
 abbrev pub no_entry : Entry
-no_entry = entry Seal true 0
+no_entry = entry Seal true 0 0
 
 -- the acts of a history
 abbrev pub acts_in : List Entry → List Act
@@ -28,22 +28,30 @@ IsWhole log = ends_at log (length log - 1) ≡ true
 abbrev pub IsStepFrom : ℕ → List Entry → Type 0
 IsStepFrom before log = (i : ℕ) → before ≤ i → i + 1 < length log → ends_at log i ≡ false
 
--- the cell whose pen is the right to add an entry behind these, where the one behind nothing is `first`
+-- the right to add an entry behind these, where the one behind nothing is `first`
 abbrev pub right_behind : ℕ → List Entry → ℕ
 right_behind first [] = first
 right_behind first (e ∷ log) = right_behind e.next log
 
--- each entry was added by who had the right: the cell of that right came home with it, and only its pen could bring it
-abbrev pub Came : List Cell → ℕ → List Entry → Type 0
-Came cells right [] = Unit {0}
-Came cells right (e ∷ log) = ((cell cells right).1 ≡ true) × Came cells e.next log
+abbrev pub whether : Bool → List Entry → List Entry → List Entry
+whether true xs ys = xs
+whether false xs ys = ys
 
--- The first three words are at home from the beginning. The first one holds 0 until the first right is made, whose cell
--- is then the fourth
+-- the history that begins with a right: the entry of a log that was added by it, then the one by the right that this
+-- names, and so on
+abbrev pub history_from : ℕ → List Entry → List Entry
+history_from right [] = []
+history_from right (e ∷ log) = whether (e.right == right) (e ∷ history_from e.next log) (history_from right log)
+
+-- each entry was added by who had the right: the cell of that right came home with it, and only its pen could bring it
+abbrev pub Came : List Cell → List Entry → Type 0
+Came cells [] = Unit {0}
+Came cells (e ∷ log) = ((cell cells e.right).1 ≡ true) × Came cells log
+
+-- the first word, on which the steps are made, is at home from the beginning
 pub record IsKept (cells : List Cell) (log : List Entry) : Type 0 where
   pub head : (cell cells 0).1 ≡ true
-  pub alone : (cell cells 0).0 ≡ 0 → length cells ≡ 3
-  pub came : Came cells 3 log
+  pub came : Came cells log
 
 abbrev pub head_of : Book → Named
 head_of b = record { tracked = true; key = 0; book = b }
@@ -55,15 +63,17 @@ pub record IsSide (book : Book) (word : Named) : Type 0 where
   pub behind : 0 < word.key
   pub within : word.key < 3
 
--- a cell was added, and its pen is had; it is the fourth where none was added before
+-- a cell was added, and its pen is had: a right by which nothing was added yet
 abbrev pub Making : Step Entry → View Entry ℕ → ℕ → View Entry ℕ → Type 0
-Making s v found w = (key : ℕ) × ((w.1.0 ≡ nib may_make key 0) × (found ≡ 0 → key ≡ 3))
+Making s v found w = (key : ℕ) × ((w.1.0 ≡ nib may_make key 0) × (history_from key w.0 ≡ []))
 
--- the entry was added to all that had been seen
+-- the entry was added behind all of the history that its right is behind
 abbrev pub Adding : Step Entry → View Entry ℕ → ℕ → View Entry ℕ → Type 0
-Adding s v found w = w.0 ≡ v.0 ++ s.ask ∷ []
+Adding s v found w = (first : ℕ) → s.ask.right ≡ right_behind first (history_from first v.0) →
+    history_from first w.0 ≡ history_from first v.0 ++ s.ask ∷ []
 
--- the pen stays; where it is the right to add an entry behind some that were seen, these are all that there are
+-- the pen stays; where it is the right to add an entry behind some that were seen of a history, these are all that it has
 abbrev pub Looking : Step Entry → View Entry ℕ → ℕ → View Entry ℕ → Type 0
 Looking s v found w = (w.1.0 ≡ v.1.0) ×
-    ((all : List Entry) → IsPrefix all v.0 → v.1.0 ≡ nib may_write (right_behind 3 all) 0 → w.0 ≡ all)
+    ((first : ℕ) (all : List Entry) → IsPrefix all (history_from first v.0) → v.1.0 ≡ nib may_write (right_behind first all) 0 →
+    history_from first w.0 ≡ all)

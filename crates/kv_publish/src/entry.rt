@@ -1,12 +1,13 @@
-//! What the history has.
+//! What the log has.
 
 use crate::ghost_act::GhostAct;
 
-/// An entry of the history: an act, whether a step ends with it, and which right is the one to add the next entry. No
-/// value of it is made.
+/// An entry of a history: an act, whether a step ends with it, by which right it was added, and which one is the right to
+/// add the next entry. No value of it is made.
 #[derive(Drop)]
 pub struct Entry {
     pub ghost_act: GhostAct,
     pub ends: bool,
+    pub right: u64,
     pub next: u64,
 }

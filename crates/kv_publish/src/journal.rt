@@ -6,15 +6,15 @@ ghost use Rattle.kv_model.specs.Acts.{IsPrefix};
 ghost use Rattle.kv_publish.specs.Rules.{IsSide, IsStepFrom, IsWhole, acts_in, head_of};
 ghost use Rattle.kv_publish.specs.Steps.{acts_from, step_of};
 
-use crate::entry::Entry;
 use crate::ghost_act::GhostAct;
 use crate::prefix::{Prefix, RawPrefix};
-use crate::protocol::{Anchor, Empty, LiveName, Witness};
-use crate::raw_journal::{RawJournal, make_right};
+use crate::protocol::{Anchor, Empty, LiveName, SeenLog};
+use crate::raw_journal::RawJournal;
 use crate::side::Right;
 use crate::step::Step;
+use crate::witness::Witness;
 use kv_model::Request;
-use logbook::{Pen, Seen, Start};
+use logbook::{Pen, Start};
 use std::marker::Model;
 
 /// An empty history, which has no name yet.
@@ -26,33 +26,29 @@ pub struct FreshJournal {
     pen: Pen,
     pub witness: Witness,
     pub ghost empty: { witness.log ≡ [] },
-    ghost head_is: { head ≡ head_of witness.book },
-    ghost sides: { IsSide witness.book first × IsSide witness.book second },
-    ghost right: { (pen.book ≡ witness.book) × (pen.nib ≡ nib may_write 3 0) },
+    ghost head_is: { head ≡ head_of witness.book.written_in },
+    ghost sides: { IsSide witness.book.written_in first × IsSide witness.book.written_in second },
+    ghost right: { (pen.book ≡ witness.book.written_in) × (pen.nib ≡ nib may_write witness.book.first 0) },
 }
 
 impl FreshJournal {
-    /// A history without acts, under a name of its own. It is `None` where a right to add to it was made before, which
-    /// no clause excludes, and which never is.
-    pub fn new() -> Option<FreshJournal> {
-        let (witness, mut pens) = Seen::open_row::<(), Empty>(&(), Start::alone(), 3);
+    /// A history without acts, which is told from any other by its log and by the first right to add to it.
+    pub fn new() -> FreshJournal {
+        let (seen, mut pens) = SeenLog::open_row::<(), Empty>(&(), Start::alone(), 3);
         let mut for_head = pens.take();
         let mut for_first = pens.take();
         let mut for_second = pens.take();
         let head = Anchor::tracked(0, &mut for_head);
         let first = Anchor::tracked(0, &mut for_first);
         let second = Anchor::tracked(0, &mut for_second);
-        let (pen, is_first) = make_right(&head, &witness);
-        if !is_first {
-            return None;
-        }
-        Some(FreshJournal {
+        let (witness, pen) = Witness::begin(seen, &head);
+        FreshJournal {
             head,
             first,
             second,
             pen,
             witness,
-        })
+        }
     }
 
     /// The history under a name, with nothing in it, and the rights of the two copies.

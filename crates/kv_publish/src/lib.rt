@@ -17,6 +17,7 @@ mod raw_journal;
 mod rule;
 mod side;
 mod step;
+mod witness;
 
 pub use double_buffer::DoubleBuffer;
 pub use ghost_act::GhostAct;
@@ -24,8 +25,9 @@ pub use journal::{FreshJournal, Journal};
 pub use last_published::LastPublished;
 pub use notifier::{Notifier, Woken};
 pub use prefix::{Prefix, RawPrefix};
-pub use protocol::{LiveName, Witness};
+pub use protocol::LiveName;
 pub use publication::Publication;
 pub use rule::{Gets, PublishRule};
 pub use side::{Right, Side};
 pub use step::Step;
+pub use witness::Witness;

@@ -4,7 +4,8 @@ ghost use Rattle.std.specs.Prelude.{◌≡◌, ◌≤◌, ◌⊎◌, [], true, f
 ghost use Rattle.kv_model.specs.Acts.{IsPrefix};
 ghost use Rattle.kv_publish.specs.Rules.{IsStepFrom, IsWhole, acts_in};
 
-use crate::protocol::{LiveName, Witness};
+use crate::protocol::LiveName;
+use crate::witness::Witness;
 use std::marker::{Model, PhantomData};
 
 /// A beginning of some history that ends with a step, with its length. Contracts see its acts, and which history it is of.

@@ -1,12 +1,13 @@
-//! The history of an opening: the acts that are published, in order. It exists in proofs alone, beside a word on which its
-//! steps are made.
+//! The log that has the history of an opening: the acts that are published, in order. It exists in proofs alone, beside a
+//! word on which its steps are made.
 
 use crate::entry::Entry;
 use crate::ghost_act::GhostAct;
 use logbook::{Gain, Opening, Pen, Plain, Play, Rule, Seen, Word};
 use std::marker::Brand;
+use std::snapshot::Snapshot;
 
-/// The rule of the history.
+/// The rule of the log.
 pub struct Noted;
 
 impl Rule<Entry, u64> for Noted {
@@ -27,13 +28,24 @@ impl Rule<Entry, u64> for Noted {
     ghost moves = { λ ask before after answer. Unit {0} };
 }
 
-/// A history begins with nothing.
+/// A log begins with nothing.
 pub struct Empty;
 
 impl Opening<(), Entry> for Empty {
     ghost use Rattle.std.specs.Prelude.{[]};
 
     ghost log = { λ count about. [] };
+}
+
+/// The log that tells the first right of a history begins, and ends, with an entry before that right.
+pub struct Titled;
+
+impl Opening<Pen, Entry> for Titled {
+    ghost use Rattle.std.specs.Prelude.{true, [], ◌∷◌};
+    ghost use Rattle.kv_model.specs.Acts.{Seal};
+    ghost use Rattle.kv_publish.specs.Rules.{entry};
+
+    ghost log = { λ count pen. entry Seal true 0 pen.nib.key ∷ [] };
 }
 
 /// Callers trade nothing.
@@ -64,12 +76,13 @@ impl Plain<(), Entry, u64> for Makes {
     ghost state = { λ about. None };
 }
 
-/// An act, whether it ends a step, and the right to add the next one.
+/// An act, whether it ends a step, by which right it is added, and the right to add the next one.
 #[derive(Drop)]
 pub struct Claim {
     pub ghost_act: GhostAct,
     pub ends: bool,
-    pub pen: Pen,
+    pub right: Snapshot<Pen>,
+    pub next: Pen,
 }
 
 /// A step that adds an act, by the right to add the next one.
@@ -81,12 +94,12 @@ impl Play<Entry, u64> for Adds {
     ghost then = { Adding };
 }
 
-/// What it asks for: the act, and which right is the next one.
+/// What it asks for: the act, which right it is added by, and which one is the next.
 impl Plain<Claim, Entry, u64> for Adds {
     ghost use Rattle.std.specs.Prelude.{None};
     ghost use Rattle.kv_publish.specs.Rules.{entry};
 
-    ghost ask = { λ claim. entry claim.ghost_act claim.ends claim.pen.nib.key };
+    ghost ask = { λ claim. entry claim.ghost_act claim.ends claim.right.value.nib.key claim.next.nib.key };
 
     ghost state = { λ claim. None };
 }
@@ -124,14 +137,14 @@ impl LiveName for Brand {
     ghost use Rattle.std.specs.Prelude.{[]};
 
     ghost opening = { record {
-      book = record { number = 0; log_name = 0; cells_name = 0 };
+      book = record { written_in = record { number = 0; log_name = 0; cells_name = 0 }; first = 0 };
       config = record { bucket = []; history = 1; value_limit = 0; write_limit = 1; revision_limit = 1 };
     } };
 }
 
-/// What was seen of a history that has no name yet. It has no bytes.
-pub type Witness = Seen<Entry, u64, Noted>;
+/// What was seen of a log. It has no bytes.
+pub type SeenLog = Seen<Entry, u64, Noted>;
 
-/// A word of the history. What it holds says nothing when the program runs. The first is there for steps to be made on,
+/// A word of the log. What it holds says nothing when the program runs. The first is there for steps to be made on,
 /// and each of the two others is the right to be one of the two copies of what is published.
 pub type Anchor = Word<Entry, u64, Noted>;

@@ -5,27 +5,12 @@ ghost use Rattle.logbook.specs.Pages.{nib, may_write};
 ghost use Rattle.kv_model.specs.Acts.{IsPrefix};
 ghost use Rattle.kv_publish.specs.Rules.{acts_in, entry, head_of};
 
-use crate::entry::Entry;
 use crate::ghost_act::GhostAct;
 use crate::prefix::Prefix;
-use crate::protocol::{Adds, Anchor, Claim, LiveName, Looks, Makes, Noted, Nothing, Witness};
-use logbook::{Offer, Pen};
+use crate::protocol::{Anchor, LiveName};
+use crate::witness::Witness;
+use logbook::Pen;
 use std::marker::{Model, PhantomData};
-
-// A right to add an entry, once it is named as the one for the next entry; and whether no right was ever made before.
-pub(crate) fn make_right(head: &Anchor, witness: &Witness) -> (Pen, bool)
-    requires { head.now ≡ head_of witness.now.book }
-    ensures book { result.0.book ≡ witness.now.book }
-    ensures right { result.0.nib ≡ nib may_write result.0.nib.key 0 }
-    ensures first { result.1 ≡ true → result.0.nib.key ≡ 3 }
-{
-    let mut look = witness.again();
-    let mut offer: Offer<Entry, u64, Noted, Nothing> = look.plain::<Nothing, (), Makes>(&());
-    let mut pen = look.no_pen();
-    let found = head.compare_exchange::<Makes, Nothing>(0, 1, &mut look, &mut offer, &mut pen);
-    drop(Anchor::tracked(0, &mut pen));
-    (pen, found == 0)
-}
 
 /// The entries of the history of N, with the one right to add to it. So it is known whole: nothing is in it that is not
 /// here. Contracts see it as its entries.
@@ -49,16 +34,16 @@ impl<N: LiveName> Model for RawJournal<N> {
     ghost view = { λ w. w.witness.log };
 
     ghost invariant = { λ w. (w.acts ≡ length w.witness.log) × (w.witness.book ≡ N.opening.book) ×
-        (w.head ≡ head_of N.opening.book) × (w.pen.book ≡ N.opening.book) ×
-        (w.pen.nib ≡ nib may_write (right_behind 3 w.witness.log) 0) };
+        (w.head ≡ head_of N.opening.book.written_in) × (w.pen.book ≡ N.opening.book.written_in) ×
+        (w.pen.nib ≡ nib may_write (right_behind N.opening.book.first w.witness.log) 0) };
 }
 
 impl<N: LiveName> RawJournal<N> {
-    /// An empty one, of this book and with the first right.
+    /// An empty one, with the first right to add to it.
     pub fn new(witness: Witness, head: Anchor, pen: Pen) -> RawJournal<N>
         requires empty { (witness.log ≡ []) × (witness.book ≡ N.opening.book) }
-        requires head { head ≡ head_of N.opening.book }
-        requires right { (pen.book ≡ N.opening.book) × (pen.nib ≡ nib may_write 3 0) }
+        requires head { head ≡ head_of N.opening.book.written_in }
+        requires right { (pen.book ≡ N.opening.book.written_in) × (pen.nib ≡ nib may_write N.opening.book.first 0) }
         ensures { result ≡ [] }
     {
         RawJournal {
@@ -87,24 +72,9 @@ impl<N: LiveName> RawJournal<N> {
     /// Adds an act, which ends a step or doesn't. It always does: nobody else has the right to.
     pub fn add(&mut self, ghost_act: GhostAct, ends: bool)
         requires { length self.old + 1 < 2 ^ 64 }
-        ensures { (next : ℕ) × (self.new ≡ self.old ++ entry ghost_act ends next ∷ []) }
+        ensures { (right next : ℕ) × (self.new ≡ self.old ++ entry ghost_act ends right next ∷ []) }
     {
-        let (pen, _) = make_right(&self.head, &self.witness);
-        let claim = Claim {
-            ghost_act,
-            ends,
-            pen,
-        };
-        let mut offer: Offer<Entry, u64, Noted, Nothing> = self
-            .witness
-            .plain::<Nothing, Claim, Adds>(&claim);
-        self.head
-            .compare_exchange::<Adds, Nothing>(0, 0, &mut self.witness, &mut offer, &mut self.pen);
-        let Claim {
-            ghost_act: _,
-            ends: _,
-            pen,
-        } = claim;
+        let pen = self.witness.add(&self.head, ghost_act, ends, &mut self.pen);
         self.pen = pen;
         self.acts += 1;
     }
@@ -117,9 +87,7 @@ impl<N: LiveName> RawJournal<N> {
         ensures no { result ≡ false → length prefix.now < length (acts_in self.old) }
     {
         let mut both = prefix.raw_prefix().with(&self.witness);
-        let mut offer: Offer<Entry, u64, Noted, Nothing> = both.plain::<Nothing, (), Looks>(&());
-        self.head
-            .compare_exchange::<Looks, Nothing>(0, 0, &mut both, &mut offer, &mut self.pen);
+        both.look(&self.head, &mut self.pen);
         prefix.len() == self.acts
     }
 }

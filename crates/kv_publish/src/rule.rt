@@ -15,7 +15,7 @@ impl<N: LiveName> Protocol<Side, ()> for PublishRule<N> {
     ghost use Rattle.std.specs.Prelude.{◌≡◌};
     ghost use Rattle.kv_publish.specs.Publications.{IsOf};
 
-    ghost holds = { λ side views. IsOf N.opening side.publication × (side.right.book ≡ N.opening.book) };
+    ghost holds = { λ side views. IsOf N.opening side.publication × (side.right.book ≡ N.opening.book.written_in) };
 
     ghost first = { tt };
 }

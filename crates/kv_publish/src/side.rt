@@ -17,13 +17,13 @@ use std::marker::PhantomData;
 pub struct Right<N: LiveName> {
     word: Anchor,
     of: PhantomData<N>,
-    ghost is_of: { IsSide N.opening.book word },
+    ghost is_of: { IsSide N.opening.book.written_in word },
 }
 
 impl<N: LiveName> Right<N> {
     /// The right that this word of the history of N stands for.
     pub(crate) fn new(word: Anchor) -> Right<N>
-        requires { IsSide N.opening.book word }
+        requires { IsSide N.opening.book.written_in word }
     {
         Right {
             word,
@@ -53,7 +53,7 @@ impl Side {
     /// The copy with this publication.
     pub(crate) fn new<N: LiveName>(publication: Publication, right: Right<N>) -> Side
         ensures publication { result.publication ≡ publication }
-        ensures right { result.right.book ≡ N.opening.book }
+        ensures right { result.right.book ≡ N.opening.book.written_in }
     {
         let Right { word, of: _ } = right;
         Side {

@@ -5,7 +5,8 @@ ghost use Rattle.kv_model.specs.Acts.{IsPrefix};
 ghost use Rattle.kv_publish.specs.Rules.{IsStepFrom, IsWhole, acts_in};
 
 use crate::prefix::{Prefix, RawPrefix};
-use crate::protocol::{LiveName, Witness};
+use crate::protocol::LiveName;
+use crate::witness::Witness;
 use std::marker::{Model, PhantomData};
 
 /// The last step of a beginning of the history of N. Contracts see the acts before it, and those with it. Nobody sees the

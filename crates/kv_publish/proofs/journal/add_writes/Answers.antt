@@ -27,17 +27,18 @@ loop-request-preserved g c =
     let before = c.args.raw.now in
     let now = c.loop-request.raw in
     let more = c.add.new.self in
-    let next = c.add.ensures.0 in
+    let right = c.add.ensures.0 in
+    let next = c.add.ensures.1 in
     let act = c.wrote-ghost_act.result in
     let grown : take (k + 1) requests ≡ take k requests ++ request ∷ [] = take_more requests k request c.loop-request-test.true ∙ ap (λ (r : Request). take k requests ++ r ∷ []) (sym c.request-item.is) in
     let ends = c.loop-request.at + 1 == length requests in
     let within : k ≤ length requests = omega (arith, c.loop-request-test.true) in
-    let long : length more ≡ length now + 1 = ap length c.add.ensures.1 ∙ length-append now (entry act ends next ∷ []) in (
+    let long : length more ≡ length now + 1 = ap length c.add.ensures.2 ∙ length-append now (entry act ends right next ∷ []) in (
       omega (arith, inv.0),
       omega (arith, inv.1, long),
-      added_more before now more c.args.revision k (take k requests) (take (k + 1) requests) request act ends next inv.2 grown (length-take-le k requests within) (c.wrote-ghost_act.ensures ∙ ap (λ n. Wrote (write_for (asked request) (c.args.revision + n))) inv.0) c.add.ensures.1,
-      (λ end. whole_more now more (entry act ends next) c.add.ensures.1 (eq-eqb (c.loop-request.at + 1) (length requests) (omega (arith, end, inv.0)))),
-      step_more (length before) (length requests) k now more act ends next inv.4 inv.1 (ap (λ n. n + 1 == length requests) inv.0) c.add.ensures.1,
+      added_more before now more c.args.revision k (take k requests) (take (k + 1) requests) request act ends right next inv.2 grown (length-take-le k requests within) (c.wrote-ghost_act.ensures ∙ ap (λ n. Wrote (write_for (asked request) (c.args.revision + n))) inv.0) c.add.ensures.2,
+      (λ end. whole_more now more (entry act ends right next) c.add.ensures.2 (eq-eqb (c.loop-request.at + 1) (length requests) (omega (arith, end, inv.0)))),
+      step_more (length before) (length requests) k now more act ends right next inv.4 inv.1 (ap (λ n. n + 1 == length requests) inv.0) c.add.ensures.2,
     )
 
 pub returns-clause-added : goal.returns-clause-added

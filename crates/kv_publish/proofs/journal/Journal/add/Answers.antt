@@ -9,8 +9,8 @@ pub add-requires : goal.add-requires
 add-requires g c = omega (arith, c.requires, acts_length c.self.inside.raw, ap length c.self.view_is)
 
 pub invariant_of-self : goal.invariant_of-self
-invariant_of-self g c = whole_more c.self.inside.raw c.add.new.self (entry c.args.ghost_act true c.add.ensures.0) c.add.ensures.1 refl
+invariant_of-self g c = whole_more c.self.inside.raw c.add.new.self (entry c.args.ghost_act true c.add.ensures.0 c.add.ensures.1) c.add.ensures.2 refl
 
 pub returns : goal.returns
 returns g c =
-    ap acts_in c.add.ensures.1 ∙ (acts_more c.self.inside.raw (entry c.args.ghost_act true c.add.ensures.0) ∙ ap (λ (acts : List Act). acts ++ c.args.ghost_act ∷ []) c.self.view_is)
+    ap acts_in c.add.ensures.2 ∙ (acts_more c.self.inside.raw (entry c.args.ghost_act true c.add.ensures.0 c.add.ensures.1) ∙ ap (λ (acts : List Act). acts ++ c.args.ghost_act ∷ []) c.self.view_is)

@@ -12,17 +12,17 @@ returns-clause-yes c is =
     let mine = c.self.inside in
     let step = c.args.step.now.log in
     let both = c.learn.new.self.log in
-    let this : IsPrefix mine.witness.log both = subst (λ (l : List Entry). IsPrefix l both) (ap (λ s. s.log) c.again-both.ensures) c.learn.ensures.2 in
+    let this : IsPrefix mine.witness.log both = subst (λ (l : List Entry). IsPrefix l both) (ap (λ s. s.log) c.again-both.ensures) c.learn.ensures.this in
     let fewer : c.args.acts ≤ mine.acts = grind (arith, nat_tests) in
     let less : length step ≤ length mine.witness.log = omega (arith, c.self.invariant.0, c.requires.acts.0) in
-    rw (← c.self.view_is) (acts_prefix step mine.witness.log (prefix_shorter step mine.witness.log both c.learn.ensures.3 this less))
+    rw (← c.self.view_is) (acts_prefix step mine.witness.log (prefix_shorter step mine.witness.log both c.learn.ensures.that this less))
 
 pub returns-clause-no : goal.returns-clause-no
 returns-clause-no c is =
     let mine = c.self.inside in
     let step = c.args.step.now.log in
     let both = c.learn.new.self.log in
-    let this : IsPrefix mine.witness.log both = subst (λ (l : List Entry). IsPrefix l both) (ap (λ s. s.log) c.again-both.ensures) c.learn.ensures.2 in
+    let this : IsPrefix mine.witness.log both = subst (λ (l : List Entry). IsPrefix l both) (ap (λ s. s.log) c.again-both.ensures) c.learn.ensures.this in
     let more : mine.acts < c.args.acts = grind (arith, nat_tests) in
     let less : length mine.witness.log < length step = omega (arith, c.self.invariant.0, c.requires.acts.0) in
-    rw (← c.self.view_is) (before_step c.args.before mine.witness.log step both this c.learn.ensures.3 c.self.invariant.1 c.requires.step less)
+    rw (← c.self.view_is) (before_step c.args.before mine.witness.log step both this c.learn.ensures.that c.self.invariant.1 c.requires.step less)

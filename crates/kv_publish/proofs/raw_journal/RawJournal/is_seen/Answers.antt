@@ -1,29 +1,25 @@
 use Rattle.std.proofs.Common.{ap, sym, ◌∙◌, subst, List}
 use Rattle.kv_model.specs.Acts.{Act, IsPrefix}
-use Rattle.kv_publish.specs.Rules.{acts_in}
-use Rattle.kv_publish.proofs.Stepping.{looks_moves}
+use Rattle.logbook.specs.Pages.{nib, may_write}
+use Rattle.kv_publish.specs.Rules.{acts_in, head_of, right_behind}
+use Rattle.kv_publish.specs.Openings.{HistoryName}
 use Rattle.kv_publish.proofs.Seeing.{seen_within, seen_whole}
 use Rattle.kv_publish.proofs.raw_journal.RawJournal.is_seen.Goals as goal
 
-pub compare_exchange-requires : goal.compare_exchange-requires
-compare_exchange-requires g c =
+pub look-requires : goal.look-requires
+look-requires g c =
     let inv = c.self.invariant in
-    let offer = c.plain-offer.ensures in (
-      ap (λ w. w.tracked) inv.2,
-      c.with-both.ensures.book ∙ (inv.1 ∙ sym (ap (λ w. w.book) inv.2)),
-      inv.3 ∙ sym (ap (λ w. w.book) inv.2),
-      offer.0,
-      rw (ap (λ w. w.key) inv.2, offer.3) (looks_moves c.with-both.result.log c.plain-offer.result.ask c.self.inside.pen.nib),
-    )
+    let same = c.with-both.ensures.book ∙ inv.1 in
+    (inv.2 ∙ sym (ap (λ (b : HistoryName). head_of b.written_in) same), inv.3 ∙ sym (ap (λ (b : HistoryName). b.written_in) same))
 
 pub returns-clause-within : goal.returns-clause-within
 returns-clause-within g c =
     let inv = c.self.invariant in
-    let done = c.compare_exchange.ensures in
     let journal = c.self.inside.witness.log in
-    seen_within c.args.prefix.now (acts_in c.args.self.now) journal c.with-both.result.log c.compare_exchange.new.seen.log (ap acts_in c.self.view_is)
-    (subst (λ (acts : List Act). IsPrefix acts (acts_in c.with-both.result.log)) c.raw_prefix.ensures.0 c.with-both.ensures.this) done.6
-    (done.7.1 journal c.with-both.ensures.that inv.4)
+    let same = c.with-both.ensures.book ∙ inv.1 in
+    seen_within c.args.prefix.now (acts_in c.args.self.now) journal c.with-both.result.log c.look.new.self.log (ap acts_in c.self.view_is)
+    (subst (λ (acts : List Act). IsPrefix acts (acts_in c.with-both.result.log)) c.raw_prefix.ensures.0 c.with-both.ensures.this) c.look.ensures.longer
+    (c.look.ensures.all journal c.with-both.ensures.that (inv.4 ∙ ap (λ (b : HistoryName). nib may_write (right_behind b.first journal) 0) (sym same)))
 
 pub returns-clause-yes : goal.returns-clause-yes
 returns-clause-yes g c is =
