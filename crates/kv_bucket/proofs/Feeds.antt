@@ -1,7 +1,7 @@
 -- What a feed keeps when it goes on.
 use Rattle.std.proofs.Common.{◌≡◌, ℕ, ◌+◌, ◌≤◌, ◌<◌, ◌⊎◌, ⊎_elim, Bool, true, false, ◌||◌, nat_lt, List, Option, Some, None, Result, Ok, Err, inl, inr, length, get_or, refl, ap, sym, subst, ◌∙◌, arith}
 use Rattle.std.specs.List.{slice_get}
-use Rattle.std.specs.Prelude.{IfOk}
+use Rattle.std.specs.Prelude.{IfOk, IfErr, MatchResult}
 use Rattle.std.specs.Option.{option_len}
 use Rattle.std.proofs.lemmas.Option.{slice_get_past, slice_get_cases}
 use Rattle.kv_model.specs.Acceptance.{IsLawful}
@@ -16,8 +16,9 @@ use Rattle.kv_model.specs.Given.{Item, given, is_behind}
 use Rattle.kv_watch.specs.Following.{Following}
 use Rattle.kv_watch.specs.Watching.{Watching, HasHanded, MovesOn, all_given, item_behind}
 use Rattle.kv_watch.proofs.Reaching.{in_reach_later}
+use Rattle.kv_keys.specs.declared.error.KvError.{KvError}
 use Rattle.kv_keys.specs.declared.error.KvError.TheVariants.{Lagged}
-use Rattle.kv_bucket.specs.inside.Fed.{IsFed, TellsLag, TellsLagOf, IsNotShown, acts_on, feeding_of}
+use Rattle.kv_bucket.specs.inside.Fed.{IsFed, TellsLag, TellsLagOf, IsNotCopied, IsNotShown, acts_on, feeding_of}
 use Rattle.kv_bucket.specs.Feeding.{Feeding, HasSeenMore, IsRefreshed, given_by, lags, next_of, after_item}
 use Rattle.kv_bucket.specs.Known.{Known}
 use Rattle.kv_publish.specs.Publications.{Published}
@@ -140,8 +141,17 @@ at_floor follower current watch acts floor behind answer some same is tells =
 pub none_behind : (follower : Option (Published × Watching)) (floor : ℕ) → follower ≡ None → TellsLagOf follower floor false
 none_behind follower floor none = subst (λ (f : Option (Published × Watching)). TellsLagOf f floor false) (sym none) refl
 
-pub told_behind : (follower : Option (Published × Watching)) (acts : List Act) (floor : ℕ) → floor ≡ floor_of acts → TellsLagOf follower (floor_of acts) true → IsNotShown follower acts (Lagged floor)
-told_behind follower acts floor same tells = inr (inl (ap Lagged same, tells))
+pub told_behind : (follower : Option (Published × Watching)) (acts : List Act) (floor : ℕ) → floor ≡ floor_of acts → TellsLagOf follower (floor_of acts) true → IsNotCopied follower acts (Lagged floor)
+told_behind follower acts floor same tells = inl (ap Lagged same, tells)
+
+-- where it was let enter, and what it entered on was not handed over
+pub entered_in_vain : {T : Type 0} (r : Result T KvError) (follower : Option (Published × Watching)) (acts : List Act) → IfErr r (IsNotCopied follower acts) → IfErr r (IsNotShown follower acts)
+entered_in_vain (Ok x) follower acts h = tt
+entered_in_vain (Err e) follower acts h = inr h
+
+pub where_ok : {T E : Type 0} (r : Result T E) (P P' : T → Type 0) (Q : E → Type 0) → ((x : T) → P x → P' x) → MatchResult r P Q → IfOk r P'
+where_ok (Ok x) P P' Q f h = f x h
+where_ok (Err e) P P' Q f h = tt
 
 pub whatever_is_ok : {T E : Type 0} (r : Result T E) (P : Type 0) → P → IfOk r (λ _. P)
 whatever_is_ok (Ok x) P p = p

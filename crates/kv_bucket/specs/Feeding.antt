@@ -49,7 +49,7 @@ pub record IsNotRefreshed (before after : Feeding) : Type 0 where
   pub reader : HasSeenMore before.reader after.reader
   pub same : after ≡ record before { reader = after.reader }
 
--- why a feed stays where it is: the store lets no reader enter; or it lags behind the floor of what its reader has seen by
+-- why a feed stays where it is: nowhere was its reader let enter; or it lags behind the floor of what its reader has seen by
 -- now; or memory was refused, where it doesn't
 abbrev pub IsStopped : ℕ → Feeding → Feeding → KvError → Type 0
 IsStopped h before after error =

@@ -2,13 +2,17 @@
 use Rattle.std.specs.Prelude.{◌≡◌, List, ◌⊎◌}
 use Rattle.kv_keys.specs.declared.error.KvError.{KvError}
 use Rattle.kv_keys.specs.declared.error.KvError.TheVariants.{NoReader, OutOfMemory}
-use Rattle.kv_model.specs.Acts.{Act}
+use Rattle.kv_model.specs.Acts.{Act, IsPrefix}
 
 -- the acts that a reader has seen, and those that it was told of
 pub record Known : Type 0 where
   pub seen : List Act
   pub told : List Act
 
--- why nothing was read: the store lets no reader enter, or memory was refused
+-- these acts begin with all that it has seen, and with all that it was told: it enters on such a publication alone
+abbrev pub IsWithin : List Act → Known → Type 0
+IsWithin acts known = IsPrefix known.seen acts × IsPrefix known.told acts
+
+-- why nothing was read: nowhere was it let enter, or memory was refused
 abbrev pub IsUnread : KvError → Type 0
 IsUnread error = (error ≡ NoReader) ⊎ (error ≡ OutOfMemory)

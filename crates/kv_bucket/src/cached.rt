@@ -3,7 +3,7 @@
 ghost use Rattle.std.specs.Prelude.{◌≡◌, true, IfErr, IfOk, IfSome, OnErr, OnOk};
 ghost use Rattle.kv_model.specs.Acts.{IsPrefix};
 ghost use Rattle.kv_store.specs.Standing.{StandsFor};
-ghost use Rattle.kv_bucket.specs.Known.{IsUnread};
+ghost use Rattle.kv_bucket.specs.Known.{IsUnread, IsWithin};
 ghost use Rattle.kv_publish.specs.Publications.{IsOf};
 
 use crate::progress::Progress;
@@ -59,14 +59,15 @@ impl<N: LiveName> Cached<N> {
         progress.has_seen_just(self.publication.raw_prefix()) && progress.has_seen_all_told()
     }
 
-    // Goes on to what is published, which the reader of this progress takes in, and answers what it left. Where it was
+    // Goes on to what the reader of this progress entered on, which takes it in, and answers what it left. Where it was
     // there already nothing is copied.
     pub(crate) fn go_on(
         &mut self,
         progress: &mut Progress<N>,
         publication: &Publication,
     ) -> Result<Option<Publication>, KvError>
-        requires { IsOf N.opening publication.now }
+        requires of { IsOf N.opening publication.now }
+        requires within { IsWithin publication.now.raw_prefix.acts progress.old }
         ensures later { IsPrefix progress.old.seen progress.new.seen }
         ensures told { progress.new.told ≡ progress.old.told }
         ensures ok { OnOk result ((self.new ≡ progress.new.seen) × IsPrefix progress.old.told progress.new.seen) }
@@ -74,7 +75,7 @@ impl<N: LiveName> Cached<N> {
         ensures unchanged { OnErr result (self.new ≡ self.old) }
         ensures err { IfErr result IsUnread }
     {
-        progress.see(publication)?;
+        progress.see(publication);
         let mut left = None;
         if !progress.has_seen_just(self.publication.raw_prefix()) {
             left = Some(mem::replace(&mut self.publication, publication.try_clone()?));

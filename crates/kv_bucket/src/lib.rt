@@ -12,6 +12,7 @@ mod progress;
 mod publisher;
 mod reader;
 mod receipt;
+mod serve;
 
 pub use batch::BatchReceipt;
 pub use cached::Cached;
@@ -26,3 +27,4 @@ pub use kv_single::{
 pub use live::{Live, Opened};
 pub use reader::Reader;
 pub use receipt::{Mark, Receipt};
+pub use serve::Service;

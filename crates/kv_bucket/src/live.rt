@@ -85,13 +85,10 @@ impl Live<Brand> {
             return Err(KvError::NoReader);
         }
         let bucket = Bucket::open(alloc, config)?;
-        let Some(fresh) = FreshJournal::new() else {
-            return Err(KvError::OutOfMemory);
-        };
         Ok(Opened {
             alloc,
             bucket,
-            fresh,
+            fresh: FreshJournal::new(),
             readers,
         })
     }

@@ -1,11 +1,11 @@
 //! What a reader has seen, and what it was told.
 
-ghost use Rattle.std.specs.Prelude.{◌≡◌, ◌⊎◌, [], true, false, IfOk, IfErr, OnOk};
+ghost use Rattle.std.specs.Prelude.{◌≡◌, ◌⊎◌, [], true, false, IfOk, IfErr};
 ghost use Rattle.std.specs.Option.{option_map};
-ghost use Rattle.kv_keys.specs.declared.error.KvError.TheVariants.{NoReader};
 ghost use Rattle.kv_model.specs.Acts.{IsPrefix, floor_of};
 ghost use Rattle.kv_store.specs.Standing.{StandsFor};
-ghost use Rattle.kv_bucket.specs.inside.Fed.{TellsLag, TellsLagOf, IsNotShown};
+ghost use Rattle.kv_bucket.specs.Known.{IsWithin};
+ghost use Rattle.kv_bucket.specs.inside.Fed.{TellsLag, TellsLagOf, IsNotCopied};
 ghost use Rattle.kv_publish.specs.Publications.{IsOf};
 
 use crate::receipt::Mark;
@@ -59,13 +59,23 @@ impl<N: LiveName> Progress<N> {
         self.taken_in
     }
 
-    /// Takes in what is published: a copy, unless the follower, if any, lags behind it.
+    /// Whether a publication has all that it has seen and was told. It enters on such a one alone.
+    pub fn is_within(&self, publication: &Publication) -> bool
+        requires { IsOf N.opening publication.now }
+        ensures { result ≡ true → IsWithin publication.now.raw_prefix.acts self.now }
+    {
+        let prefix: Prefix<N> = Prefix::of(publication.raw_prefix());
+        prefix.covers(&self.seen) && prefix.covers(&self.told)
+    }
+
+    /// Takes in what it entered on: a copy, unless the follower, if any, lags behind it.
     pub fn take_in(
         &mut self,
         follower: Option<(&Publication, &Watch)>,
         publication: &Publication,
     ) -> Result<Publication, KvError>
-        requires { IsOf N.opening publication.now }
+        requires of { IsOf N.opening publication.now }
+        requires within { IsWithin publication.now.raw_prefix.acts self.old }
         ensures later { IsPrefix self.old.seen self.new.seen }
         ensures told { self.new.told ≡ self.old.told }
         ensures ok { IfOk result
@@ -74,30 +84,23 @@ impl<N: LiveName> Progress<N> {
         ensures ahead { IfOk result
             (λ _. TellsLagOf (option_map (λ f. (f.0.now, f.1.now)) follower.entry) (floor_of self.new.seen) false) }
         ensures err { IfErr result
-            (IsNotShown (option_map (λ f. (f.0.now, f.1.now)) follower.entry) self.new.seen) }
+            (IsNotCopied (option_map (λ f. (f.0.now, f.1.now)) follower.entry) self.new.seen) }
     {
-        self.see(publication)?;
+        self.see(publication);
         let copy = copy_for(follower, publication)?;
         self.rest_on(&copy);
         Ok(copy)
     }
 
-    /// Sees what is published. Where it is older than what was seen or told it is `NoReader`. It never is: that was
-    /// published before.
-    pub fn see(&mut self, publication: &Publication) -> Result<(), KvError>
-        requires { IsOf N.opening publication.now }
+    /// Sees what it entered on.
+    pub fn see(&mut self, publication: &Publication)
+        requires of { IsOf N.opening publication.now }
+        requires within { IsWithin publication.now.raw_prefix.acts self.old }
         ensures later { IsPrefix self.old.seen self.new.seen }
         ensures told { self.new.told ≡ self.old.told }
-        ensures ok { OnOk result ((self.new.seen ≡ publication.now.raw_prefix.acts)
-            × IsPrefix self.old.told self.new.seen) }
-        ensures err { IfErr result (λ e. e ≡ NoReader) }
+        ensures seen { (self.new.seen ≡ publication.now.raw_prefix.acts) × IsPrefix self.old.told self.new.seen }
     {
-        let prefix: Prefix<N> = Prefix::of(publication.raw_prefix());
-        if !prefix.covers(&self.seen) || !prefix.covers(&self.told) {
-            return Err(KvError::NoReader);
-        }
-        self.seen = prefix;
-        Ok(())
+        self.seen = Prefix::of(publication.raw_prefix());
     }
 
     /// Whether it has seen all of this prefix, and no more.
@@ -175,7 +178,7 @@ fn copy_for(
     ensures ahead { IfOk result (λ _. TellsLagOf (option_map (λ f. (f.0.now, f.1.now)) follower.entry)
         (floor_of publication.now.raw_prefix.acts) false) }
     ensures err { IfErr result
-        (IsNotShown (option_map (λ f. (f.0.now, f.1.now)) follower.entry) publication.now.raw_prefix.acts) }
+        (IsNotCopied (option_map (λ f. (f.0.now, f.1.now)) follower.entry) publication.now.raw_prefix.acts) }
 {
     if let Some((current, watch)) = follower {
         let floor = publication.version().floor();

@@ -1,11 +1,11 @@
 //! Readers, which take no lock and wait for nobody.
 
-ghost use Rattle.std.specs.Prelude.{◌≡◌, ◌⊎◌, ◌≤◌, IfOk, IfErr, IfSome, OnErr, OnOk, Some, MatchResult, [], true, false};
+ghost use Rattle.std.specs.Prelude.{◌≡◌, ◌⊎◌, ◌≤◌, IfOk, IfErr, IfSome, IsSome, OnErr, OnOk, Some, MatchResult, [], true, false};
 ghost use Rattle.std.specs.Option.{option_map};
-ghost use Rattle.kv_keys.specs.declared.error.KvError.TheVariants.{OutOfMemory};
+ghost use Rattle.kv_keys.specs.declared.error.KvError.TheVariants.{NoReader, OutOfMemory};
 ghost use Rattle.kv_model.specs.Acts.{IsPrefix, floor_of};
 ghost use Rattle.kv_store.specs.Standing.{StandsFor};
-ghost use Rattle.kv_bucket.specs.Known.{IsUnread};
+ghost use Rattle.kv_bucket.specs.Known.{IsUnread, IsWithin};
 ghost use Rattle.kv_bucket.specs.inside.Fed.{TellsLag, TellsLagOf, IsNotShown};
 ghost use Rattle.kv_publish.specs.Publications.{IsOf};
 
@@ -16,7 +16,7 @@ use kv_keys::KvError;
 use kv_publish::{Gets, LiveName, Notifier, Prefix, Publication, PublishRule, Side, Woken};
 use kv_store::Version;
 use kv_watch::Watch;
-use left_right::reader::Reader as Slot;
+use left_right::reader::{Reader as Slot, Reading};
 use std::alloc::Global;
 use std::marker::Model;
 use std::rt::Clock;
@@ -58,6 +58,56 @@ impl<N: LiveName> Model for Reader<N> {
     ghost invariant = { λ r. IsSome r.slot × IsOf N.opening r.empty × (r.empty.raw_prefix.acts ≡ []) };
 }
 
+// The store's answer to a reader: inside, or the place with which it stays outside.
+type Entry<N> = Result<Reading<Side, (), PublishRule<N>>, Slot<Side, (), PublishRule<N>>>;
+
+// Enters the store, where that lets it.
+fn enter<N: LiveName>(slot: &mut Option<Slot<Side, (), PublishRule<N>>>) -> Entry<N>
+    requires { IsSome slot.old }
+    ensures { IfOk result (λ reading. IsOf N.opening reading.part.value.publication) }
+{
+    let Some(outside) = slot.take() else {
+        unreachable!()
+    };
+    outside.enter_as::<Gets<N>>()
+}
+
+// Leaves it, if it is inside.
+fn leave<N: LiveName>(entry: Entry<N>) -> Slot<Side, (), PublishRule<N>> {
+    match entry {
+        Ok(reading) => reading.leave(),
+        Err(outside) => outside,
+    }
+}
+
+// The publication that a reader of this progress enters on: what the store shows; where nobody enters there any more, what
+// was published last. It is let enter only on one that has all that it has seen and was told. Where there is none, no
+// place lets it enter.
+fn entered_on<'a, N: LiveName>(
+    entry: &'a Entry<N>,
+    notifier: &'a Notifier<N>,
+    progress: &Progress<N>,
+) -> Result<&'a Publication, KvError>
+    requires { IfOk entry.now (λ reading. IsOf N.opening reading.part.value.publication) }
+    ensures ok { IfOk result
+        (λ publication. IsOf N.opening publication.now × IsWithin publication.now.raw_prefix.acts progress.now) }
+    ensures err { IfErr result (λ e. e ≡ NoReader) }
+{
+    if let Ok(reading) = entry {
+        let publication = reading.get().publication();
+        if progress.is_within(publication) {
+            return Ok(publication);
+        }
+    }
+    if let Some(last) = notifier.last() {
+        let publication = last.publication();
+        if progress.is_within(publication) {
+            return Ok(publication);
+        }
+    }
+    Err(KvError::NoReader)
+}
+
 impl<N: LiveName> Reader<N> {
     pub(crate) fn new(
         alloc: Global,
@@ -79,8 +129,8 @@ impl<N: LiveName> Reader<N> {
     }
 
     /// The version that is published; once the bucket was closed, the last one. It costs an entry, a snapshot and a
-    /// leave. `NoReader` where the store lets no reader enter and no last version was left, as far as clauses go; the
-    /// code never comes to that.
+    /// leave. `NoReader` where nobody lets the reader enter: neither the store, on what it shows, nor what was published
+    /// last, once there is that. Each lets it enter only on a version that has all that it has seen and was told.
     pub fn version(&mut self) -> Result<Version, KvError>
         ensures later { IsPrefix self.old.seen self.new.seen }
         ensures told { self.new.told ≡ self.old.told }
@@ -131,21 +181,16 @@ impl<N: LiveName> Reader<N> {
         ensures unchanged { OnErr result (cached.new ≡ cached.old) }
         ensures err { IfErr result IsUnread }
     {
-        let Some(slot) = self.slot.take() else {
-            unreachable!()
-        };
-        match slot.enter_as::<Gets<N>>() {
-            Ok(reading) => {
-                let done = cached.go_on(&mut self.progress, reading.get().publication());
-                self.slot = Some(reading.leave());
+        let entry = enter(&mut self.slot);
+        match entered_on(&entry, &self.notifier, &self.progress) {
+            Ok(publication) => {
+                let done = cached.go_on(&mut self.progress, publication);
+                self.slot = Some(leave(entry));
                 done
             }
-            Err(slot) => {
-                self.slot = Some(slot);
-                match self.notifier.last() {
-                    Some(last) => cached.go_on(&mut self.progress, last.publication()),
-                    None => Err(KvError::NoReader),
-                }
+            Err(refusal) => {
+                self.slot = Some(leave(entry));
+                Err(refusal)
             }
         }
     }
@@ -231,8 +276,7 @@ impl<N: LiveName> Reader<N> {
         self.look(Some((current, watch)))
     }
 
-    // What is published, or what was published last where the store lets nobody enter any more, unless this follower
-    // lags behind it.
+    // Enters, and copies what is there, unless this follower lags behind it.
     fn look(&mut self, follower: Option<(&Publication, &Watch)>) -> Result<Publication, KvError>
         ensures later { IsPrefix self.old.seen self.new.seen }
         ensures told { self.new.told ≡ self.old.told }
@@ -244,21 +288,16 @@ impl<N: LiveName> Reader<N> {
         ensures err { IfErr result
             (IsNotShown (option_map (λ f. (f.0.now, f.1.now)) follower.entry) self.new.seen) }
     {
-        let Some(slot) = self.slot.take() else {
-            unreachable!()
-        };
-        match slot.enter_as::<Gets<N>>() {
-            Ok(reading) => {
-                let publication = self.progress.take_in(follower, reading.get().publication());
-                self.slot = Some(reading.leave());
-                publication
+        let entry = enter(&mut self.slot);
+        match entered_on(&entry, &self.notifier, &self.progress) {
+            Ok(publication) => {
+                let copy = self.progress.take_in(follower, publication);
+                self.slot = Some(leave(entry));
+                copy
             }
-            Err(slot) => {
-                self.slot = Some(slot);
-                match self.notifier.last() {
-                    Some(last) => self.progress.take_in(follower, last.publication()),
-                    None => Err(KvError::NoReader),
-                }
+            Err(refusal) => {
+                self.slot = Some(leave(entry));
+                Err(refusal)
             }
         }
     }

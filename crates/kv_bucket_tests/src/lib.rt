@@ -11,6 +11,8 @@ mod following;
 #[cfg(test)]
 mod races;
 #[cfg(test)]
+mod serving;
+#[cfg(test)]
 mod threads;
 #[cfg(test)]
 mod waiting;

@@ -41,6 +41,15 @@ of the line as it stands.
 
 Empty lines and lines that begin with # are skipped. A refused line is answered, and the script goes on.
 
+Exit status, and what to do:
+  0                         all of the input was run: refused lines have answers that say so
+  1  OutOfMemory            memory was refused: raise the limit on it, or run a smaller script
+     ReadFault              the input can't be read: only the lines before are answered, so mend it and run it again
+     WriteFault             the output can't be written: make room, or keep its reader going, and run it again
+     NoReader               a race could not be shown: run it again
+  2  BadBucket, BadConfig   the name, or a number, is not as the options say: give another
+     and other faults       an argument is unknown, twice there, or has no such value: standard error shows which
+
 Example: printf 'put a MQ==\\nget a\\n' | kvbucket
 As text: printf 'put greeting hello, you\\nget greeting\\n' | kvbucket --text
 Each command is shown with its answer in docs/script.md.

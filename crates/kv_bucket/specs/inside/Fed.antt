@@ -55,10 +55,14 @@ abbrev pub TellsLagOf : Option (Published × Watching) → ℕ → Bool → Type
 TellsLagOf None floor answer = answer ≡ false
 TellsLagOf (Some feed) floor answer = TellsLag feed.0 feed.1 floor answer
 
--- why nothing was handed over to a feed, if any, when its reader has seen these acts: the store let it not enter; or the
--- feed lags behind their floor; or memory was refused, where it doesn't
+-- why what its reader entered on was not handed over to a feed, if any: it lags behind the floor of these acts, which are
+-- published; or memory was refused, where it doesn't
+abbrev pub IsNotCopied : Option (Published × Watching) → List Act → KvError → Type 0
+IsNotCopied feed acts error =
+    ((error ≡ Lagged (floor_of acts)) × TellsLagOf feed (floor_of acts) true)
+    ⊎ ((error ≡ OutOfMemory) × TellsLagOf feed (floor_of acts) false)
+
+-- why nothing was handed over to a feed, if any, when its reader has seen these acts: nowhere was its reader let enter; or
+-- it was, and there is the other cause
 abbrev pub IsNotShown : Option (Published × Watching) → List Act → KvError → Type 0
-IsNotShown feed seen error =
-    (error ≡ NoReader)
-    ⊎ (((error ≡ Lagged (floor_of seen)) × TellsLagOf feed (floor_of seen) true)
-    ⊎ ((error ≡ OutOfMemory) × TellsLagOf feed (floor_of seen) false))
+IsNotShown feed seen error = (error ≡ NoReader) ⊎ IsNotCopied feed seen error

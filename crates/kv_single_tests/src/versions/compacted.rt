@@ -36,7 +36,7 @@ const REST: &[Fact] = &[
 ];
 
 #[test]
-fn what_a_compacted_version_tells(rt: HostRuntime) -> Result<(), Fail> {
+fn a_compacted_version_tells_what_is_left(rt: HostRuntime) -> Result<(), Fail> {
     holds(&rt, rt.alloc(), keeping(2), COMPACTED, REST)?;
     Ok(())
 }

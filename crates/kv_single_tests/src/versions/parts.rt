@@ -33,7 +33,7 @@ const TOLD: &[Fact] = &[
 ];
 
 #[test]
-fn what_a_version_tells(rt: HostRuntime) -> Result<(), Fail> {
+fn a_version_tells_its_writes_and_what_is_kept(rt: HostRuntime) -> Result<(), Fail> {
     holds(&rt, rt.alloc(), keeping(2), SMALL, TOLD)?;
     Ok(())
 }
@@ -85,14 +85,14 @@ fn asks(
 }
 
 #[test]
-fn what_a_request_asks_for(rt: HostRuntime) -> Result<(), Fail> {
+fn a_request_tells_its_key_its_op_and_its_value(rt: HostRuntime) -> Result<(), Fail> {
     asks(&rt, rt.alloc(), "a", Ask::Create("one"), Op::Put, b"one")?;
     asks(&rt, rt.alloc(), "b", Ask::Purge(None), Op::Purge, b"")?;
     Ok(())
 }
 
 #[test]
-fn what_an_op_does(rt: HostRuntime) {
+fn a_put_is_no_purge_and_a_delete_is_neither(rt: HostRuntime) {
     for op in [Op::Put, Op::Delete, Op::Purge] {
         equal(&rt, op.is_put(), op == Op::Put);
         equal(&rt, op.is_purge(), op == Op::Purge);

@@ -1,4 +1,5 @@
 use Rattle.std.proofs.Common.{rules}
+use Rattle.kv_bucket.proofs.Feeds.{entered_in_vain}
 use Rattle.kv_bucket.proofs.reader.Reader.look.Goals as goal
 
 pub returns-in-Ok-clause-later : goal.returns-in-Ok-clause-later
@@ -17,4 +18,4 @@ pub returns-in-Ok-clause-ahead : goal.returns-in-Ok-clause-ahead
 returns-in-Ok-clause-ahead g c = search
 
 pub returns-in-Ok-clause-err : goal.returns-in-Ok-clause-err
-returns-in-Ok-clause-err g c = search
+returns-in-Ok-clause-err g c = search (rules, entered_in_vain)
