@@ -1,6 +1,8 @@
 -- The number and the name of each refusal of a durable bucket, as users read them: those of the rules, and four of files.
 use Rattle.std.specs.Prelude.{ℕ, List, ⊤, codes}
 use Rattle.kv_keys.specs.Refusals.{code_of, name_of}
+use Rattle.kv_file.specs.declared.system.OpenFault.{OpenFault}
+use Rattle.kv_file.specs.declared.system.OpenFault.TheVariants.{Busy, Failed}
 use Rattle.kv_durable.specs.declared.error.DurableError.{DurableError}
 use Rattle.kv_durable.specs.declared.error.DurableError.TheVariants.{Refused, FileFault, FileDamaged, FileBusy, OtherBucket}
 
@@ -17,6 +19,11 @@ durable_name FileFault = codes "FileFault"
 durable_name (FileDamaged at) = codes "FileDamaged"
 durable_name FileBusy = codes "FileBusy"
 durable_name OtherBucket = codes "OtherBucket"
+
+-- why a file of the system was not opened
+abbrev pub refusal_of : OpenFault → DurableError
+refusal_of Busy = FileBusy
+refusal_of Failed = FileFault
 
 abbrev pub IsDamaged : DurableError → Type 0
 IsDamaged (FileDamaged at) = ⊤

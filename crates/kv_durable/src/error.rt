@@ -3,7 +3,7 @@
 ghost use Rattle.std.specs.Prelude.{◌≡◌};
 ghost use Rattle.kv_durable.specs.Refusals.{durable_code, durable_name};
 
-use kv_file::FileFault;
+use kv_file::{FileFault, OpenFault};
 use kv_keys::KvError;
 use std::alloc::AllocError;
 use thiserror::Error;
@@ -21,7 +21,7 @@ pub enum DurableError {
     /// The file was damaged after it had come onto the disk, or is no journal. Its bytes are good up to this place.
     #[error("FileDamaged")]
     FileDamaged { at: u64 },
-    /// Another process, or another opening in this one, has the file.
+    /// Another process, or another opening in this one, has the file. A process that has ended has none.
     #[error("FileBusy")]
     FileBusy,
     /// The file is that of a bucket with another name, history or limit.
@@ -88,5 +88,19 @@ impl From<FileFault> for DurableError {
 
     fn from(_error: FileFault) -> DurableError {
         DurableError::FileFault
+    }
+}
+
+impl From<OpenFault> for DurableError {
+    ghost use Rattle.std.specs.Prelude.{◌≡◌};
+    ghost use Rattle.kv_durable.specs.Refusals.{refusal_of};
+
+    ghost from_gives = { λ from e. e ≡ refusal_of from };
+
+    fn from(error: OpenFault) -> DurableError {
+        match error {
+            OpenFault::Busy => DurableError::FileBusy,
+            OpenFault::Failed => DurableError::FileFault,
+        }
     }
 }

@@ -17,6 +17,6 @@ mod writing;
 pub use durable::{Durable, NotDone};
 pub use error::DurableError;
 pub use journal::Journal;
-pub use kv_file::{JournalFile, Sync};
+pub use kv_file::{JournalFile, OpenFault, Sync, SystemFile};
 pub use opening::Opened;
 pub use recovering::{Recovered, recover};

@@ -16,3 +16,5 @@ mod files;
 mod frames;
 #[cfg(test)]
 mod sample;
+#[cfg(test)]
+mod system;

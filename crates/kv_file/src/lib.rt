@@ -1,10 +1,13 @@
-//! Files that only grow: what is asked of one, one in memory that can fail, and what adds to one and brings it onto the disk.
+//! Files that only grow: what is asked of one, one of the system, one in memory that can fail, and what adds to one and
+//! brings it onto the disk.
 #![tactic(auto)]
 
 mod appender;
 mod file;
 mod memory;
+mod system;
 
 pub use appender::{Appender, Sync};
 pub use file::{FileFault, JournalFile, ReadFault};
 pub use memory::{MemoryFile, Torn};
+pub use system::{OpenFault, SystemFile};
