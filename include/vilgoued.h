@@ -35,6 +35,7 @@ enum {
     KV_BAD_FLOOR = 19,
     KV_WATCH_BEHIND = 20,
     KV_LAGGED = 21,
+    KV_OTHER_BUCKET = 25,
     KV_CLOSED = 32,
     KV_TOO_LITTLE_ROOM = 33,
     KV_OPEN_ALREADY = 34,
@@ -193,7 +194,8 @@ void kv_view_close(kv_view *view);
  * write up to the view that it has gone on to: a later view of the same bucket, which is read during the call alone. */
 uint64_t kv_feed_open(kv_view *view, const uint8_t *filters, size_t filters_size, const kv_options *options,
                       kv_feed *feed);
-/* KV_LAGGED where entries that the feed has still to hand out may be gone from the view, which has been compacted: its
+/* KV_OTHER_BUCKET where the view is not of the feed's bucket, also of one that was opened under the same name.
+ * KV_LAGGED where entries that the feed has still to hand out may be gone from the view, which has been compacted: its
  * floor, to which *floor is set then and only then, is above the last revision that the feed has gone on to, or the
  * feed has still to hand out an entry at or below it that came after its opening. The feed stays where it is, and can
  * be taken to its end. */

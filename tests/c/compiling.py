@@ -1,6 +1,7 @@
 """Programs in C beside libvilgoued, in the folder of VILGOUED_LIB. The C compiler is CC, or else cc, and that for C++ is CXX, or
 else c++."""
 import os, subprocess, tempfile, unittest
+from typing import Any
 
 from tests import top
 
@@ -11,7 +12,7 @@ INCLUDE = os.path.join(top, "include")
 # What a program is linked with: the static library, or the shared one where it lies.
 STATIC = [os.path.join(libraries, "libvilgoued.a")]
 SHARED = ["-L" + libraries, "-lvilgoued", "-Wl,-rpath," + libraries]
-SHELL = os.path.join(top, "c", "shared.c")
+SHELL, OPENING = (os.path.join(top, "c", name) for name in ("shared.c", "opening.c"))
 STRICT = ["-pedantic", "-Wall", "-Wextra", "-Werror"]
 CHECKED = ["-g", "-fsanitize=address,undefined", "-fno-sanitize-recover=all"]
 WRAPPED = ["-Wl,--wrap=malloc", "-Wl,--wrap=realloc"]
@@ -19,7 +20,7 @@ WRAPPED = ["-Wl,--wrap=malloc", "-Wl,--wrap=realloc"]
 
 def ran(*command, **more):
     """What a command that has to succeed prints, with more in its environment."""
-    how = {"stdin": subprocess.DEVNULL, "stdout": subprocess.PIPE, "stderr": subprocess.STDOUT, "env": dict(os.environ, **more)}
+    how: dict[str, Any] = {"stdin": subprocess.DEVNULL, "stdout": subprocess.PIPE, "stderr": subprocess.STDOUT, "env": dict(os.environ, **more)}
     done = subprocess.run(command, text=True, **how)
     if done.returncode != 0:
         raise AssertionError("%s: status %d\n%s" % (" ".join(command), done.returncode, done.stdout))

@@ -204,49 +204,29 @@ static bool tells_second(void) {
            item.value_size == 3 && item.has_value && told.count == 2;
 }
 
-static void read_under_the_mutex(kv_shared *b) {
-    WANT(OK(kv_shared_get(b, B("app.port"), value, 3, &told.size, &told.number)) && told.size == 3);
-    WANT(told.number == 2 && !memcmp(value, "123", 3) && marked(value + 3, sizeof value - 3));
-    WANT(LITTLE(kv_shared_get(b, B("app.port"), value, 2, &told.size, &told.number)) && told.size == 3);
-    WANT(told.number == 2);
-    WANT(REFUSED(kv_shared_get(b, B("no"), value, sizeof value, &told.size, &told.number), KV_KEY_NOT_FOUND));
-    WANT(REFUSED(kv_shared_get(b, B("n o"), value, sizeof value, &told.size, &told.number), KV_BAD_KEY));
-    WANT(OK(kv_shared_get_at(b, B("app.port"), 1, value, 2, &told.size, &told.number)) && told.size == 2);
-    WANT(told.number == 1 && !memcmp(value, "12", 2));
-    WANT(LITTLE(kv_shared_get_at(b, B("app.port"), 1, value, 1, &told.size, &told.number)) && told.size == 2);
-    WANT(REFUSED(kv_shared_get_at(b, B("a"), 9, value, sizeof value, &told.size, &told.number), KV_KEY_NOT_FOUND));
-    WANT(OK(kv_shared_history(b, B("app.port"), 1, value, 3, &item, &told.count)) && tells_second());
-    WANT(LITTLE(kv_shared_history(b, B("app.port"), 1, value, 2, &item, &told.count)) && tells_second());
-    WANT(REFUSED(kv_shared_history(b, B("no"), 0, value, sizeof value, &item, &told.count), KV_KEY_NOT_FOUND));
-    WANT(OK(kv_shared_keys(b, B("app.*"), value, 18, &told.size, &told.count)) && told.size == 18 && told.count == 2);
-    WANT(!memcmp(value, "app.port\0app.host", 18));
-    WANT(LITTLE(kv_shared_keys(b, B("app.*"), value, 17, &told.size, &told.count)) && told.size == 18);
-    WANT(REFUSED(kv_shared_keys(b, B("n o"), value, sizeof value, &told.size, &told.count), KV_BAD_FILTER));
-    WANT(OK(kv_shared_get_status(b, &told.status)) && told.status.history == 3 && told.status.last == 3);
-    WANT(told.status.stored == 3 && told.status.values == 3 && told.status.watches == 1 && !told.status.sealed);
-}
-
-static void read_by_a_reader(kv_reader *r) {
-    WANT(OK(kv_reader_get(r, B("app.port"), value, 3, &told.size, &told.number)) && told.size == 3);
-    WANT(told.number == 2 && !memcmp(value, "123", 3) && marked(value + 3, sizeof value - 3));
-    WANT(LITTLE(kv_reader_get(r, B("app.port"), value, 2, &told.size, &told.number)) && told.size == 3);
-    WANT(told.number == 2);
-    WANT(REFUSED(kv_reader_get(r, B("no"), value, sizeof value, &told.size, &told.number), KV_KEY_NOT_FOUND));
-    WANT(REFUSED(kv_reader_get(r, B("n o"), value, sizeof value, &told.size, &told.number), KV_BAD_KEY));
-    WANT(OK(kv_reader_get_at(r, B("app.port"), 1, value, 2, &told.size, &told.number)) && told.size == 2);
-    WANT(told.number == 1 && !memcmp(value, "12", 2));
-    WANT(LITTLE(kv_reader_get_at(r, B("app.port"), 1, value, 1, &told.size, &told.number)) && told.size == 2);
-    WANT(REFUSED(kv_reader_get_at(r, B("a"), 9, value, sizeof value, &told.size, &told.number), KV_KEY_NOT_FOUND));
-    WANT(OK(kv_reader_history(r, B("app.port"), 1, value, 3, &item, &told.count)) && tells_second());
-    WANT(LITTLE(kv_reader_history(r, B("app.port"), 1, value, 2, &item, &told.count)) && tells_second());
-    WANT(REFUSED(kv_reader_history(r, B("no"), 0, value, sizeof value, &item, &told.count), KV_KEY_NOT_FOUND));
-    WANT(OK(kv_reader_keys(r, B("app.*"), value, 18, &told.size, &told.count)) && told.size == 18 && told.count == 2);
-    WANT(!memcmp(value, "app.port\0app.host", 18));
-    WANT(LITTLE(kv_reader_keys(r, B("app.*"), value, 17, &told.size, &told.count)) && told.size == 18);
-    WANT(REFUSED(kv_reader_keys(r, B("n o"), value, sizeof value, &told.size, &told.count), KV_BAD_FILTER));
-    WANT(OK(kv_reader_get_status(r, &told.status)) && told.status.history == 3 && told.status.last == 3);
-    WANT(told.status.stored == 3 && told.status.values == 3 && told.status.watches == 0 && !told.status.sealed);
-}
+/* Reads by calls whose names begin with `kind`, of a bucket or a reader, which knows so many held watches. */
+#define READ(kind, of, held)                                                                                             \
+    do {                                                                                                                 \
+        WANT(OK(kind##_get(of, B("app.port"), value, 3, &told.size, &told.number)) && told.size == 3);                   \
+        WANT(told.number == 2 && !memcmp(value, "123", 3) && marked(value + 3, sizeof value - 3));                       \
+        WANT(LITTLE(kind##_get(of, B("app.port"), value, 2, &told.size, &told.number)) && told.size == 3);               \
+        WANT(told.number == 2);                                                                                          \
+        WANT(REFUSED(kind##_get(of, B("no"), value, sizeof value, &told.size, &told.number), KV_KEY_NOT_FOUND));         \
+        WANT(REFUSED(kind##_get(of, B("n o"), value, sizeof value, &told.size, &told.number), KV_BAD_KEY));              \
+        WANT(OK(kind##_get_at(of, B("app.port"), 1, value, 2, &told.size, &told.number)) && told.size == 2);             \
+        WANT(told.number == 1 && !memcmp(value, "12", 2));                                                               \
+        WANT(LITTLE(kind##_get_at(of, B("app.port"), 1, value, 1, &told.size, &told.number)) && told.size == 2);         \
+        WANT(REFUSED(kind##_get_at(of, B("a"), 9, value, sizeof value, &told.size, &told.number), KV_KEY_NOT_FOUND));    \
+        WANT(OK(kind##_history(of, B("app.port"), 1, value, 3, &item, &told.count)) && tells_second());                  \
+        WANT(LITTLE(kind##_history(of, B("app.port"), 1, value, 2, &item, &told.count)) && tells_second());              \
+        WANT(REFUSED(kind##_history(of, B("no"), 0, value, sizeof value, &item, &told.count), KV_KEY_NOT_FOUND));        \
+        WANT(OK(kind##_keys(of, B("app.*"), value, 18, &told.size, &told.count)) && told.size == 18 && told.count == 2); \
+        WANT(!memcmp(value, "app.port\0app.host", 18));                                                                  \
+        WANT(LITTLE(kind##_keys(of, B("app.*"), value, 17, &told.size, &told.count)) && told.size == 18);                \
+        WANT(REFUSED(kind##_keys(of, B("n o"), value, sizeof value, &told.size, &told.count), KV_BAD_FILTER));           \
+        WANT(OK(kind##_get_status(of, &told.status)) && told.status.history == 3 && told.status.last == 3);              \
+        WANT(told.status.stored == 3 && told.status.values == 3 && told.status.watches == held && !told.status.sealed);  \
+    } while (0)
 
 static void are_read(void) {
     kv_shared b = {0};
@@ -255,8 +235,8 @@ static void are_read(void) {
     WANT(kv_shared_open(&b, B("settings"), &largest) == KV_OK && kv_reader_open(&b, &r) == KV_OK);
     WANT(puts_one(&b, "app.port", "12", 1) && puts_one(&b, "app.port", "123", 2) && puts_one(&b, "app.host", "h", 3));
     WANT(OK(kv_shared_watch(&b, B("x"), &latest, &told.number)) && told.number == 1);
-    read_under_the_mutex(&b);
-    read_by_a_reader(&r);
+    READ(kv_shared, &b, 1);
+    READ(kv_reader, &r, 0);
     WANT(kv_shared_snapshot(&b, &view) == KV_OK && kv_shared_snapshot(&b, &view) == KV_OPEN_ALREADY);
     WANT(puts_one(&b, "app.host", "i", 4));
     WANT(OK(kv_reader_get(&r, B("app.host"), value, 1, &told.size, &told.number)) && told.number == 4);

@@ -1,6 +1,7 @@
 """The headers of libvilgoued, which C and C++ take, and the names that the library in the folder of VILGOUED_LIB has and wants."""
 import os, shutil, unittest
 
+from scripts.objects import OWN
 from tests.c.compiling import C, CXX, INCLUDE, STRICT, libraries, ran
 from tests.pages.examples import lines_of
 
@@ -23,7 +24,7 @@ class Names(unittest.TestCase):
         return {(words[-1].split("@")[0], words[0].split(":")[1]) for words in told if len(words) > 2 and words[-2] == kind}
 
     def wanted(self, by_the_shell):
-        return {name for name, member in self.names("U", "-u", library="libvilgoued.a") if (member == "shared.o") == by_the_shell}
+        return {name for name, member in self.names("U", "-u", library="libvilgoued.a") if (member in OWN) == by_the_shell}
 
     def test_it_has_those_of_the_headers(self):
         self.assertEqual(sorted(name for name, _ in self.names("T", "-D", "--defined-only")), lines_of("tests/c/exported"))

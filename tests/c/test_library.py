@@ -7,13 +7,13 @@ from tests.pages.examples import blocks, first_block, lines_of
 
 
 class Programs(ProgramTest):
-    def test_each_function_and_each_code(self):
+    def test_each_function_and_each_code_is_as_the_header_says(self):
         ran(self.built("use", "-O2"))
 
-    def test_one_writer_three_readers_and_a_feed(self):
+    def test_one_writer_three_readers_and_a_feed_lose_nothing(self):
         ran(self.built("threads", "-O2"))
 
-    def test_each_request_for_memory_refused_in_turn(self):
+    def test_each_request_for_memory_may_be_refused(self):
         ran(self.built("sweep", "-O2"))
 
     def test_the_example_says_what_it_is_to_say(self):
@@ -22,14 +22,14 @@ class Programs(ProgramTest):
     def test_the_example_of_a_batch_says_what_it_is_to_say(self):
         self.assertEqual(ran(self.built("batch_example", "-O2")).splitlines(), lines_of("tests/c/batch_example.stdout"))
 
-    def test_with_sanitizers(self):
+    def test_sanitizers_find_nothing(self):
         self.needs(*CHECKED)
         for name in "use", "threads", "sweep":
             with self.subTest(name):
                 ran(self.built(name, *CHECKED))
 
     @unittest.skipUnless(shutil.which("valgrind"), "valgrind is not installed: apt-get install valgrind")
-    def test_under_valgrind(self):
+    def test_valgrind_finds_nothing(self):
         ran("valgrind", "-q", "--leak-check=full", "--error-exitcode=9", self.built("use", "-O2"))
 
 

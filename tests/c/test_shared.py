@@ -3,7 +3,7 @@ readers and followers at once; sleeping, waking and closing; each request for me
 where they are installed, with less of everything. What calls take is printed."""
 import os, shutil, unittest
 
-from tests.c.compiling import C, CHECKED, CXX, INCLUDE, SHARED, SHELL, STATIC, STRICT, ProgramTest, here, ran
+from tests.c.compiling import C, CHECKED, CXX, INCLUDE, OPENING, SHARED, SHELL, STATIC, STRICT, ProgramTest, here, ran
 from tests.pages.examples import blocks, lines_of
 
 # What is proved is not built with the sanitizer of threads: that sees the handles which each call uses, and in the shared library
@@ -18,8 +18,9 @@ LEAST = "50"
 class Shell(ProgramTest):
     def test_compilers_have_nothing_to_say(self):
         for compiler in filter(shutil.which, sorted({C, "gcc", "clang"})):
-            with self.subTest(compiler):
-                ran(compiler, "-std=c11", "-O2", "-pthread", *STRICT, "-I" + INCLUDE, "-c", SHELL, "-o", os.path.join(self.folder, "shared.o"))
+            for source in SHELL, OPENING:
+                with self.subTest(compiler, source=source):
+                    ran(compiler, "-std=c11", "-O2", "-pthread", *STRICT, "-I" + INCLUDE, "-c", source, "-o", os.path.join(self.folder, "it.o"))
 
     @unittest.skipUnless(shutil.which(CXX), "there is no %s: apt-get install g++" % CXX)
     def test_cpp_calls_it(self):
@@ -30,36 +31,36 @@ class Shell(ProgramTest):
 
 
 class Programs(ProgramTest):
-    def test_each_function_and_each_refusal(self):
+    def test_each_function_and_each_refusal_is_as_the_header_says(self):
         ran(self.built("shared_use", "-O2"))
 
-    def test_four_writers_four_readers_and_four_followers(self):
+    def test_four_writers_four_readers_and_four_followers_lose_nothing(self):
         print(ran(self.built("shared_threads", "-O2")), end="")
 
-    def test_each_request_for_memory_refused_in_turn(self):
+    def test_each_request_for_memory_may_be_refused(self):
         print(ran(self.built("shared_sweep", "-O2")), end="")
 
     def test_the_example_says_what_it_is_to_say(self):
         self.assertEqual(ran(self.built("shared_example", "-O2")).splitlines(), lines_of("tests/c/shared_example.stdout"))
 
-    def test_what_calls_take(self):
+    def test_what_calls_take_is_told(self):
         print(ran(self.built("shared_costs", "-O2")), end="")
 
-    def test_with_sanitizers_of_addresses_and_undefined_behaviour(self):
+    def test_sanitizers_of_addresses_and_undefined_behaviour_find_nothing(self):
         self.needs(*CHECKED)
         for name, *words in (["shared_use"], ["shared_threads", LESS], ["shared_sweep"]):
             with self.subTest(name):
                 ran(self.built(name, SHELL, *CHECKED), *words)
 
-    def test_with_the_sanitizer_of_threads(self):
+    def test_the_sanitizer_of_threads_finds_nothing(self):
         self.needs("-fsanitize=thread")
-        for name, *words in (["shared_use"], ["shared_threads", LESS]):
+        for name, *words in (["shared_use"], ["shared_threads", LESS], ["shared_sweep"]):
             with self.subTest(name):
                 ran(self.built(name, SHELL, *RACES, beside=SHARED), *words, TSAN_OPTIONS="suppressions=%s halt_on_error=1" % NOT_SEEN)
 
     @unittest.skipUnless(shutil.which("valgrind"), "valgrind is not installed: apt-get install valgrind")
-    def test_under_valgrind(self):
-        for name, *words in (["shared_use"], ["shared_threads", LEAST]):
+    def test_valgrind_finds_nothing(self):
+        for name, *words in (["shared_use"], ["shared_threads", LEAST], ["shared_sweep"]):
             with self.subTest(name):
                 ran("valgrind", "-q", "--leak-check=full", "--error-exitcode=9", "--fair-sched=yes", self.built(name, "-O2", "-g"), *words)
 

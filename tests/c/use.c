@@ -345,6 +345,30 @@ static uint64_t feed_take(kv_feed *feed) {
     return kv_feed_take(feed, key, sizeof key, value, sizeof value, &item);
 }
 
+/* A feed goes on to no view of another bucket, also where that was opened under the same name and accepted the same. */
+static void fed_by_another(void) {
+    kv_bucket b = {0}, other = {0};
+    kv_view view = {0}, foreign = {0};
+    kv_feed feed = {0};
+    kv_options latest = {KV_LATEST, 0, false, false};
+    uint64_t r = 0, floor = 77;
+    WANT(kv_open(&b, B("settings"), &largest) == KV_OK && kv_open(&other, B("settings"), &largest) == KV_OK);
+    WANT(kv_put(&b, B("a"), B("1"), &r) == KV_OK && kv_put(&other, B("a"), B("1"), &r) == KV_OK);
+    WANT(kv_snapshot(&b, &view) == KV_OK && kv_feed_open(&view, B(">"), &latest, &feed) == KV_OK);
+    WANT(kv_put(&other, B("a"), B("2"), &r) == KV_OK && kv_snapshot(&other, &foreign) == KV_OK);
+    WANT(kv_feed_refresh(&feed, &foreign, &floor) == KV_OTHER_BUCKET && floor == 77);
+    WANT(feed_take(&feed) == KV_OK && shows("a", KV_PUT, 1, "1"));
+    kv_close(&b);
+    kv_view_close(&view);
+    WANT(kv_open(&b, B("settings"), &largest) == KV_OK && kv_snapshot(&b, &view) == KV_OK);
+    WANT(kv_feed_refresh(&feed, &view, &floor) == KV_OTHER_BUCKET && floor == 77);
+    kv_feed_close(&feed);
+    kv_view_close(&view);
+    kv_view_close(&foreign);
+    kv_close(&b);
+    kv_close(&other);
+}
+
 static void fed(void) {
     kv_bucket b = {0};
     kv_view first = {0}, second = {0};
@@ -623,6 +647,7 @@ int main(void) {
     listed();
     seen();
     fed();
+    fed_by_another();
     compacted();
     lagged();
     names();

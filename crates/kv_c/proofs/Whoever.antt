@@ -61,36 +61,36 @@ from_first s (r ∷ rs) ws first h at =
 
 -- ---- one call
 
-batch_ran : (requests : List Request) (first : ℕ) (old : Bucketed) (next : Option Content) (state : State) → Does (batch requests first) (Some (Bucket old)) next → Represents state old → Ran state (written requests first) next
-batch_ran requests first old None state does r = absurd does
-batch_ran requests first old (Some (View v)) state does r = absurd does
-batch_ran requests first old (Some (Feed f)) state does r = absurd does
-batch_ran requests first old (Some (Batch whats)) state does r = absurd does
-batch_ran requests first old (Some (Bucket new)) state does r =
-    let made = does state r in
+batch_ran : (requests : List Request) (first : ℕ) (old : Bucketed) (m : ℕ) (next : Option Content) (state : State) → Does (batch requests first) (Some (Bucket old m)) next → Represents state old → Ran state (written requests first) next
+batch_ran requests first old m None state does r = absurd does
+batch_ran requests first old m (Some (View v o)) state does r = absurd does
+batch_ran requests first old m (Some (Feed f o)) state does r = absurd does
+batch_ran requests first old m (Some (Batch whats)) state does r = absurd does
+batch_ran requests first old m (Some (Bucket new n)) state does r =
+    let made = does.1 state r in
     let are = calls_written requests first in (
       from_first state requests made.0 first made.1.0 made.1.1.0 ∙ ap (transcript state) (sym are),
       subst (λ (s : State). Represents s new) (sym (ap (run state) are ∙ batch_runs state requests made.0 made.1.0)) made.1.1.1,
     )
 
-step_ran : (exchange : Exchange) (old : Bucketed) (next : Option Content) (state : State) → Does (step exchange) (Some (Bucket old)) next → Represents state old → Ran state (exchange ∷ []) next
-step_ran exchange old None state does r = absurd does
-step_ran exchange old (Some (View v)) state does r = absurd does
-step_ran exchange old (Some (Feed f)) state does r = absurd does
-step_ran exchange old (Some (Batch whats)) state does r = absurd does
-step_ran exchange old (Some (Bucket new)) state does r =
-    let one = does state r in (ap (λ (a : Answer). record { call = exchange.call; answer = a } ∷ []) one.0, one.1)
+step_ran : (exchange : Exchange) (old : Bucketed) (m : ℕ) (next : Option Content) (state : State) → Does (step exchange) (Some (Bucket old m)) next → Represents state old → Ran state (exchange ∷ []) next
+step_ran exchange old m None state does r = absurd does
+step_ran exchange old m (Some (View v o)) state does r = absurd does
+step_ran exchange old m (Some (Feed f o)) state does r = absurd does
+step_ran exchange old m (Some (Batch whats)) state does r = absurd does
+step_ran exchange old m (Some (Bucket new n)) state does r =
+    let one = does.1 state r in (ap (λ (a : Answer). record { call = exchange.call; answer = a } ∷ []) one.0, one.1)
 
-in_bucket : (done : Done) (old : Bucketed) (next : Option Content) (state : State) → Does done (Some (Bucket old)) next → Represents state old → Ran state (exchanges_of done) next
-in_bucket (step exchange) old next state does r = step_ran exchange old next state does r
-in_bucket (batch requests first) old next state does r = batch_ran requests first old next state does r
+in_bucket : (done : Done) (old : Bucketed) (m : ℕ) (next : Option Content) (state : State) → Does done (Some (Bucket old m)) next → Represents state old → Ran state (exchanges_of done) next
+in_bucket (step exchange) old m next state does r = step_ran exchange old m next state does r
+in_bucket (batch requests first) old m next state does r = batch_ran requests first old m next state does r
 
 one_ran : (done : Done) (old next : Option Content) (state : State) → Does done old next → StandsAt state old → Ran state (exchanges_of done) next
 one_ran done None next state does stands = absurd stands
-one_ran done (Some (View v)) next state does stands = absurd stands
-one_ran done (Some (Feed f)) next state does stands = absurd stands
+one_ran done (Some (View v o)) next state does stands = absurd stands
+one_ran done (Some (Feed f o)) next state does stands = absurd stands
 one_ran done (Some (Batch whats)) next state does stands = absurd stands
-one_ran done (Some (Bucket old)) next state does stands = in_bucket done old next state does stands
+one_ran done (Some (Bucket old m)) next state does stands = in_bucket done old m next state does stands
 
 -- ---- calls in a row
 
@@ -151,9 +151,9 @@ module _ (state : State) (bucket : Bucketed) (watch : Watch) (r : Represents sta
 
 pub calls_tell_held : (old new : Option Content) (done : List Done) (state : State) (number : ℕ) (watch : Watch) → AreDone old done new → StandsAt state old → open_at number state ≡ Some watch → Tells state (told done) number watch
 calls_tell_held None new done state number watch are stands is_open = absurd stands
-calls_tell_held (Some (View v)) new done state number watch are stands is_open = absurd stands
-calls_tell_held (Some (Feed f)) new done state number watch are stands is_open = absurd stands
+calls_tell_held (Some (View v o)) new done state number watch are stands is_open = absurd stands
+calls_tell_held (Some (Feed f o)) new done state number watch are stands is_open = absurd stands
 calls_tell_held (Some (Batch whats)) new done state number watch are stands is_open = absurd stands
-calls_tell_held (Some (Bucket old)) new done state number watch are stands is_open =
-    subst (λ (es : List Exchange). Tells state es number watch) (sym (all_ran done (Some (Bucket old)) new state are stands).0)
+calls_tell_held (Some (Bucket old m)) new done state number watch are stands is_open =
+    subst (λ (es : List Exchange). Tells state es number watch) (sym (all_ran done (Some (Bucket old m)) new state are stands).0)
     (run_tells state old watch stands number (calls_of (told done)) is_open)

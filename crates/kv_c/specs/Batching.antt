@@ -17,9 +17,9 @@ use Rattle.kv_single.specs.Held.{Bucketed}
 -- what is gathered in a handle: of a closed one nothing, and one on something else gathers nothing
 abbrev pub gathered : Option Content → Option (List Asked)
 gathered None = Some []
-gathered (Some (Bucket b)) = None
-gathered (Some (View v)) = None
-gathered (Some (Feed f)) = None
+gathered (Some (Bucket b opening)) = None
+gathered (Some (View v opening)) = None
+gathered (Some (Feed f opening)) = None
 gathered (Some (Batch whats)) = Some whats
 
 -- a batch in which these are gathered
@@ -51,13 +51,13 @@ AreWrites old whats first new = (requests : List Request) × (map asked requests
 
 -- the same, of what two handles hold before, and that of the bucket after
 abbrev pub AcceptsAll : Option Content → Option Content → ℕ → Option Content → Type 0
-AcceptsAll (Some (Batch whats)) (Some (Bucket old)) first (Some (Bucket new)) = AreWrites old whats first new
-AcceptsAll None (Some (Bucket old)) first (Some (Bucket new)) = AreWrites old [] first new
+AcceptsAll (Some (Batch whats)) (Some (Bucket old m)) first (Some (Bucket new n)) = (n ≡ m) × AreWrites old whats first new
+AcceptsAll None (Some (Bucket old m)) first (Some (Bucket new n)) = (n ≡ m) × AreWrites old [] first new
 AcceptsAll batch old first new = ⊥
 
 -- these requests are accepted, the first at this revision, of what a handle holds before and after
 abbrev pub Batches : List Request → Option Content → ℕ → Option Content → Type 0
-Batches requests (Some (Bucket old)) first (Some (Bucket new)) = IsBatch old requests first new
+Batches requests (Some (Bucket old m)) first (Some (Bucket new n)) = (n ≡ m) × IsBatch old requests first new
 Batches requests old first new = ⊥
 
 -- one of these is refused, that of this place, with this code; with 11 the key's last revision is told

@@ -30,32 +30,40 @@ use Rattle.kv_model.specs.declared.options.Start.TheVariants.{Latest, History, U
 
 abbrev pub holds_bucket : Option Content → Bool
 holds_bucket None = false
-holds_bucket (Some (Bucket b)) = true
-holds_bucket (Some (View v)) = false
-holds_bucket (Some (Feed f)) = false
+holds_bucket (Some (Bucket b opening)) = true
+holds_bucket (Some (View v opening)) = false
+holds_bucket (Some (Feed f opening)) = false
 holds_bucket (Some (Batch whats)) = false
 
 abbrev pub holds_feed : Option Content → Bool
 holds_feed None = false
-holds_feed (Some (Bucket b)) = false
-holds_feed (Some (View v)) = false
-holds_feed (Some (Feed f)) = true
+holds_feed (Some (Bucket b opening)) = false
+holds_feed (Some (View v opening)) = false
+holds_feed (Some (Feed f opening)) = true
 holds_feed (Some (Batch whats)) = false
 
 -- what is read through a handle: the version of a bucket, or a view
 abbrev pub version_in : Option Content → Option Stored
 version_in None = None
-version_in (Some (Bucket b)) = Some b.version
-version_in (Some (View v)) = Some v
-version_in (Some (Feed f)) = None
+version_in (Some (Bucket b opening)) = Some b.version
+version_in (Some (View v opening)) = Some v
+version_in (Some (Feed f opening)) = None
 version_in (Some (Batch whats)) = None
+
+-- the number under which the bucket was opened that a handle holds, or has its view or feed from
+abbrev pub opening_of : Option Content → Option ℕ
+opening_of None = None
+opening_of (Some (Bucket b opening)) = Some opening
+opening_of (Some (View v opening)) = Some opening
+opening_of (Some (Feed f opening)) = Some opening
+opening_of (Some (Batch whats)) = None
 
 -- a handle is open, on a bucket that represents the state
 abbrev pub StandsAt : State → Option Content → Type 0
 StandsAt state None = ⊥
-StandsAt state (Some (Bucket b)) = Represents state b
-StandsAt state (Some (View v)) = ⊥
-StandsAt state (Some (Feed f)) = ⊥
+StandsAt state (Some (Bucket b opening)) = Represents state b
+StandsAt state (Some (View v opening)) = ⊥
+StandsAt state (Some (Feed f opening)) = ⊥
 StandsAt state (Some (Batch whats)) = ⊥
 
 -- a version stands for these acts under this configuration
@@ -74,12 +82,12 @@ IsWrite old what revision new = (request : Request) × (asked request ≡ what) 
 
 -- the same, of what a handle holds before and after
 abbrev pub Accepts : Asked → Option Content → ℕ → Option Content → Type 0
-Accepts what (Some (Bucket old)) revision (Some (Bucket new)) = IsWrite old what revision new
+Accepts what (Some (Bucket old m)) revision (Some (Bucket new n)) = (n ≡ m) × IsWrite old what revision new
 Accepts what old revision new = ⊥
 
 -- the buckets that a handle holds before and after are one step of the model apart
 abbrev pub Steps : Call → Answer → Option Content → Option Content → Type 0
-Steps call answer (Some (Bucket old)) (Some (Bucket new)) = IsStep old call answer new
+Steps call answer (Some (Bucket old m)) (Some (Bucket new n)) = (n ≡ m) × IsStep old call answer new
 Steps call answer old new = ⊥
 
 -- the highest floor for which a compaction is not refused, 0 where there is none
@@ -89,24 +97,28 @@ IsReach state reach = (0 < reach → may_compact reach state ≡ Ok reach)
 
 -- a handle holds a feed that begins with what is read through another one
 abbrev pub Feeds : Option Stored → List (List ℕ) → Options → Option Content → Type 0
-Feeds (Some v) filters options (Some (Feed f)) = Opens v filters options f
+Feeds (Some v) filters options (Some (Feed f opening)) = Opens v filters options f
 Feeds of filters options new = ⊥
 
 -- a feed goes on to what is read through another handle
 abbrev pub Refreshes : Option Stored → Option Content → Option Content → Type 0
-Refreshes (Some v) (Some (Feed old)) (Some (Feed new)) = IsRefreshed v old new
+Refreshes (Some v) (Some (Feed old m)) (Some (Feed new n)) = (n ≡ m) × IsRefreshed v old new
 Refreshes of old new = ⊥
 
--- the code of a feed that is to go on: 36 where that version has fewer writes than its own, else 21 where it lags
--- behind that one's floor
+-- the code of a feed that is to go on to a version of its bucket: 36 where that has fewer writes than its own, else 21
+-- where it lags behind that one's floor
 abbrev pub refreshed_code : List Act → List Act → ℕ → Stored → Fed → ℕ
 refreshed_code began acts n v f = if nat_le f.present.last v.last then
     (if lags v.floor began acts n f then 21 else 0) else 36
 
+-- the same of a version of a bucket that was opened under a number: 25 where that is not the feed's own
+abbrev pub numbered_code : List Act → List Act → ℕ → ℕ → Stored → Fed → ℕ → ℕ
+numbered_code began acts n of v f own = if of == own then refreshed_code began acts n v f else 25
+
 -- the same, of what the handles hold
-abbrev pub refresh_code : List Act → List Act → ℕ → Option Stored → Option Content → ℕ
-refresh_code began acts n (Some v) (Some (Feed f)) = refreshed_code began acts n v f
-refresh_code began acts n of held = 32
+abbrev pub refresh_code : List Act → List Act → ℕ → Option ℕ → Option Stored → Option Content → ℕ
+refresh_code began acts n (Some of) (Some v) (Some (Feed f own)) = numbered_code began acts n of v f own
+refresh_code began acts n of v held = 32
 
 -- this is the floor of what is read through a handle
 abbrev pub IsFloor : Option Stored → ℕ → Type 0
@@ -115,23 +127,23 @@ IsFloor (Some v) floor = v.floor ≡ floor
 
 -- a feed hands out its next item
 abbrev pub Hands : Option Content → Item → List ℕ → List ℕ → Option Content → Type 0
-Hands (Some (Feed old)) item keys values (Some (Feed new)) = HandsNext old item keys values new
+Hands (Some (Feed old m)) item keys values (Some (Feed new n)) = (n ≡ m) × HandsNext old item keys values new
 Hands old item keys values new = ⊥
 
 -- a handle is open, on a feed that has handed out n items
 abbrev pub FeedsBy : List Act → List Act → ℕ → Option Content → Type 0
 FeedsBy began acts n None = ⊥
-FeedsBy began acts n (Some (Bucket b)) = ⊥
-FeedsBy began acts n (Some (View v)) = ⊥
-FeedsBy began acts n (Some (Feed f)) = HasHanded began acts n f
+FeedsBy began acts n (Some (Bucket b opening)) = ⊥
+FeedsBy began acts n (Some (View v opening)) = ⊥
+FeedsBy began acts n (Some (Feed f opening)) = HasHanded began acts n f
 FeedsBy began acts n (Some (Batch whats)) = ⊥
 
 -- and this is the item that comes next
 abbrev pub comes_next : List Act → List Act → ℕ → Option Content → Option Given
 comes_next began acts n None = None
-comes_next began acts n (Some (Bucket b)) = None
-comes_next began acts n (Some (View v)) = None
-comes_next began acts n (Some (Feed f)) = next_of began acts n f
+comes_next began acts n (Some (Bucket b opening)) = None
+comes_next began acts n (Some (View v opening)) = None
+comes_next began acts n (Some (Feed f opening)) = next_of began acts n f
 comes_next began acts n (Some (Batch whats)) = None
 
 -- a request as it was read, or why there is none

@@ -21,7 +21,8 @@ code_by {X} code (Err e) = code_of e
 -- the names of C's own codes
 abbrev pub own_name : ℕ → Option (List ℕ)
 own_name code =
-    if code == 32 then Some (codes "Closed")
+    if code == 25 then Some (codes "OtherBucket")
+    else if code == 32 then Some (codes "Closed")
     else if code == 33 then Some (codes "TooLittleRoom")
     else if code == 34 then Some (codes "OpenAlready")
     else if code == 35 then Some (codes "NoSuchStart")

@@ -8,6 +8,9 @@ ghost use Rattle.kv_keys.specs.declared.error.KvError.TheVariants.{Lagged, Watch
 
 use kv_single::KvError;
 
+/// The view is of another bucket than the feed.
+pub(crate) const OTHER_BUCKET: u64 = 25;
+
 /// The handle is not open, or on something else.
 pub(crate) const CLOSED: u64 = 32;
 
@@ -31,6 +34,7 @@ pub(crate) fn own_name(code: u64) -> Option<&'static str>
     ensures { option_copied result ≡ own_name code }
 {
     match code {
+        25 => Some("OtherBucket"),
         32 => Some("Closed"),
         33 => Some("TooLittleRoom"),
         34 => Some("OpenAlready"),

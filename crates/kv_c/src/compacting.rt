@@ -43,8 +43,8 @@ fn compact_in(content: &mut Content, floor: u64, watch: &mut u64) -> u64
     ensures closed { IsFalse (holds_bucket (Some content.old)) → result ≡ 32 }
 {
     match content {
-        Content::Bucket(bucket) => compact(bucket, floor, watch),
-        Content::View(_) | Content::Feed(_) | Content::Batch(_) => CLOSED,
+        Content::Bucket(bucket, _) => compact(bucket, floor, watch),
+        Content::View(..) | Content::Feed(..) | Content::Batch(_) => CLOSED,
     }
 }
 
@@ -77,11 +77,11 @@ fn reach_of(content: &Content, floor: &mut u64) -> u64
     ensures closed { IsFalse (holds_bucket (Some content.now)) → result ≡ 32 }
 {
     match content {
-        Content::Bucket(bucket) => {
+        Content::Bucket(bucket, _) => {
             *floor = bucket.reach();
             0
         }
-        Content::View(_) | Content::Feed(_) | Content::Batch(_) => CLOSED,
+        Content::View(..) | Content::Feed(..) | Content::Batch(_) => CLOSED,
     }
 }
 

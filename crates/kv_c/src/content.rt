@@ -10,15 +10,15 @@ use crate::batch::Batch;
 use crate::feed::Feed;
 use kv_single::{Bucket, Request, Version};
 
-/// What a handle holds while it is open.
+/// What a handle holds while it is open. A bucket has the number of its opening, and a view or a feed that of its bucket.
 #[derive(Drop)]
 pub enum Content {
     /// A bucket of one thread.
-    Bucket(Bucket),
+    Bucket(Bucket, u64),
     /// What a bucket had accepted by a moment.
-    View(Version),
+    View(Version, u64),
     /// A watch over views.
-    Feed(Feed),
+    Feed(Feed, u64),
     /// Requests that are gathered.
     Batch(Batch),
 }
@@ -29,9 +29,9 @@ impl Content {
         ensures { option_copied result ≡ version_in (Some self.now) }
     {
         match self {
-            Content::Bucket(bucket) => Some(bucket.version()),
-            Content::View(version) => Some(version),
-            Content::Feed(_) | Content::Batch(_) => None,
+            Content::Bucket(bucket, _) => Some(bucket.version()),
+            Content::View(version, _) => Some(version),
+            Content::Feed(..) | Content::Batch(_) => None,
         }
     }
 
@@ -42,7 +42,7 @@ impl Content {
     {
         match self {
             Content::Batch(batch) => Some(batch.requests()),
-            Content::Bucket(_) | Content::View(_) | Content::Feed(_) => None,
+            Content::Bucket(..) | Content::View(..) | Content::Feed(..) => None,
         }
     }
 }

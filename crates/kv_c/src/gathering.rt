@@ -60,7 +60,7 @@ fn gather_in(content: &mut Content, request: Result<Request, KvError>) -> u64
 {
     match content {
         Content::Batch(batch) => add(batch, request),
-        Content::Bucket(_) | Content::View(_) | Content::Feed(_) => CLOSED,
+        Content::Bucket(..) | Content::View(..) | Content::Feed(..) => CLOSED,
     }
 }
 
@@ -265,8 +265,8 @@ fn write_all_in(
     ensures closed_untold { result ≡ 32 → at.new ≡ at.old }
 {
     match content {
-        Content::Bucket(bucket) => write_all(bucket, requests, revision, at),
-        Content::View(_) | Content::Feed(_) | Content::Batch(_) => CLOSED,
+        Content::Bucket(bucket, _) => write_all(bucket, requests, revision, at),
+        Content::View(..) | Content::Feed(..) | Content::Batch(_) => CLOSED,
     }
 }
 

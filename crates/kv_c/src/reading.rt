@@ -257,11 +257,11 @@ fn status_of_bucket(content: &Content, numbers: &mut Numbers) -> u64
     ensures closed { IsFalse (holds_bucket (Some content.now)) → result ≡ 32 }
 {
     match content {
-        Content::Bucket(bucket) => {
+        Content::Bucket(bucket, _) => {
             *numbers = numbers_of(bucket.version(), bucket.watches());
             0
         }
-        Content::View(_) | Content::Feed(_) | Content::Batch(_) => CLOSED,
+        Content::View(..) | Content::Feed(..) | Content::Batch(_) => CLOSED,
     }
 }
 

@@ -55,8 +55,8 @@ fn write_in(content: &mut Content, request: Result<Request, KvError>, revision: 
     ensures closed { IsFalse (holds_bucket (Some content.old)) → result ≡ 32 }
 {
     match content {
-        Content::Bucket(bucket) => write_to(bucket, request, revision),
-        Content::View(_) | Content::Feed(_) | Content::Batch(_) => CLOSED,
+        Content::Bucket(bucket, _) => write_to(bucket, request, revision),
+        Content::View(..) | Content::Feed(..) | Content::Batch(_) => CLOSED,
     }
 }
 
@@ -226,8 +226,8 @@ fn seal_in(content: &mut Content) -> u64
     ensures closed { IsFalse (holds_bucket (Some content.old)) → result ≡ 32 }
 {
     match content {
-        Content::Bucket(bucket) => seal(bucket),
-        Content::View(_) | Content::Feed(_) | Content::Batch(_) => CLOSED,
+        Content::Bucket(bucket, _) => seal(bucket),
+        Content::View(..) | Content::Feed(..) | Content::Batch(_) => CLOSED,
     }
 }
 
