@@ -50,10 +50,12 @@ RUNS = (
     ("memory-writes", WRITTEN_TWICE),
     ("memory-held", WRITTEN_TWICE),
     ("memory-compacted", SIZES),
+    ("memory-live", WRITTEN_TWICE[2:]),
     ("threads", SIZES),
     ("threads-all", BOTH_ENDS),
     ("delay", SIZES),
     ("feeds", SIZES),
+    ("naps", (10_000,)),
 )
 # Those that the program of peers/ measures, each beside the one of this name.
 RUNS_OF_PEERS = (
@@ -273,7 +275,7 @@ def cell(figure):
 def row_of(figure):
     """What was measured, of what, and how many threads were beside the writer."""
     name = ", ".join(filter(None, (figure.what, figure.of)))
-    return name + " (%d)" % figure.others if figure.group.removeprefix("rust-") in ("threads", "threads-all", "delay", "feeds") else name
+    return name + " (%d)" % figure.others if figure.group.removeprefix("rust-") in ("threads", "threads-all", "delay", "feeds", "naps") else name
 
 
 def table(figures, heading):
@@ -333,9 +335,13 @@ GROUPS = (
      "One thread makes 10,000 writes without a pause; in brackets how many follow. Items are of all followers together, up to "
      "the end of the last. The processor time of a write is that of the writer's thread alone: who wakes sleepers pays for that."),
     ("rust-feeds", "Followers of one writer, of Rust's own crates", "By keys", "The same of the maps and channels above."),
+    ("naps", "Followers that nap", "By keys",
+     "The same of followers that don't wait for a write: where there is nothing they sleep for 0.1 ms, refresh and look again. Nobody is "
+     "woken, so the writer pays for none of them; an item comes up to a nap later."),
     ("memory", "Memory", "By keys or writes",
      "Resident memory after, less before, for each key or write; each a process of its own. Of fewer than 100,000 as many "
-     "buckets are weighed at once as have so many. What a compaction frees stays with the process, for later writes."),
+     "buckets are weighed at once as have so many. What a compaction frees stays with the process, for later writes. A bucket that "
+     "threads share keeps up to two versions beside the one that is published."),
     ("lines", "Lines through the program", "By keys",
      "Processor time of `kvbucket` for a line and its answer, as `scripts/lines.py` measures it: batches of 20,000 gets and of "
      "2,000 puts, where the keys are new of a fifth of the keys at most. Nine rounds, spread over the whole run of the bench; "

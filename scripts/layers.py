@@ -1,6 +1,7 @@
 #!/usr/bin/env python3
 """layers.py: measures what a call of the library takes from C, and what the packages for Rust and Go add to it, and writes
-docs/bench/layers.md. It wants the library (./library), a C compiler, cargo and go, and takes half a minute."""
+docs/bench/layers.md. It wants the library (./library), a C compiler, cargo and go, and takes half a minute. What a package adds that is
+above its bound is told on standard error."""
 import datetime, os, re, subprocess, sys, tempfile
 
 if __name__ == "__main__":
@@ -10,6 +11,8 @@ from scripts import top
 
 PAGE = os.path.join(top, "docs", "bench", "layers.md")
 LIBRARY = os.path.join(top, "lib", "libvilgoued.a")
+# The nanoseconds that a package may add to a call.
+BOUNDS = {"Rust": 100, "Go": 200}
 # What each program of a package prints for a call.
 ADDED = re.compile(r"^(.+): (\d+) ns in C, (\d+) ns here, (-?\d+) ns added$", re.M)
 # And what that of the shell prints.
@@ -40,10 +43,20 @@ def shell():
 
 
 def packages():
-    """What each package adds to a call: its name, the call, and nanoseconds in C, there, and between the two."""
+    """What each package adds to a call: its name, the call, and the nanoseconds in C, there, and between the two."""
     rust = printed(["cargo", "run", "--release", "--offline", "--quiet", "--example", "costs"], "rust", VILGOUED_LIB=LIBRARY)
     go = printed(["go", "run", "./costs"], "go", GOFLAGS="-mod=mod", GOPROXY="off")
-    return [(name, call, *("%d ns" % int(ns) for ns in rest)) for name, text in (("Rust", rust), ("Go", go)) for call, *rest in ADDED.findall(text)]
+    return [(name, call, *map(int, numbers)) for name, text in (("Rust", rust), ("Go", go)) for call, *numbers in ADDED.findall(text)]
+
+
+def above(rows):
+    """What is added that is above its bound, in a line each."""
+    return ["%s, %s: %d ns added, above %d ns" % (name, call, added, BOUNDS[name])
+            for name, call, _, _, added in rows if added > BOUNDS[name]]
+
+
+def in_words(row):
+    return (*row[:2], *("%d ns" % ns for ns in row[2:]))
 
 
 def table(head, rows):
@@ -63,18 +76,21 @@ What the packages add to a call, the least of 200 rounds among 16 keys (`rust/ex
 
 %s
 """ % (day, os.cpu_count() or 1, table(["Call", "Takes"], of_shell),
-       table(["Package", "Call", "In C", "There", "Added"], of_packages))
+       table(["Package", "Call", "In C", "There", "Added"], map(in_words, of_packages)))
 
 
 def main():
     try:
         if not os.path.exists(LIBRARY):
             raise Missing("there is no lib/libvilgoued.a: run ./library")
-        text = page(shell(), packages(), datetime.date.today().isoformat())
+        of_packages = packages()
+        text = page(shell(), of_packages, datetime.date.today().isoformat())
     except Missing as error:
         sys.exit("layers: %s" % error)
     with open(PAGE, "w", encoding="utf-8") as file:
         file.write(text)
+    for line in above(of_packages):
+        print("layers: " + line, file=sys.stderr)
 
 
 if __name__ == "__main__":

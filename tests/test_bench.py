@@ -3,13 +3,13 @@ programs kv_bench (BENCH, or the one in its crate) and kvbucket, and of Rust's o
 is thrown away; and that README.md has the table that the figures give."""
 import os, subprocess, tempfile, unittest
 
-from scripts import bench, compared, current, peers
-from scripts.figures import Figure, parsed, read
+from scripts import bench, compared, current, layers, peers
+from scripts.figures import Figure, in_words, parsed, read
 from tests import program
 
 BENCH = os.path.abspath(os.environ.get("BENCH") or current.path_of("kv_bench"))
-# Two sizes are no curve.
-WITHOUT_CHART = {"collide", "pages"}
+# One size or two are no curve.
+WITHOUT_CHART = {"collide", "naps", "pages"}
 ONE = Figure("memory", "a key", "", 0, 10, 3.0, 3.0, 3.0, "bytes")
 
 
@@ -17,11 +17,11 @@ class Words(unittest.TestCase):
     def test_a_line_is_a_figure(self):
         self.assertEqual(parsed("feeds\titems\tone\t8\t10\t15\t10\t20\ta second", tenths=True), Figure("feeds", "items", "one", 8, 10, 1.5, 1.0, 2.0, "a second"))
 
-    def test_values_in_words(self):
+    def test_a_value_has_three_figures_and_its_unit(self):
         for value, unit, wanted in ((0.5, "ns", "0.50 ns"), (15, "ns", "15.0 ns"), (1500, "ns", "1.50 µs"), (2.5e8, "ns", "250 ms"),
                                     (1.2e6, "a second", "1.20 M"), (7, "a second", "7.00"), (414.2, "bytes", "414 B")):
             with self.subTest(value=value, unit=unit):
-                self.assertEqual(bench.in_words(value, unit), wanted)
+                self.assertEqual(in_words(value, unit), wanted)
 
     def test_fewer_keys_are_told(self):
         self.assertTrue(bench.cell(ONE._replace(keys=950_000)).endswith(", of 950,000 keys"))
@@ -30,6 +30,11 @@ class Words(unittest.TestCase):
     def test_three_figures_are_one(self):
         one = bench.merged([ONE, ONE._replace(median=5.0, most=7.0), ONE._replace(median=4.0, least=2.0)])
         self.assertEqual((one.median, one.least, one.most), (4.0, 2.0, 7.0))
+
+    def test_what_a_package_adds_above_its_bound_is_told(self):
+        rows = [("Rust", "put", 500, 600, 100), ("Rust", "get of a reader", 90, 191, 101), ("Go", "put", 500, 700, 200), ("Go", "get of a bucket", 90, 300, 210)]
+        self.assertEqual(layers.above(rows), ["Rust, get of a reader: 101 ns added, above 100 ns", "Go, get of a bucket: 210 ns added, above 200 ns"])
+        self.assertEqual(layers.in_words(rows[0]), ("Rust", "put", "500 ns", "600 ns", "100 ns"))
 
 
 class Waits(unittest.TestCase):
@@ -78,7 +83,7 @@ class Compared(unittest.TestCase):
         figures = [self.OWN, self.OWN._replace(of="HashMap"), self.OWN._replace(what="writes", of="HashMap", median=1000.0)]
         self.assertTrue(list(compared.table(figures))[-1].endswith("| the kit's HashMap: 4.00 M, beside 1.00 k writes |\n"))
 
-    def test_of_times_the_lowest(self):
+    def test_of_times_the_lowest_counts(self):
         own = Figure("beside", "get", "Vilgoued", 0, 10_000, 90.0, 80.0, 99.0, "ns")
         rows = list(compared.table([own, own._replace(of="BTreeMap", median=200.0), own._replace(of="HashMap", median=40.0)]))
         self.assertTrue(rows[-1].endswith("| 90.0 ns | the kit's HashMap: 40.0 ns |\n"), rows)

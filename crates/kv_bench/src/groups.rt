@@ -1,7 +1,7 @@
 //! The groups of figures.
 
 use crate::round::Task;
-use crate::{beside, live_rounds, map_rounds};
+use crate::{beside, live_memory, live_rounds, map_rounds};
 use kv_gauge::fault::Fault;
 use kv_gauge::plan::Plan;
 use kv_gauge::{calls, colliding, compacting, memory};
@@ -24,6 +24,8 @@ pub enum Group {
     Beside(beside::Part),
     /// Memory for each key or write.
     Memory(memory::What),
+    /// The same of a live bucket.
+    LiveMemory,
     /// Threads that read or follow beside one that writes.
     Threads(Task),
     /// All of them, and no figure is told.
@@ -46,9 +48,11 @@ pub fn of_word(word: &str) -> Option<Group> {
         "memory-writes" => Some(Group::Memory(memory::What::Writes)),
         "memory-held" => Some(Group::Memory(memory::What::Held)),
         "memory-compacted" => Some(Group::Memory(memory::What::Compacted)),
+        "memory-live" => Some(Group::LiveMemory),
         "threads" => Some(Group::Threads(Task::Read)),
         "threads-all" => Some(Group::Threads(Task::ReadAll)),
         "feeds" => Some(Group::Threads(Task::Follow)),
+        "naps" => Some(Group::Threads(Task::Nap)),
         "delay" => Some(Group::Threads(Task::Delay)),
         "check" => Some(Group::Check),
         _ => None,
@@ -62,10 +66,13 @@ fn rounds<R: Clock + CpuClock + Print + Wait + Threads + Sync>(
     task: Task,
 ) -> Result<(), Fault> {
     live_rounds::run(rt, alloc, plan, task)?;
-    map_rounds::run(rt, alloc, plan, task)
+    match task {
+        Task::Nap => Ok(()),
+        _ => map_rounds::run(rt, alloc, plan, task),
+    }
 }
 
-fn weigh_all<R: Print + Files + AllocGlobal>(
+fn weigh_all<R: Wait + Print + Files + AllocGlobal>(
     rt: &R,
     alloc: Global,
     plan: Plan,
@@ -73,7 +80,8 @@ fn weigh_all<R: Print + Files + AllocGlobal>(
     memory::run(rt, alloc, plan, memory::What::Keys)?;
     memory::run(rt, alloc, plan, memory::What::Writes)?;
     memory::run(rt, alloc, plan, memory::What::Held)?;
-    memory::run(rt, alloc, plan, memory::What::Compacted)
+    memory::run(rt, alloc, plan, memory::What::Compacted)?;
+    live_memory::run(rt, alloc, plan)
 }
 
 fn all_calls<R: Clock + Print>(rt: &R, alloc: Global, plan: Plan) -> Result<(), Fault> {
@@ -101,6 +109,7 @@ fn all<R: Clock + CpuClock + Print + Wait + Threads + Sync + Files + AllocGlobal
     rounds(rt, alloc, plan, Task::Read)?;
     rounds(rt, alloc, plan, Task::ReadAll)?;
     rounds(rt, alloc, plan, Task::Follow)?;
+    rounds(rt, alloc, plan, Task::Nap)?;
     rounds(rt, alloc, plan, Task::Delay)?;
     weigh_all(rt, alloc, plan)
 }
@@ -118,6 +127,7 @@ pub fn run<R: Clock + CpuClock + Print + Wait + Threads + Sync + Files + AllocGl
         Group::Collide => colliding::run(rt, alloc, plan),
         Group::Beside(part) => beside::run(rt, alloc, plan, part),
         Group::Memory(what) => memory::run(rt, alloc, plan, what),
+        Group::LiveMemory => live_memory::run(rt, alloc, plan),
         Group::Threads(task) => rounds(rt, alloc, plan, task),
         Group::Check => all(rt, alloc, plan),
     }

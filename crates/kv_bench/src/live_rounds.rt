@@ -44,10 +44,10 @@ fn make_room<N: LiveName, R: Wait>(rt: &R, live: &Live<N>) -> Result<usize, KvEr
     Ok(MOST.saturating_sub(stored) as usize)
 }
 
-fn feed<N: LiveName>(alloc: Global, reader: Reader<N>) -> Result<Follows<N>, Fault> {
+fn follows<N: LiveName>(alloc: Global, reader: Reader<N>, naps: bool) -> Result<Follows<N>, Fault> {
     let filters = Filters::parse(alloc, ">")?;
     match reader.watch(&filters, UPDATES) {
-        Ok(feed) => Ok(Follows(feed)),
+        Ok(feed) => Ok(Follows { feed, naps }),
         Err((_, refusal)) => Err(Fault::Refused(refusal)),
     }
 }
@@ -62,7 +62,8 @@ fn job<'a, N: LiveName>(
 ) -> Result<LiveJob<'a, N>, Fault> {
     match task {
         Task::Read | Task::ReadAll => Ok(Job::Get(Reads::new(reader, load.keys.as_slice())?)),
-        Task::Follow | Task::Delay => Ok(Job::Take(feed(alloc, reader)?)),
+        Task::Follow | Task::Delay => Ok(Job::Take(follows(alloc, reader, false)?)),
+        Task::Nap => Ok(Job::Take(follows(alloc, reader, true)?)),
     }
 }
 

@@ -7,7 +7,15 @@ use kv_gauge::keys::{key, put, puts, spread};
 use kv_gauge::plan::Plan;
 use kv_gauge::subject::config;
 use std::alloc::Global;
+use std::rt::Clock;
 use std::sync::Wait;
+use std::thread;
+use std::time::Duration;
+
+// How long a nap is, in microseconds, and how many of them there are in vain until a follower gives up.
+const NAP: u64 = 100;
+
+const MOST_NAPS: usize = 100_000;
 
 /// A bucket that threads share, opened for so many readers.
 pub fn opened(alloc: Global, readers: usize) -> Result<Opened, Fault> {
@@ -133,16 +141,38 @@ impl<'a, N: LiveName> Puts for Writes<'a, N> {
     }
 }
 
-/// A feed.
+/// A feed, which begins with nothing and so has no end marker, and whether its thread naps where there is nothing.
 #[derive(Drop)]
-pub struct Follows<N: LiveName>(pub Feed<N>);
+pub struct Follows<N: LiveName> {
+    pub feed: Feed<N>,
+    pub naps: bool,
+}
+
+impl<N: LiveName> Follows<N> {
+    fn next<R: Wait>(&mut self, rt: &R) -> Result<bool, Fault> {
+        let taken = self.feed.next(rt)?;
+        Ok(matches!(taken, Taken::Entry(_)))
+    }
+
+    // Whoever naps is not woken. So it gives up in the end, as it hears of no end.
+    fn next_after_naps<R: Clock>(&mut self, rt: &R) -> Result<bool, Fault> {
+        for _ in 0..MOST_NAPS {
+            if matches!(self.feed.take(), Taken::Entry(_)) {
+                return Ok(true);
+            }
+            thread::sleep(rt, Duration::from_micros(NAP));
+            self.feed.refresh()?;
+        }
+        Ok(false)
+    }
+}
 
 impl<N: LiveName> Takes for Follows<N> {
-    // A feed that begins with nothing has no end marker.
-    fn take<R: Wait>(&mut self, rt: &R) -> Result<bool, Fault> {
-        match self.0.next(rt)? {
-            Taken::Entry(_) => Ok(true),
-            _ => Ok(false),
+    fn take<R: Wait + Clock>(&mut self, rt: &R) -> Result<bool, Fault> {
+        if self.naps {
+            self.next_after_naps(rt)
+        } else {
+            self.next(rt)
         }
     }
 }

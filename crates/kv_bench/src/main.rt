@@ -4,6 +4,7 @@
 mod beside;
 mod groups;
 mod jobs;
+mod live_memory;
 mod live_rounds;
 mod lives;
 mod map_rounds;

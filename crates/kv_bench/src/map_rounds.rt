@@ -85,7 +85,7 @@ impl<'a> Puts for Posts<'a> {
 struct Receives(Receiver<Arc<Message>>);
 
 impl Takes for Receives {
-    fn take<R: Wait>(&mut self, rt: &R) -> Result<bool, Fault> {
+    fn take<R: Wait + Clock>(&mut self, rt: &R) -> Result<bool, Fault> {
         Ok(self.0.recv(rt).is_ok())
     }
 }
@@ -159,7 +159,7 @@ fn round<R: Threads + Wait + Sync + Clock + CpuClock>(
             let round = Round::begun(rt, plan, task, usize::MAX)?;
             perform_all(rt, alloc, &round, jobs)
         }
-        Task::Follow | Task::Delay => {
+        Task::Follow | Task::Nap | Task::Delay => {
             let jobs = following(alloc, ground, others)?;
             let round = Round::begun(rt, plan, task, usize::MAX)?;
             perform_all(rt, alloc, &round, jobs)

@@ -37,6 +37,8 @@ pub enum Task {
     ReadAll,
     /// One makes a number of writes, the others follow.
     Follow,
+    /// The same, but who finds nothing naps for a while, and looks again.
+    Nap,
     /// One makes a number of writes with pauses, the others tell when the items came.
     Delay,
 }
@@ -45,7 +47,7 @@ pub enum Task {
 pub fn asked(plan: Plan, task: Task) -> usize {
     match task {
         Task::ReadAll => plan.keys,
-        Task::Read | Task::Follow | Task::Delay => ASKED,
+        Task::Read | Task::Follow | Task::Nap | Task::Delay => ASKED,
     }
 }
 
@@ -55,7 +57,7 @@ fn writes(plan: Plan, task: Task) -> usize {
     }
     match task {
         Task::Read | Task::ReadAll => usize::MAX,
-        Task::Follow => WRITES,
+        Task::Follow | Task::Nap => WRITES,
         Task::Delay => PAUSED_WRITES,
     }
 }
@@ -130,7 +132,7 @@ impl Round {
     pub fn is_enough<R: Clock>(&self, rt: &R, turn: usize) -> Result<bool, Fault> {
         match self.task {
             Task::Read | Task::ReadAll => Ok(turn % 128 == 127 && self.time(rt)? >= self.nanos),
-            Task::Follow => Ok(false),
+            Task::Follow | Task::Nap => Ok(false),
             Task::Delay => {
                 thread::sleep(rt, Duration::from_micros(PAUSE));
                 Ok(false)

@@ -2,6 +2,7 @@
 //! among these.
 
 use kv_gauge::fault::Fault;
+use std::rt::Clock;
 use std::sync::Wait;
 
 /// What has figures of its own.
@@ -34,7 +35,7 @@ pub trait Copies {
 /// Who follows a writer.
 pub trait Takes {
     /// Waits for an item. It is false where none comes any more.
-    fn take<R: Wait>(&mut self, rt: &R) -> Result<bool, Fault>;
+    fn take<R: Wait + Clock>(&mut self, rt: &R) -> Result<bool, Fault>;
 }
 
 /// How many bytes the values of the first keys have, so many of them.

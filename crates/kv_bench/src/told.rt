@@ -29,7 +29,7 @@ fn numbers(task: Task) -> &'static [usize] {
     match task {
         Task::Read => READERS,
         Task::ReadAll => READERS_OF_ALL,
-        Task::Follow => FEEDS,
+        Task::Follow | Task::Nap => FEEDS,
         Task::Delay => SLEEPERS,
     }
 }
@@ -73,6 +73,7 @@ fn named(over: Over, task: Task, others: usize) -> Name {
         Task::Read => ("threads", "reads", "a second"),
         Task::ReadAll => ("threads-all", "reads", "a second"),
         Task::Follow => ("feeds", "items", "a second"),
+        Task::Nap => ("naps", "items", "a second"),
         Task::Delay => ("delay", "delay", "ns"),
     };
     let of = of(over, task);
@@ -150,7 +151,7 @@ impl Told {
                 }
                 self.add_writes(writer)
             }
-            Task::Follow => {
+            Task::Follow | Task::Nap => {
                 self.others.add(items_a_second(others))?;
                 self.add_writes(writer)
             }

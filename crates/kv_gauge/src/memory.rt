@@ -37,14 +37,14 @@ fn resident_in(text: &str) -> Option<u64> {
     None
 }
 
-// The resident memory, in bytes.
-fn resident<R: Files + AllocGlobal>(rt: &R) -> Result<u64, Fault> {
+/// The resident memory, in bytes.
+pub fn resident<R: Files + AllocGlobal>(rt: &R) -> Result<u64, Fault> {
     let text = fs::read_to_string(rt, "/proc/self/status")?;
     resident_in(text.as_str()).ok_or(Fault::System)
 }
 
-// Tenths of a byte that each of so many takes.
-fn each(after: u64, before: u64, count: usize) -> u64 {
+/// Tenths of a byte that each of so many takes.
+pub fn each(after: u64, before: u64, count: usize) -> u64 {
     if count == 0 {
         return 0;
     }
@@ -180,6 +180,23 @@ fn text(what: What) -> &'static str {
     }
 }
 
+/// Tells what each of something takes, in tenths of a byte.
+pub fn tell<R: Print>(
+    rt: &R,
+    alloc: Global,
+    plan: Plan,
+    what: &'static str,
+    tenths: u64,
+) -> Result<(), Fault> {
+    let name = Name {
+        unit: "bytes",
+        ..Name::time("memory", what, "")
+    };
+    let mut series = Series::new(alloc, name, plan);
+    series.add(tenths)?;
+    series.tell(rt)
+}
+
 /// Weighs once.
 pub fn run<R: Files + AllocGlobal + Print>(
     rt: &R,
@@ -187,11 +204,6 @@ pub fn run<R: Files + AllocGlobal + Print>(
     plan: Plan,
     what: What,
 ) -> Result<(), Fault> {
-    let name = Name {
-        unit: "bytes",
-        ..Name::time("memory", text(what), "")
-    };
-    let mut series = Series::new(alloc, name, plan);
-    series.add(weigh(rt, alloc, plan, what)?)?;
-    series.tell(rt)
+    let tenths = weigh(rt, alloc, plan, what)?;
+    tell(rt, alloc, plan, text(what), tenths)
 }
