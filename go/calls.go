@@ -4,6 +4,11 @@ package vilgoued
 #cgo CFLAGS: -std=gnu11 -I${SRCDIR}/../include
 #cgo LDFLAGS: -L${SRCDIR}/../lib -l:libvilgoued.a -lpthread
 
+// The library lies in lib/ beside include/, in a checkout as under the prefix of an installed release, or beside its header.
+#if !__has_include(<../lib/libvilgoued.a>) && !__has_include(<libvilgoued.a>)
+#error "there is no lib/libvilgoued.a in the checkout: run ./library there, or name an installed release as docs/go.md says"
+#endif
+
 #include <stdlib.h>
 #include "vilgoued_shared.h"
 

@@ -139,7 +139,7 @@ func TestValuesOfAllSizesComeAsTheyWerePut(t *testing.T) {
 	}
 }
 
-func TestMoreKeysThanASmallRoomHolds(t *testing.T) {
+func TestMoreKeysThanASmallRoomHoldsComeWhole(t *testing.T) {
 	b := open(t, KeyValueConfig{})
 	wanted := []string{}
 	for at := 0; at < 1000; at++ {

@@ -9,14 +9,14 @@ import (
 	. "vilgoued"
 )
 
-func TestANameThatIsNoneOfABucket(t *testing.T) {
+func TestABucketOfABadNameIsRefused(t *testing.T) {
 	for _, name := range []string{"", "a.b", "a b", strings.Repeat("a", 65)} {
 		_, err := CreateKeyValue(&KeyValueConfig{Bucket: name})
 		refusedAs(t, err, ErrBadBucket)
 	}
 }
 
-func TestNumbersOutsideTheirLimits(t *testing.T) {
+func TestNumbersOutsideTheirLimitsAreRefused(t *testing.T) {
 	for _, cfg := range []KeyValueConfig{
 		{Bucket: "a", History: 65}, {Bucket: "a", MaxValueSize: 1<<20 + 1}, {Bucket: "a", WriteLimit: 1_000_001},
 		{Bucket: "a", RevisionLimit: 1 << 32},
@@ -26,7 +26,7 @@ func TestNumbersOutsideTheirLimits(t *testing.T) {
 	}
 }
 
-func TestTextsThatAreNoKeys(t *testing.T) {
+func TestATextThatIsNoKeyIsRefusedByEveryCall(t *testing.T) {
 	b := open(t, KeyValueConfig{})
 	for _, key := range []string{"", ".", "a..b", "a*", ">", "ä", "a\x00b", "a b", strings.Repeat("k", 256)} {
 		_, err := b.PutString(key, "1")
@@ -47,7 +47,7 @@ func TestTextsThatAreNoKeys(t *testing.T) {
 	same(t, put(t, b, strings.Repeat("k", 255), "1"), 1)
 }
 
-func TestTextsThatAreNoFilters(t *testing.T) {
+func TestATextThatIsNoFilterIsRefusedByEveryCall(t *testing.T) {
 	b := open(t, KeyValueConfig{})
 	for _, filters := range []string{"", ",", "a,", "a..b", "a*", "a.>.b", strings.Repeat("a,", 16) + "a"} {
 		_, err := b.Watch(filters)
@@ -65,7 +65,7 @@ func TestTextsThatAreNoFilters(t *testing.T) {
 	refusedAs(t, err, ErrOptionsClash)
 }
 
-func TestAValueOverTheLimit(t *testing.T) {
+func TestAPutOverTheValueLimitIsRefused(t *testing.T) {
 	b := open(t, KeyValueConfig{MaxValueSize: 8})
 	_, err := b.PutString("a", "123456789")
 	refusedAs(t, err, ErrValueTooLarge)
@@ -74,7 +74,7 @@ func TestAValueOverTheLimit(t *testing.T) {
 	refusedAs(t, err, ErrValueTooLarge)
 }
 
-func TestWritesThatDependOnWhatIsThere(t *testing.T) {
+func TestACreateOfAKeyThatHasAValueAndAWriteAtAnotherRevisionAreRefused(t *testing.T) {
 	b := open(t, KeyValueConfig{})
 	_, err := b.Create("a", []byte("1"))
 	refusedAs(t, err, nil)
@@ -102,7 +102,7 @@ func TestWritesThatDependOnWhatIsThere(t *testing.T) {
 	refusedAs(t, err, ErrKeyNotFound)
 }
 
-func TestASealedAndAFullBucket(t *testing.T) {
+func TestAFullAndASealedBucketRefuseWrites(t *testing.T) {
 	b := open(t, KeyValueConfig{WriteLimit: 2})
 	put(t, b, "a", "1")
 	put(t, b, "a", "2")
@@ -178,7 +178,7 @@ func TestAWatchThatLagsIsToldTheFloor(t *testing.T) {
 	})
 }
 
-func TestWhatIsClosedIsToldSo(t *testing.T) {
+func TestAClosedBucketRefusesEveryCall(t *testing.T) {
 	b := open(t, KeyValueConfig{})
 	put(t, b, "a", "1")
 	reader, err := b.Reader()

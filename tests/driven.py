@@ -26,17 +26,44 @@ def entry_of(words):
 
 
 def refused(text):
-    """The refusal of such a text as `11 WrongLastRevision { last: 3 }`. It has to have the name of its code, and its number."""
-    found = re.fullmatch(r"(\d+) (\w+)(?: \{ (\w+): (\d+) \})?", text)
+    """The refusal of such a text as `11 WrongLastRevision { last: 3 }`, behind which the place in a batch may stand, as ` at 1`. It
+    has to have the name of its code, and its number."""
+    found = re.fullmatch(r"(\d+) (\w+)(?: \{ (\w+): (\d+) \})?(?: at (\d+))?", text)
     if not found:
         raise AssertionError("no refusal: " + text)
-    it = refusal(int(found[1]), int(found[4] or 0))
+    it = refusal(int(found[1]), int(found[4] or 0), None if found[5] is None else int(found[5]))
     if type(it).__name__ != found[2] or isinstance(it, TELLING) != (found[3] is not None) or not hasattr(it, found[3] or "code"):
         raise AssertionError("not what its code says: " + text)
     return it
 
 
-class Driven:
+def last_of(last):
+    return [] if last is None else [last]
+
+
+class Writes:
+    """The writes of a bucket and of a batch, as words of a line."""
+
+    def _write(self, name, key, *words):
+        raise NotImplementedError
+
+    def put(self, key, value):
+        return self._write("put", key, worded(value))
+
+    def create(self, key, value):
+        return self._write("create", key, worded(value))
+
+    def update(self, key, value, last):
+        return self._write("update", key, last, worded(value))
+
+    def delete(self, key, last=None):
+        return self._write("delete", key, *last_of(last))
+
+    def purge(self, key, last=None):
+        return self._write("purge", key, *last_of(last))
+
+
+class Driven(Writes):
     """A bucket with the calls that tests.replay makes."""
 
     def __init__(self, *program, **settings):
@@ -70,23 +97,11 @@ class Driven:
     def _write(self, name, key, *words):
         return int(self.ask(name, worded(key), *words)[0])
 
-    def put(self, key, value):
-        return self._write("put", key, worded(value))
-
-    def create(self, key, value):
-        return self._write("create", key, worded(value))
-
-    def update(self, key, value, last):
-        return self._write("update", key, last, worded(value))
-
-    def delete(self, key, last=None):
-        return self._write("delete", key, *([] if last is None else [last]))
-
-    def purge(self, key, last=None):
-        return self._write("purge", key, *([] if last is None else [last]))
+    def batch(self):
+        return DrivenBatch(self)
 
     def get(self, key, at=None):
-        words = self.ask("get", worded(key), *([] if at is None else [at]))
+        words = self.ask("get", worded(key), *last_of(at))
         if words == ["empty"]:
             return None
         entry = entry_of(words)
@@ -102,8 +117,8 @@ class Driven:
         return [unworded(word).decode() for word in self.ask("keys", worded(filter))]
 
     def status(self):
-        *numbers, sealed = map(int, self.ask("status"))
-        return Status(*numbers, sealed=bool(sealed))
+        history, last, stored, values, watches, sealed = map(int, self.ask("status"))
+        return Status(history, last, stored, values, watches, bool(sealed))
 
     def seal(self):
         self.ask("seal")
@@ -118,6 +133,23 @@ class Driven:
             raise refusal(6, 0)
         words = [*(starts or ["latest"]), since or 0, int(ignore_deletes), int(headers_only)]
         return DrivenWatch(self, int(self.ask("watch", worded(filters), *words)[0]))
+
+
+class DrivenBatch(Writes):
+    """Writes that are made by one line, in which an `&` stands between two."""
+
+    def __init__(self, bucket):
+        self._bucket, self._lines = bucket, []
+
+    def _write(self, name, key, *words):
+        # These packages see at the write whether a key is one; a script has to be told before a later line that is no command.
+        self._bucket.get(key)
+        self._lines.append([name, worded(key), *words])
+
+    def write(self):
+        words = [word for line in self._lines for word in ["&", *line]]
+        first, end = map(int, self._bucket.ask("batch", *words[1:]))
+        return range(first, end)
 
 
 class DrivenWatch:

@@ -1,6 +1,7 @@
 """Runs the lines of a script (docs/script.md) on a bucket of Python, over the library for C or a NATS server, and writes the answers as
 ./kvbucket does. So it can be seen what another bucket answers to the same lines. It has no race."""
 import base64, json, re
+from typing import Any
 
 from vilgoued import BadFilter, KeyNotFound, KvError, NoSuchWatch
 
@@ -22,7 +23,9 @@ COMMANDS = {
     "seal": r"seal",
     "compact": r"compact " + NUMBER,
     "place": r"place ([^ ]+)",
+    "batch": r"batch " + NUMBER,
 }
+WRITES = ("put", "create", "update", "delete", "purge")
 
 
 class BadCommand(KvError):
@@ -46,51 +49,107 @@ def value(text):
     return data
 
 
+def words_of(line):
+    """The name of a command, and what stands behind it."""
+    name = line.split(" ")[0]
+    words = re.fullmatch(COMMANDS[name], line) if name in COMMANDS else None
+    if words is None:
+        raise BadCommand()
+    return name, words.groups()
+
+
+def write(to, name, key, *words):
+    """Asks a bucket or a batch for a write."""
+    if name == "update":
+        return to.update(key, value(words[1]), last=number(words[0]))
+    if name in ("put", "create"):
+        return getattr(to, name)(key, value(words[0]))
+    return getattr(to, name)(key, last=None if words[0] is None else number(words[0]))
+
+
+def refused(refusal):
+    """A refusal as an answer shows it; the places of a batch count from 1 there."""
+    it = {"code": refusal.code, "error": type(refusal).__name__}
+    it.update((name, getattr(refusal, name)) for name in ("last", "watch") if hasattr(refusal, name))
+    return it if refusal.at is None else {**it, "at": refusal.at + 1}
+
+
 def shown(entry):
     """An entry as an answer shows it."""
     it = {"key": entry.key, "op": entry.op, "revision": entry.revision, "size": entry.size}
     return it if entry.value is None else {**it, "value": base64.b64encode(entry.value).decode()}
 
 
+class Gathered:
+    """The lines of a batch, as far as they were read. The first that is no write, or has no key, refuses it, before what the bucket
+    refuses; the lines behind it belong to the batch all the same."""
+
+    def __init__(self, batch, size):
+        self.batch, self.size = batch, size
+        self.read, self.refusal = 0, None
+
+    def add(self, line):
+        if self.refusal is None:
+            try:
+                name, words = words_of(line)
+                if name not in WRITES:
+                    raise BadCommand()
+                write(self.batch, name, *words)
+            except KvError as refusal:
+                self.refuse(refusal)
+        self.read += 1
+
+    def refuse(self, refusal):
+        refusal.at, self.refusal = self.read, refusal
+
+    def written(self):
+        if self.read < self.size and self.refusal is None:
+            self.refuse(BadCommand())
+        if self.refusal is not None:
+            raise self.refusal
+        return {"revisions": list(self.batch.write())}
+
+
 class Session:
-    """A bucket, and the watches that its script opened."""
+    """A bucket, the watches that its script opened, and the batch whose lines it is at."""
 
     def __init__(self, bucket, name):
         self.bucket, self.name = bucket, name
         self.watches = {}
+        self.gathered: Any = None
 
     def answers(self, line):
         """The answers to a line: none, one, or those of a `take`."""
-        if line == "" or line.startswith("#"):
-            return []
+        return [] if line == "" or line.startswith("#") else self.answered(self.told, line)
+
+    def at_end(self):
+        """The answer to a batch of which the script has not all lines."""
+        return [] if self.gathered is None else self.answered(self.written)
+
+    def answered(self, asked, *words):
         try:
-            told = self.told(line)
+            told = asked(*words)
         except KvError as refusal:
-            told = {"code": refusal.code, "error": type(refusal).__name__}
-            told.update((name, getattr(refusal, name)) for name in ("last", "watch") if hasattr(refusal, name))
+            told = refused(refusal)
         return [json.dumps(it, separators=(",", ":"), sort_keys=True) for it in (told if isinstance(told, list) else [told])]
 
     def told(self, line):
-        name = line.split(" ")[0]
-        words = re.fullmatch(COMMANDS[name], line) if name in COMMANDS else None
-        if words is None:
-            raise BadCommand()
-        return getattr(self, name)(*words.groups())
+        if self.gathered is not None:
+            self.gathered.add(line)
+            return self.written_if_whole()
+        name, words = words_of(line)
+        return {"revision": write(self.bucket, name, *words)} if name in WRITES else getattr(self, name)(*words)
 
-    def put(self, key, text):
-        return {"revision": self.bucket.put(key, value(text))}
+    def batch(self, size):
+        self.gathered = Gathered(self.bucket.batch(), number(size))
+        return self.written_if_whole()
 
-    def create(self, key, text):
-        return {"revision": self.bucket.create(key, value(text))}
+    def written_if_whole(self):
+        return self.written() if self.gathered.read == self.gathered.size else []
 
-    def update(self, key, last, text):
-        return {"revision": self.bucket.update(key, value(text), last=number(last))}
-
-    def delete(self, key, last):
-        return {"revision": self.bucket.delete(key, last=None if last is None else number(last))}
-
-    def purge(self, key, last):
-        return {"revision": self.bucket.purge(key, last=None if last is None else number(last))}
+    def written(self):
+        gathered, self.gathered = self.gathered, None
+        return gathered.written()
 
     def get(self, key, at):
         found = self.bucket.get(key, at=None if at is None else number(at))
@@ -163,4 +222,5 @@ class Session:
 def replay(bucket, script):
     """The answers of a bucket to a script (worked.py), line by line."""
     session = Session(bucket, "kv")
-    return [answer for line, _ in script.steps for answer in session.answers(line.decode("latin-1").removesuffix("\r"))]
+    answers = [answer for line, _ in script.steps for answer in session.answers(line.decode("latin-1").removesuffix("\r"))]
+    return answers + session.at_end()

@@ -33,11 +33,6 @@ class Script(collections.namedtuple("Script", "name arguments steps")):
         return "--race" in self.arguments
 
     @property
-    def is_of_calls(self):
-        """Its lines ask for calls that a bucket of every package has: neither for a race nor for a batch."""
-        return not self.is_race and not any(line.startswith(b"batch") for line, _ in self.steps)
-
-    @property
     def settings(self):
         """The arguments as those of a bucket in Python, such as history=2."""
         return {name.removeprefix("--").replace("-", "_"): int(value) for name, value in zip(self.arguments[::2], self.arguments[1::2])}

@@ -60,10 +60,40 @@ func (s *session) told(words []string) (string, error) {
 		revision, err = b.DeleteRevision(textOf(words[1]), last(words[2:])...)
 	case "purge":
 		revision, err = b.PurgeRevision(textOf(words[1]), last(words[2:])...)
+	case "batch":
+		return s.batch(words[1:])
 	default:
 		return s.read(words)
 	}
 	return fmt.Sprint(revision), err
+}
+
+// Makes writes in one step, between two of which an & stands.
+func (s *session) batch(words []string) (string, error) {
+	it := &vilgoued.Batch{}
+	if len(words) > 0 {
+		for _, line := range strings.Split(strings.Join(words, " "), " & ") {
+			gather(it, strings.Split(line, " "))
+		}
+	}
+	count := uint64(it.Len())
+	first, err := s.bucket.Write(it)
+	return fmt.Sprint(first, first+count), err
+}
+
+func gather(to *vilgoued.Batch, words []string) {
+	switch key := textOf(words[1]); words[0] {
+	case "put":
+		to.Put(key, bytesOf(words[2]))
+	case "create":
+		to.Create(key, bytesOf(words[2]))
+	case "update":
+		to.Update(key, bytesOf(words[3]), numberOf(words[2]))
+	case "delete":
+		to.Delete(key, last(words[2:])...)
+	case "purge":
+		to.Purge(key, last(words[2:])...)
+	}
 }
 
 func last(words []string) []vilgoued.DeleteOpt {
@@ -166,6 +196,10 @@ func (s *session) watch(words []string) (string, error) {
 }
 
 func refused(err error) string {
+	place := ""
+	if it, isOfBatch := err.(vilgoued.BatchRefused); isOfBatch {
+		place, err = fmt.Sprintf(" at %d", it.At), it.Err
+	}
 	var code vilgoued.Refusal
 	if !errors.As(err, &code) {
 		panic(err)
@@ -179,7 +213,7 @@ func refused(err error) string {
 	case vilgoued.Lagged:
 		data = fmt.Sprintf(" { floor: %d }", it.Floor)
 	}
-	return fmt.Sprintf("no %d %s%s", code.Code(), code.Name(), data)
+	return fmt.Sprintf("no %d %s%s%s", code.Code(), code.Name(), data, place)
 }
 
 func main() {

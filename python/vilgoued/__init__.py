@@ -18,7 +18,7 @@ from ._snapshot import Feed, Snapshot
 from ._watch import Watch
 from .refusals import (
     BadBucket, BadConfig, BadFilter, BadFloor, BadKey, Closed, JournalFull, KeyExists, KeyNotFound,
-    KvError, Lagged, NoDescriptor, NoSuchStart, NoSuchWatch, OlderView, OpenAlready, OptionsClash,
+    KvError, Lagged, NoDescriptor, NoSuchStart, NoSuchWatch, OlderView, OpenAlready, OptionsClash, OtherBucket,
     OutOfMemory, Sealed, TooLittleRoom, TooManyWatches, ValueTooLarge, WatchBehind,
     WrongLastRevision,
 )
@@ -27,6 +27,6 @@ __all__ = [
     "Batch", "Bucket", "Entry", "Feed", "Item", "MARKER", "Marker", "Mirror", "Op", "Snapshot", "Status",
     "Value", "Watch", "KvError", "OutOfMemory", "BadBucket", "BadConfig", "BadKey", "BadFilter",
     "OptionsClash", "ValueTooLarge", "Sealed", "JournalFull", "KeyExists", "WrongLastRevision",
-    "KeyNotFound", "NoSuchWatch", "TooManyWatches", "BadFloor", "WatchBehind", "Lagged", "Closed",
+    "KeyNotFound", "NoSuchWatch", "TooManyWatches", "BadFloor", "WatchBehind", "Lagged", "OtherBucket", "Closed",
     "TooLittleRoom", "OpenAlready", "NoSuchStart", "OlderView", "NoDescriptor",
 ]

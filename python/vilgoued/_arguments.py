@@ -32,7 +32,7 @@ def number_of(number: SupportsIndex) -> int:
     """A number of 64 bits."""
     found = operator.index(number)
     if not 0 <= found < 1 << 64:
-        raise OverflowError(f"{found} is not a number of 64 bits")
+        raise OverflowError(f"{found} is not a number of 64 bits: give one from 0 to 18446744073709551615")
     return found
 
 

@@ -2,17 +2,17 @@
 from __future__ import annotations
 
 import ctypes
-import threading
 from types import TracebackType
 from typing import Any, Optional, SupportsIndex, Type
 
 from ._arguments import Data, Name, data_of, name_of, number_of
-from ._library import Function, Handle, check, library
+from ._closing import Held
+from ._library import Function, check, library
 from ._reads import Reads
 from .refusals import Closed, refusal
 
 
-class Batch:
+class Batch(Held):
     """Writes that are gathered, and made in one step: all of them, or none. A `with` block makes them at its end, and makes
     none of them where it raises; or `write` does.
 
@@ -27,10 +27,8 @@ class Batch:
 
     def __init__(self, bucket: Reads) -> None:
         loaded = library()
-        self._bucket, self._lock = bucket, threading.Lock()
-        self._handle = Handle()
-        self._at = ctypes.addressof(self._handle)
-        self._kv_size, self._kv_close = loaded.kv_batch_size, loaded.kv_batch_close
+        super().__init__(loaded.kv_batch_close)
+        self._bucket, self._kv_size = bucket, loaded.kv_batch_size
         self.revisions = range(0)
 
     def _size(self) -> int:
@@ -96,15 +94,7 @@ class Batch:
 
     def close(self) -> None:
         """Forgets what is gathered."""
-        with self._lock:
-            self._kv_close(self._at)
-
-    def __del__(self) -> None:
-        if hasattr(self, "_kv_close"):
-            self.close()
-
-    def __enter__(self) -> Batch:
-        return self
+        super().close()
 
     def __exit__(
         self, kind: Optional[Type[BaseException]], error: Optional[BaseException], trace: Optional[TracebackType]

@@ -2,8 +2,7 @@
 from __future__ import annotations
 
 import ctypes
-from types import TracebackType
-from typing import Any, List, Optional, SupportsIndex, Type
+from typing import Any, List, Optional, SupportsIndex
 
 from ._arguments import Data, Name, data_of, name_of, number_of, options_of
 from ._batch import Batch
@@ -139,11 +138,3 @@ class Bucket(Reads):
     def close(self) -> None:
         """Frees the bucket. Who follows comes to the end, and each later call is Closed. What is closed stays so."""
         super().close()
-
-    def __enter__(self) -> Bucket:
-        return self
-
-    def __exit__(
-        self, kind: Optional[Type[BaseException]], error: Optional[BaseException], trace: Optional[TracebackType]
-    ) -> None:
-        self.close()

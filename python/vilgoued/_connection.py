@@ -23,7 +23,7 @@ class Connection:
     def __init__(self, url: str, tls: Optional[ssl.SSLContext] = None) -> None:
         parts = urllib.parse.urlsplit(url if "://" in url else f"nats://{url}")
         if parts.scheme not in ("nats", "tls") or not parts.hostname:
-            raise ValueError(f"no URL of a NATS server, such as nats://127.0.0.1:4222: {url}")
+            raise ValueError(f"{url} is no URL of a NATS server: give one such as nats://127.0.0.1:4222")
         self._at = parts.hostname, parts.port or 4222
         self.where = "%s:%d" % self._at
         self._user = _user(parts)
@@ -38,11 +38,12 @@ class Connection:
         try:
             self._use(socket.create_connection(self._at, timeout=_SECONDS))
         except OSError as error:
-            raise ConnectionError(f"there is no server at {self.where}: {error}") from None
+            raise ConnectionError(f"there is no server at {self.where} ({error}): start nats-server -js there, or name another") from None
         try:
             self._greet()
         except OSError as error:
-            raise self._lost(error) from None
+            self.close()
+            raise ConnectionError(f"{self.where} takes no connection: {error}") from None
         except BaseException:
             self.close()
             raise
@@ -56,7 +57,7 @@ class Connection:
         self._socket.setsockopt(socket.IPPROTO_TCP, socket.TCP_NODELAY, 1)
         word, _, text = self._from.readline().partition(b" ")
         if word != b"INFO":
-            raise ConnectionAbortedError("that is no NATS server")
+            raise ConnectionAbortedError("no NATS server answers there, so name its port")
         info = json.loads(text)
         if self._wants_tls or info.get("tls_required"):
             self._begin_tls(bool(info.get("tls_required") or info.get("tls_available")))
@@ -69,7 +70,7 @@ class Connection:
 
     def _begin_tls(self, is_spoken: bool) -> None:
         if not is_spoken:
-            raise ConnectionAbortedError("the server speaks no TLS")
+            raise ConnectionAbortedError("the server speaks no TLS, so ask for none")
         assert self._socket
         context = self._tls or ssl.create_default_context()
         self._from.close()
@@ -77,7 +78,7 @@ class Connection:
 
     def _lost(self, error: OSError) -> ConnectionError:
         self.close()
-        return ConnectionError(f"the connection to {self.where} was lost: {error}")
+        return ConnectionError(f"the connection to {self.where} was lost ({error}): the next call connects again")
 
     def _read(self) -> _Said:
         """What the server says next."""
@@ -155,7 +156,7 @@ class Connection:
     def fileno(self) -> int:
         """The descriptor that is readable when the server says something."""
         if self._socket is None:
-            raise ConnectionError(f"the connection to {self.where} was lost")
+            raise ConnectionError(f"the connection to {self.where} was lost: open another watch")
         return self._socket.fileno()
 
     def wake(self) -> None:
@@ -206,7 +207,7 @@ class Bell:
             told = json.loads(answer or b'{"error": {"description": "nobody there keeps buckets"}}')
             if "error" in told:
                 self.close()
-                raise ConnectionError(f"the server tells of no changes: {told['error']['description']}")
+                raise ConnectionError(f"the server tells of no changes ({told['error']['description']}): open another watch")
 
     def clear(self) -> bool:
         """Takes in what was told by now; False where it tells nothing any more."""

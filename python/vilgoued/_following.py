@@ -79,7 +79,7 @@ class Following(Iterator[Item], ABC):
     async def _readable(self) -> None:
         """Waits in asyncio until the descriptor is readable."""
         if self._is_awaited:
-            raise RuntimeError("another task goes through the changes of this watch")
+            raise RuntimeError("another task goes through the changes of this watch: open a watch for each")
         loop, descriptor = asyncio.get_running_loop(), self._descriptor()
         is_there: asyncio.Future[None] = loop.create_future()
         loop.add_reader(descriptor, lambda: None if is_there.done() else is_there.set_result(None))

@@ -114,10 +114,12 @@ def _places() -> Iterator[str]:
 
 
 def path() -> str:
-    """The library's path: what VILGOUED_LIB names, else inside of the package, else where a checkout builds it, else the
-    bare name, which the system's loader looks for."""
-    places = [os.environ.get("VILGOUED_LIB") or "", *filter(os.path.exists, _places()), NAME]
-    return next(filter(None, places))
+    """The library's path: what VILGOUED_LIB names, a file or the folder that has it, else inside of the package, else where a
+    checkout builds it, else the bare name, which the system's loader looks for."""
+    named = os.environ.get("VILGOUED_LIB") or ""
+    if os.path.isdir(named):
+        named = os.path.join(named, NAME)
+    return next(filter(None, [named, *filter(os.path.exists, _places()), NAME]))
 
 
 def _machine_of(file: str) -> str:

@@ -5,13 +5,14 @@ import ctypes
 from typing import List, Optional, SupportsIndex
 
 from ._arguments import Name, name_of, number_of
+from ._closing import Closing
 from ._finding import Finds
 from ._items import Status, Value
 from ._library import KEY_NOT_FOUND, TOO_LITTLE_ROOM, Function, Handle, Room, StatusStruct, check, give_back, room
 from .refusals import refusal
 
 
-class Reads(Finds):
+class Reads(Finds, Closing):
     """Reads by functions of the library, which are handed the handle's address first."""
 
     def __init__(

@@ -3,12 +3,12 @@ from __future__ import annotations
 
 import ctypes
 import threading
-from types import TracebackType
-from typing import Any, Iterator, List, Optional, SupportsIndex, Type
+from typing import Any, Iterator, List, Optional, SupportsIndex
 
 from ._arguments import Name, name_of, options_of
+from ._closing import Held
 from ._items import Entry, Item
-from ._library import KEY_NOT_FOUND, TOO_LITTLE_ROOM, Function, Handle, Options, check, give_back, library, room, take
+from ._library import KEY_NOT_FOUND, TOO_LITTLE_ROOM, Function, Options, check, give_back, library, room, take
 from ._reads import Reads
 
 
@@ -71,30 +71,22 @@ class Snapshot(Reads):
         """A feed that begins with this moment: a watch that goes on as it is refreshed, also on another thread."""
         return Feed(self, filters, options_of(history, updates, since, ignore_deletes, headers_only))
 
-    def __enter__(self) -> Snapshot:
-        return self
 
-    def __exit__(
-        self, kind: Optional[Type[BaseException]], error: Optional[BaseException], trace: Optional[TracebackType]
-    ) -> None:
-        self.close()
-
-
-class Feed(Iterator[Item]):
+class Feed(Held, Iterator[Item]):
     """A watch over snapshots: an iterator over what there was in its first one, and each later write up to the last. It ends
     where nothing is left, and goes on after a refresh. Any thread may use it; calls come one after another."""
 
     def __init__(self, snapshot: Snapshot, filters: Name, options: Options) -> None:
         loaded = library()
-        self._handle, self._lock = Handle(), threading.Lock()
-        self._at = ctypes.addressof(self._handle)
-        self._kv_take, self._kv_close = loaded.kv_feed_take, loaded.kv_feed_close
+        super().__init__(loaded.kv_feed_close)
+        self._kv_take = loaded.kv_feed_take
         names = name_of(filters)
         check(snapshot._kv_feed_open(snapshot._at, names, len(names), ctypes.addressof(options), self._at))
 
     def refresh(self, snapshot: Snapshot) -> None:
-        """Goes on to a later snapshot of the same bucket, which may be closed then. Lagged, which has `floor`, where the
-        bucket was compacted past what the feed has still to hand out: then take what is left, and watch the snapshot."""
+        """Goes on to a later snapshot of the same bucket, which may be closed then. OtherBucket where it is of another one;
+        Lagged, which has `floor`, where the bucket was compacted past what the feed has still to hand out: then take what is
+        left, and watch the snapshot."""
         used = room()
         try:
             with self._lock:
@@ -109,20 +101,3 @@ class Feed(Iterator[Item]):
         if item is None:
             raise StopIteration
         return item
-
-    def close(self) -> None:
-        """Frees what is held. What is closed stays so."""
-        with self._lock:
-            self._kv_close(self._at)
-
-    def __del__(self) -> None:
-        if hasattr(self, "_kv_close"):
-            self.close()
-
-    def __enter__(self) -> Feed:
-        return self
-
-    def __exit__(
-        self, kind: Optional[Type[BaseException]], error: Optional[BaseException], trace: Optional[TracebackType]
-    ) -> None:
-        self.close()

@@ -22,6 +22,7 @@ __all__ = [
     "BadFloor",
     "WatchBehind",
     "Lagged",
+    "OtherBucket",
     "Closed",
     "TooLittleRoom",
     "OpenAlready",
@@ -194,6 +195,13 @@ class Lagged(KvError):
 
     def _tell(self) -> str:
         return f"what follows lags behind a compaction, whose floor is {self.floor}: open a new watch, which begins with what there is"
+
+
+class OtherBucket(KvError):
+    """The snapshot is of another bucket than the feed."""
+
+    code = 25
+    _text = "the snapshot is of another bucket than the feed: take one of the bucket that the feed began with"
 
 
 class Closed(KvError):

@@ -44,13 +44,16 @@ def value_of(answer: _Answer, is_text: bool) -> bytes:
 
 def run(program: str, arguments: List[str], script: bytes) -> Tuple[List[Entry], _Answer]:
     """The retained entries of the bucket that a script makes, and its status."""
-    done = subprocess.run([program, *arguments], input=script + b"\n" + tail(script), stdout=subprocess.PIPE)
+    try:
+        done = subprocess.run([program, *arguments], input=script + b"\n" + tail(script), stdout=subprocess.PIPE)
+    except OSError as error:
+        raise Failed("%s does not run (%s): install it, or name another by --program" % (program, error.strerror)) from None
     if done.returncode != 0:
-        raise Failed("the script was not run to its end, and nothing was written: why stands above")
+        raise Failed("the script was not run to its end, as stands above, and nothing was written: mend that, and run it again")
     answers: List[_Answer] = [json.loads(line) for line in done.stdout.splitlines()]
     watch = next((it["watch"] for it in reversed(answers) if list(it) == ["watch"]), None)
     if watch is None or "history" not in answers[-1]:
-        raise Failed("the program did not show the bucket of its script, and nothing was written")
+        raise Failed("the program did not show the bucket of its script, and nothing was written: name a kvbucket by --program")
     shown = [it for it in answers if it.get("watch") == watch and "op" in it]
     return [entry_of(it, "--text" in arguments) for it in shown], answers[-1]
 

@@ -2,7 +2,7 @@
 //! as `x` and their bytes in hexadecimal.
 use std::collections::BTreeMap;
 use std::io::{self, BufRead, Write};
-use vilgoued::{Bucket, Entry, Error, Item, Limits, Options, Start, Watch};
+use vilgoued::{BatchRefused, Bucket, Entry, Error, Item, Limits, Options, Start, Watch, Write as Asked};
 
 struct Session {
     bucket: Bucket,
@@ -49,7 +49,34 @@ fn options(words: &[&str]) -> Options {
     Options { start, ignore_deletes: words[2] == "1", headers_only: words[3] == "1" }
 }
 
+/// The key of a write, and the value that it may have.
+fn texts(words: &[&str]) -> (String, Vec<u8>) {
+    let value = words[2..].last().filter(|it| it.starts_with('x'));
+    (text(words[1]), value.map_or(Vec::new(), |it| bytes(it)))
+}
+
+fn asked<'a>(words: &[&str], key: &'a str, value: &'a [u8]) -> Asked<'a> {
+    match words {
+        ["put", ..] => Asked::put(key, value),
+        ["create", ..] => Asked::create(key, value),
+        ["update", _, last, ..] => Asked::update(key, value, number(last)),
+        ["delete", _] => Asked::delete(key),
+        ["delete", _, last] => Asked::delete_at(key, number(last)),
+        ["purge", _] => Asked::purge(key),
+        ["purge", _, last] => Asked::purge_at(key, number(last)),
+        _ => panic!("no batch has {words:?}"),
+    }
+}
+
 impl Session {
+    /// Makes writes in one step, between two of which an `&` stands.
+    fn batch(&self, words: &[&str]) -> Result<String, BatchRefused> {
+        let lines: Vec<&[&str]> = words.split(|it| *it == "&").filter(|it| !it.is_empty()).collect();
+        let held: Vec<(String, Vec<u8>)> = lines.iter().map(|it| texts(it)).collect();
+        let writes: Vec<Asked> = lines.iter().zip(&held).map(|(it, (key, value))| asked(it, key, value)).collect();
+        self.bucket.write_all(&writes).map(|it| format!("{} {}", it.start, it.end))
+    }
+
     fn told(&mut self, words: &[&str]) -> Result<String, Error> {
         let bucket = &self.bucket;
         let revision = match words {
@@ -98,9 +125,13 @@ fn main() -> io::Result<()> {
     let mut out = io::stdout().lock();
     for line in io::stdin().lock().lines() {
         let line = line?;
-        match session.told(&line.split(' ').collect::<Vec<_>>()) {
+        let told = match line.split(' ').collect::<Vec<_>>()[..] {
+            ["batch", ref words @ ..] => session.batch(words).map_err(|it| (it.error, format!(" at {}", it.at))),
+            ref words => session.told(words).map_err(|it| (it, String::new())),
+        };
+        match told {
             Ok(told) => writeln!(out, "ok {told}")?,
-            Err(refusal) => writeln!(out, "no {} {refusal:?}", refusal.code())?,
+            Err((refusal, place)) => writeln!(out, "no {} {refusal:?}{place}", refusal.code())?,
         }
         out.flush()?;
     }

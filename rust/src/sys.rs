@@ -631,50 +631,65 @@ impl Drop for Batch {
     }
 }
 
-/// A view that goes on by itself.
-pub(crate) struct Reader(UnsafeCell<c::Handle>);
+/// A handle for reads of a bucket: one of a reader or of a view. It is closed where it is dropped.
+struct Own {
+    handle: UnsafeCell<c::Handle>,
+    functions: &'static Functions<c::Handle>,
+    close: unsafe extern "C" fn(*mut c::Handle),
+}
 
-// SAFETY: the library says that a kv_reader may go to another thread. It is not Sync: one call at a time uses it.
-unsafe impl Send for Reader {}
+// SAFETY: the library says that a kv_reader and a kv_view may go to another thread. It is not Sync: one call at a time uses it.
+unsafe impl Send for Own {}
+
+impl Own {
+    fn at(&self) -> *mut c::Handle {
+        self.handle.get()
+    }
+
+    #[inline]
+    fn reads(&self) -> Reads<'_, c::Handle> {
+        Reads { at: self.at(), functions: self.functions, of: PhantomData }
+    }
+}
+
+impl Drop for Own {
+    fn drop(&mut self) {
+        // SAFETY: nobody else has the handle, and it is of the kind that this closes. One that is closed stays so.
+        unsafe { (self.close)(self.at()) }
+    }
+}
+
+/// A view that goes on by itself.
+pub(crate) struct Reader(Own);
 
 impl Reader {
     pub fn open(shared: &Shared) -> Result<Reader, Error> {
-        let reader = Reader(closed());
+        let own = Own { handle: closed(), functions: &OF_READER, close: c::kv_reader_close };
         // SAFETY: the bucket may be used by any thread, and the reader's handle is closed and ours.
-        check(unsafe { c::kv_reader_open(shared.at(), reader.0.get()) }, 0)?;
-        Ok(reader)
+        check(unsafe { c::kv_reader_open(shared.at(), own.at()) }, 0)?;
+        Ok(Reader(own))
     }
 
     #[inline]
     pub fn reads(&self) -> Reads<'_, c::Handle> {
-        Reads { at: self.0.get(), functions: &OF_READER, of: PhantomData }
-    }
-}
-
-impl Drop for Reader {
-    fn drop(&mut self) {
-        // SAFETY: nobody else has the handle. One that is closed stays so.
-        unsafe { c::kv_reader_close(self.0.get()) }
+        self.0.reads()
     }
 }
 
 /// What a bucket had accepted by a moment.
-pub(crate) struct View(UnsafeCell<c::Handle>);
-
-// SAFETY: the library says that a kv_view may go to another thread. It is not Sync: one call at a time uses it.
-unsafe impl Send for View {}
+pub(crate) struct View(Own);
 
 impl View {
     pub fn open(shared: &Shared) -> Result<View, Error> {
-        let view = View(closed());
+        let own = Own { handle: closed(), functions: &OF_VIEW, close: c::kv_view_close };
         // SAFETY: the bucket may be used by any thread, and the view's handle is closed and ours.
-        check(unsafe { c::kv_shared_snapshot(shared.at(), view.0.get()) }, 0)?;
-        Ok(view)
+        check(unsafe { c::kv_shared_snapshot(shared.at(), own.at()) }, 0)?;
+        Ok(View(own))
     }
 
     #[inline]
     pub fn reads(&self) -> Reads<'_, c::Handle> {
-        Reads { at: self.0.get(), functions: &OF_VIEW, of: PhantomData }
+        self.0.reads()
     }
 
     /// The retained entries of a key, oldest first.
@@ -686,7 +701,7 @@ impl View {
             // their sizes.
             let code = unsafe {
                 c::kv_view_history(
-                    self.0.get(),
+                    self.0.at(),
                     key.as_ptr(),
                     key.len(),
                     entries.len(),
@@ -709,13 +724,6 @@ impl View {
                 code => return Err(Error::of(code, 0)),
             }
         }
-    }
-}
-
-impl Drop for View {
-    fn drop(&mut self) {
-        // SAFETY: nobody else has the handle.
-        unsafe { c::kv_view_close(self.0.get()) }
     }
 }
 

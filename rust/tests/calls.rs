@@ -127,7 +127,7 @@ fn a_batch_is_made_in_one_step_and_handed_out_write_by_write() {
 }
 
 #[test]
-fn more_keys_than_a_small_room_holds() {
+fn more_keys_than_a_small_room_holds_come_whole() {
     let bucket = Bucket::open("settings", Limits::default()).unwrap();
     let keys: Vec<String> = (0..1000).map(|it| format!("device.{it}.state")).collect();
     for key in &keys {
@@ -176,7 +176,7 @@ fn others_can_end_a_wait() {
 }
 
 #[test]
-fn what_goes_to_other_threads_does() {
+fn what_may_go_to_other_threads_is_send_and_what_they_may_share_is_sync() {
     fn goes<T: Send>() {}
     fn is_shared<T: Sync>() {}
     goes::<vilgoued::Reader>();

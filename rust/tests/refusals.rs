@@ -10,14 +10,14 @@ fn open() -> Bucket {
 const UPDATES: Options = Options { start: Start::Updates, ignore_deletes: false, headers_only: false };
 
 #[test]
-fn a_name_that_is_none_of_a_bucket() {
+fn a_bucket_of_a_bad_name_is_refused() {
     for name in ["", "a.b", "a b", &"a".repeat(65)] {
         assert_eq!(Bucket::open(name, Limits::default()).unwrap_err(), Error::BadBucket, "{name}");
     }
 }
 
 #[test]
-fn numbers_outside_their_limits() {
+fn numbers_outside_their_limits_are_refused() {
     for limits in [
         Limits { history: 0, ..Limits::default() },
         Limits { history: 65, ..Limits::default() },
@@ -30,7 +30,7 @@ fn numbers_outside_their_limits() {
 }
 
 #[test]
-fn texts_that_are_no_keys() {
+fn a_text_that_is_no_key_is_refused_by_every_call() {
     let bucket = open();
     for key in ["", ".", "a..b", "a*", ">", "ä", "a\0b", "a b", &"k".repeat(256)] {
         assert_eq!(bucket.put(key, "1"), Err(Error::BadKey), "{key}");
@@ -48,7 +48,7 @@ fn texts_that_are_no_keys() {
 }
 
 #[test]
-fn texts_that_are_no_filters() {
+fn a_text_that_is_no_filter_is_refused_by_every_call() {
     let bucket = open();
     for filters in ["", ",", "a,", "a..b", "a*", "a.>.b", &["a"; 17].join(",")] {
         assert_eq!(bucket.follow(filters, Options::default()).unwrap_err(), Error::BadFilter, "{filters}");
@@ -60,7 +60,7 @@ fn texts_that_are_no_filters() {
 }
 
 #[test]
-fn a_value_over_the_limit() {
+fn a_put_over_the_value_limit_is_refused() {
     let bucket = open();
     assert_eq!(bucket.put("a", "123456789"), Err(Error::ValueTooLarge));
     assert_eq!(bucket.put("a", "12345678"), Ok(1));
@@ -69,7 +69,7 @@ fn a_value_over_the_limit() {
 }
 
 #[test]
-fn a_create_of_a_key_that_is_there() {
+fn a_create_of_a_key_that_has_a_value_is_refused() {
     let bucket = open();
     assert_eq!(bucket.create("a", "1"), Ok(1));
     assert_eq!(bucket.create("a", "2"), Err(Error::KeyExists));
@@ -78,7 +78,7 @@ fn a_create_of_a_key_that_is_there() {
 }
 
 #[test]
-fn another_last_revision_is_told() {
+fn a_write_at_another_revision_is_refused_and_told_the_last_one() {
     let bucket = open();
     bucket.put("a", "1").unwrap();
     let refused = Err(Error::WrongLastRevision { last: 1 });
@@ -120,7 +120,7 @@ fn a_batch_is_refused_for_one_of_its_writes_and_changes_nothing() {
 }
 
 #[test]
-fn what_is_not_there_is_none() {
+fn a_read_of_what_is_not_there_finds_none() {
     let bucket = open();
     bucket.put("a", "1").unwrap();
     bucket.delete("a").unwrap();
@@ -131,7 +131,7 @@ fn what_is_not_there_is_none() {
 }
 
 #[test]
-fn a_sealed_and_a_full_bucket() {
+fn a_full_and_a_sealed_bucket_refuse_writes() {
     let bucket = Bucket::open("settings", Limits { write_limit: 2, ..Limits::default() }).unwrap();
     bucket.put("a", "1").unwrap();
     bucket.put("a", "2").unwrap();
@@ -160,7 +160,7 @@ fn a_held_watch_that_is_behind_refuses_a_compaction_and_its_end_does_not() {
 }
 
 #[test]
-fn more_held_watches_than_there_may_be() {
+fn a_sixty_fifth_held_watch_is_refused() {
     let bucket = open();
     let held: Vec<_> = (0..64).map(|_| bucket.watch(">", Options::default()).unwrap()).collect();
     assert_eq!(bucket.watch(">", Options::default()).unwrap_err(), Error::TooManyWatches);
@@ -188,7 +188,7 @@ fn a_follower_that_lags_is_told_the_floor() {
 }
 
 #[test]
-fn what_is_closed_is_told_so() {
+fn a_closed_bucket_refuses_every_call() {
     let bucket = open();
     bucket.put("a", "1").unwrap();
     let reader = bucket.reader().unwrap();

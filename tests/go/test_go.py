@@ -31,8 +31,9 @@ replace vilgoued => %s
 
 def environment(**more):
     folder = os.path.dirname(os.path.abspath(os.environ["VILGOUED_LIB"]))
-    return dict(os.environ, CGO_ENABLED="1", CGO_CFLAGS="-g -O2 -I" + os.path.join(top, "include"), CGO_LDFLAGS="-L" + folder,
-                **{"GOPROXY": "off", "GOFLAGS": "-mod=mod", "GOTOOLCHAIN": "local", "GOCACHE": os.path.join(BUILT, "cache"), **more})
+    flags = {"CGO_CFLAGS": "-g -O2 -I%s -I%s" % (os.path.join(top, "include"), folder), "CGO_LDFLAGS": "-L" + folder}
+    return {**os.environ, "CGO_ENABLED": "1", "GOPROXY": "off", "GOFLAGS": "-mod=mod", "GOTOOLCHAIN": "local",
+            "GOCACHE": os.path.join(BUILT, "cache"), **flags, **more}
 
 
 def go(*words, folder=MODULE, **more):
@@ -58,10 +59,10 @@ class Go(unittest.TestCase):
     def test_its_tests_pass_under_the_detector_of_races(self):
         go("test", "-count=1", "-race", "-short", "-timeout", "300s", ".")
 
-    def test_vet(self):
+    def test_vet_finds_nothing(self):
         go("vet", "./...")
 
-    def test_its_form(self):
+    def test_gofmt_would_change_nothing(self):
         gofmt = shutil.which("gofmt", path=os.path.dirname(os.path.realpath(GO or "")) + ":" + os.environ.get("PATH", ""))
         if not gofmt:
             self.skipTest("there is no gofmt")
@@ -69,11 +70,11 @@ class Go(unittest.TestCase):
                                text=True, timeout=LIMIT)
         self.assertEqual((found.returncode, found.stdout, found.stderr), (0, "", ""))
 
-    def test_the_worked_scripts(self):
+    def test_each_script_has_the_answers_of_the_program(self):
         program = os.path.join(self.folder, "lines")
         go("build", "-o", program, "./lines")
         for script in scripts():
-            if script.is_of_calls:
+            if not script.is_race:
                 with self.subTest(script.name), Driven(program, **script.settings) as bucket:
                     self.assertEqual(replay(bucket, script), script.output.decode().splitlines())
 
@@ -87,12 +88,25 @@ class Go(unittest.TestCase):
                 file.write("\n".join(lines) + "\n")
             self.assertEqual(go("run", ".", folder=self.folder).splitlines(), wanted)
 
-    def test_what_calls_take(self):
+    def test_it_links_an_installed_release_and_says_where_there_is_no_library(self):
+        copied, prefix = os.path.join(self.folder, "copied"), os.path.join(self.folder, "prefix")
+        for path in "go", "include":
+            shutil.copytree(os.path.join(top, path), os.path.join(copied, path))
+        shutil.copytree(os.path.join(top, "include"), os.path.join(prefix, "include"))
+        os.mkdir(os.path.join(prefix, "lib"))
+        library = os.path.join(os.path.dirname(os.path.abspath(os.environ["VILGOUED_LIB"])), "libvilgoued.a")
+        shutil.copy(library, os.path.join(prefix, "lib"))
+        words = "build", "-o", os.path.join(self.folder, "lines"), "./lines"
+        go(*words, folder=os.path.join(copied, "go"), CGO_CFLAGS="-I%s/include" % prefix, CGO_LDFLAGS="-L%s/lib" % prefix)
+        with self.assertRaisesRegex(AssertionError, "there is no lib/libvilgoued.a in the checkout: run ./library there, or name an installed"):
+            go(*words, folder=os.path.join(copied, "go"), CGO_CFLAGS="", CGO_LDFLAGS="")
+
+    def test_what_calls_take_is_told(self):
         print(go("run", "./costs"), end="")
 
     @unittest.skipUnless(os.path.isdir(SOURCES + "/src/github.com/nats-io/nats.go"),
                          "there is no nats.go: apt-get install golang-github-nats-io-go-nats-dev")
-    def test_one_function_over_this_bucket_and_one_of_nats(self):
+    def test_one_function_sees_the_same_on_this_bucket_and_on_one_of_nats(self):
         # Debian's packages have no modules, so these two are found by their folders.
         sources = os.path.join(self.folder, "src")
         os.makedirs(sources)

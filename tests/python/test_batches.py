@@ -2,7 +2,7 @@
 import pickle
 import threading
 import unittest
-from typing import Any, cast
+from typing import Any, Callable, List, Optional, Tuple, cast
 
 import vilgoued
 import vilgoued.nats
@@ -10,14 +10,14 @@ from vilgoued import Bucket
 
 
 class Batches(unittest.TestCase):
-    def setUp(self):
+    def setUp(self) -> None:
         self.bucket = Bucket("settings", history=2, value_limit=1 << 20)
         self.addCleanup(self.bucket.close)
 
     def last(self):
         return self.bucket.status().last
 
-    def test_it_is_made_at_the_end_of_its_block(self):
+    def test_it_is_made_at_the_end_of_its_block(self) -> None:
         watch = self.bucket.watch(">", updates=True)
         with self.bucket.batch() as batch:
             batch.put("app.port", b"80")
@@ -31,7 +31,7 @@ class Batches(unittest.TestCase):
             self.assertEqual((len(batch), self.last(), batch.revisions), (8, 0, range(0)))
         self.assertEqual((len(batch), self.last(), batch.revisions), (0, 8, range(1, 9)))
         self.assertEqual(
-            [(it.key, it.op, it.value, it.revision) for it in watch],
+            [(it.key, it.op, it.value, it.revision) for it in watch if not it.marker],
             [
                 ("app.port", "PUT", b"80", 1), ("db", "PUT", "\N{EURO SIGN}".encode(), 2), ("app.port", "PUT", b"81", 3),
                 ("app.port", "PUT", b"82", 4), ("db", "DEL", None, 5), ("db", "PURGE", None, 6), ("app.port", "DEL", None, 7),
@@ -39,13 +39,13 @@ class Batches(unittest.TestCase):
             ],
         )
 
-    def test_nothing_is_made_where_the_block_raises(self):
+    def test_nothing_is_made_where_the_block_raises(self) -> None:
         with self.assertRaises(ZeroDivisionError), self.bucket.batch() as batch:
             batch.put("a", b"1")
             1 / 0
         self.assertEqual((len(batch), self.last(), batch.revisions), (0, 0, range(0)))
 
-    def test_it_is_made_by_a_write_again_and_again(self):
+    def test_it_is_made_by_a_write_again_and_again(self) -> None:
         batch = self.bucket.batch()
         self.assertEqual(batch.write(), range(1, 1))
         batch.put("a", b"1")
@@ -58,16 +58,17 @@ class Batches(unittest.TestCase):
         batch.close()
         self.assertEqual((len(batch), batch.write(), self.last()), (0, range(4, 4), 3))
 
-    def test_it_is_refused_for_one_of_its_writes_and_changes_nothing(self):
+    def test_it_is_refused_for_one_of_its_writes_and_changes_nothing(self) -> None:
         self.bucket["a"] = b"1"
-        for gather, refusal, number in (
+        refusals: List[Tuple[Callable[[Any], object], Any, Optional[int]]] = [
             (lambda batch: batch.create("a", b"3"), vilgoued.KeyExists, None),
             (lambda batch: batch.update("a", b"3", last=1), vilgoued.WrongLastRevision, 2),
             (lambda batch: batch.delete("a", last=1), vilgoued.WrongLastRevision, 2),
             (lambda batch: batch.purge("b", last=1), vilgoued.WrongLastRevision, 0),
             (lambda batch: batch.put("a..b", b"3"), vilgoued.BadKey, None),
             (lambda batch: batch.put("b", bytes((1 << 20) + 1)), vilgoued.ValueTooLarge, None),
-        ):
+        ]
+        for gather, refusal, number in refusals:
             with self.assertRaises(refusal) as refused:
                 with self.bucket.batch() as batch:
                     batch.put("a", b"2")
@@ -78,7 +79,7 @@ class Batches(unittest.TestCase):
             self.assertEqual((type(again), again.at, str(again)), (refusal, 1, str(refused.exception)))
         self.assertIsNone(vilgoued.KeyExists().at)
 
-    def test_one_that_was_refused_can_be_made_later(self):
+    def test_one_that_was_refused_can_be_made_later(self) -> None:
         batch = self.bucket.batch()
         batch.put("a", b"1")
         batch.update("b", b"2", last=1)
@@ -89,7 +90,7 @@ class Batches(unittest.TestCase):
         self.bucket["b"] = b"0"
         self.assertEqual((batch.write(), len(batch), self.bucket["b"]), (range(2, 4), 0, b"2"))
 
-    def test_a_sealed_a_full_and_a_closed_bucket(self):
+    def test_a_sealed_a_full_and_a_closed_bucket_refuse_it(self) -> None:
         with Bucket("small", write_limit=2) as bucket:
             with self.assertRaises(vilgoued.JournalFull) as refused, bucket.batch() as batch:
                 for _ in range(3):
@@ -103,7 +104,7 @@ class Batches(unittest.TestCase):
             batch.write()
         self.assertEqual((closed.exception.at, len(batch)), (None, 3))
 
-    def test_wrong_arguments(self):
+    def test_what_is_no_value_or_no_number_is_not_gathered(self) -> None:
         batch = self.bucket.batch()
         for value in (80, None):
             with self.assertRaises(TypeError):
@@ -112,7 +113,7 @@ class Batches(unittest.TestCase):
             batch.update("a", b"1", last=-1)
         self.assertEqual(len(batch), 0)
 
-    def test_any_thread_gathers(self):
+    def test_any_thread_gathers(self) -> None:
         batch = self.bucket.batch()
 
         def gather(thread):
@@ -126,7 +127,7 @@ class Batches(unittest.TestCase):
             thread.join()
         self.assertEqual((batch.write(), len(self.bucket.keys())), (range(1, 2001), 2000))
 
-    def test_nobody_sees_half_of_one(self):
+    def test_nobody_sees_half_of_one(self) -> None:
         wrong = []
         watch = self.bucket.watch(">", updates=True)
 
@@ -135,7 +136,7 @@ class Batches(unittest.TestCase):
                 with self.bucket.batch() as batch:
                     batch["left"] = batch["right"] = f"{thread} {number}"
 
-        def read():
+        def read() -> None:
             while self.last() < 4000:
                 if self.last() % 2:
                     wrong.append(self.last())
@@ -144,7 +145,7 @@ class Batches(unittest.TestCase):
                         wrong.append((moment.get("left"), moment.get("right")))
 
         def follow():
-            items = iter(watch.follow())
+            items: Any = iter(watch.follow())
             for left in items:
                 right = next(items)
                 if (left.key, right.key, left.value) != ("left", "right", right.value):
@@ -161,7 +162,7 @@ class Batches(unittest.TestCase):
             thread.join()
         self.assertEqual((wrong, self.last()), ([], 4000))
 
-    def test_a_server_has_none(self):
+    def test_a_server_has_none(self) -> None:
         with self.assertRaisesRegex(NotImplementedError, "a server has no batches"):
             vilgoued.nats.Bucket.batch(cast(Any, None))
 

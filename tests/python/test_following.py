@@ -1,4 +1,4 @@
-"""Watches that sleep for more, or wait for it in asyncio, and mirrors; over the library or on a NATS server, as test_vilgoued."""
+"""Watches that sleep for more, or wait for it in asyncio; over the library or on a NATS server, as test_vilgoued."""
 import asyncio
 import os
 import signal
@@ -7,34 +7,15 @@ import sys
 import threading
 import time
 import unittest
+from typing import Any, Callable, List
 
 import vilgoued
 from tests import top
-from tests.python.buckets import fresh_bucket, server
-
-# Longer than anything here takes.
-LONG = 20
+from tests.python.buckets import LONG, OfBucket, fresh_bucket, later, revisions, server
 
 
-def later(call, *arguments):
-    """Makes a call in a moment, on another thread."""
-    timer = threading.Timer(0.1, call, arguments)
-    timer.start()
-    return timer
-
-
-def revisions(items):
-    return [0 if item.marker else item.revision for item in items]
-
-
-class Base(unittest.TestCase):
-    def setUp(self):
-        self.bucket = fresh_bucket(history=3)
-        self.addCleanup(self.bucket.close)
-
-
-class Follow(Base):
-    def test_it_sleeps_until_there_is_more(self):
+class Follow(OfBucket):
+    def test_it_sleeps_until_there_is_more(self) -> None:
         self.bucket["app.a"] = b"1"
         items = self.bucket.watch("app.>").follow(LONG)
         self.assertEqual(revisions([next(items), next(items)]), [1, 0])
@@ -44,16 +25,21 @@ class Follow(Base):
         self.assertLess(time.monotonic() - began, LONG / 2)
         timer.join()
 
-    def test_what_does_not_match_is_slept_over(self):
+    def test_what_does_not_match_is_slept_over(self) -> None:
         items = self.bucket.watch("app.>", updates=True).follow(LONG)
-        timers = later(self.bucket.put, "other", b""), later(lambda: time.sleep(0.1) or self.bucket.put("app.b", b""))
-        self.assertEqual(next(items).key, "app.b")
-        for timer in timers:
-            timer.join()
 
-    def test_it_loses_nothing_and_repeats_nothing(self):
+        def write() -> None:
+            self.bucket["other"] = b""
+            time.sleep(0.1)
+            self.bucket["app.b"] = b""
+
+        timer = later(write)
+        self.assertEqual(next(items).key, "app.b")
+        timer.join()
+
+    def test_it_loses_nothing_and_repeats_nothing(self) -> None:
         watch = self.bucket.watch("app.*", updates=True)
-        found = []
+        found: List[Any] = []
         reader = threading.Thread(target=lambda: found.extend(watch.follow(LONG)))
         reader.start()
         count = 60 if server else 3000
@@ -64,7 +50,7 @@ class Follow(Base):
         self.assertEqual(revisions(found), list(range(1, count + 1)))
         self.assertEqual(watch.stop(), count)
 
-    def test_it_goes_on_where_the_iterator_was(self):
+    def test_it_goes_on_where_the_iterator_was(self) -> None:
         for key in ("a", "b"):
             self.bucket[key] = b"1"
         watch = self.bucket.watch(">")
@@ -78,7 +64,7 @@ class Follow(Base):
         with self.assertRaises(vilgoued.NoSuchWatch):
             next(watch)
 
-    def test_it_shows_what_the_watch_would(self):
+    def test_it_shows_what_the_watch_would(self) -> None:
         watch = self.bucket.watch("a.*", ignore_deletes=True, headers_only=True)
         self.assertEqual(revisions(watch.follow(0)), [0])
         self.bucket["a.x"] = b"12"
@@ -86,39 +72,39 @@ class Follow(Base):
         self.bucket["b"] = b"1"
         self.assertEqual(list(watch.follow(0)), [vilgoued.Entry("a.x", "PUT", 1, 2, None)])
 
-    def test_large_values_come_whole(self):
+    def test_large_values_come_whole(self) -> None:
         watch = self.bucket.watch(">", updates=True)
         self.assertEqual(list(watch.follow(0)), [])
         self.bucket["a"] = bytes(100_000)
         self.assertEqual([item.value for item in watch.follow(0)], [bytes(100_000)])
 
-    def test_it_ends_when_the_time_is_over(self):
+    def test_it_ends_when_the_time_is_over(self) -> None:
         watch = self.bucket.watch(">", updates=True)
         began = time.monotonic()
         self.assertEqual(list(watch.follow(0.2)), [])
         self.assertGreaterEqual(time.monotonic() - began, 0.2)
 
-    def ends(self, end):
+    def ends(self, end: Callable[[Any], object]) -> None:
         watch = self.bucket.watch(">")
         timer = later(end, watch)
         self.assertEqual(list(watch.follow(LONG)), [vilgoued.MARKER])
         timer.join()
 
-    def test_a_finish_ends_it(self):
+    def test_a_finish_ends_it(self) -> None:
         self.ends(lambda watch: self.bucket.finish())
 
-    def test_the_close_of_its_bucket_ends_it(self):
+    def test_the_close_of_its_bucket_ends_it(self) -> None:
         self.ends(lambda watch: self.bucket.close())
 
-    def test_a_stop_ends_it(self):
+    def test_a_stop_ends_it(self) -> None:
         self.ends(lambda watch: watch.stop())
 
-    def test_behind_a_finish_all_is_handed_out(self):
+    def test_behind_a_finish_all_is_handed_out(self) -> None:
         self.bucket["a"] = b"1"
         self.bucket.finish()
         self.assertEqual(revisions(self.bucket.watch(">").follow()), [1, 0])
 
-    def test_an_interrupt_ends_the_sleep(self):
+    def test_an_interrupt_ends_the_sleep(self) -> None:
         # Who runs this in the background may have it ignore interrupts.
         before = signal.signal(signal.SIGINT, signal.default_int_handler)
         self.addCleanup(signal.signal, signal.SIGINT, before)
@@ -130,7 +116,7 @@ class Follow(Base):
         self.bucket["a"] = b"1"
         self.assertEqual(revisions(watch.follow(0)), [1])
 
-    def test_two_threads_follow_one_watch(self):
+    def test_two_threads_follow_one_watch(self) -> None:
         watch, found = self.bucket.watch(">", updates=True), []
         readers = [threading.Thread(target=lambda: found.extend(watch.follow(LONG))) for _ in range(2)]
         for reader in readers:
@@ -144,63 +130,21 @@ class Follow(Base):
         self.assertEqual(sorted(revisions(found)), sorted(set(revisions(found))))
         self.assertEqual(revisions(found)[-1:], [50])
 
-
-@unittest.skipIf(server, "a server has no floors")
-class Lags(Base):
-    def test_who_is_too_slow_is_lagged(self):
-        watch = self.bucket.watch("a")
-        self.assertEqual(revisions(watch.follow(0)), [0])
-        for _ in range(3):
-            self.bucket["a"] = b"1"
-        self.assertEqual(self.bucket.reach(), 0)
-        self.bucket.compact(3)
-        with self.assertRaises(vilgoued.Lagged) as refused:
-            list(watch.follow(0))
-        self.assertEqual(refused.exception.floor, 3)
-        with self.assertRaises(vilgoued.Lagged):
-            asyncio.run(watch.changes().__anext__())
-
-    def test_who_is_followed_counts_as_none_of_the_64(self):
+    @unittest.skipIf(server, "watches have no limit there")
+    def test_who_is_followed_counts_as_none_of_the_64(self) -> None:
         watches = [self.bucket.watch(">") for _ in range(64)]
         for watch in watches:
             self.assertEqual(revisions(watch.follow(0)), [0])
         self.assertEqual(self.bucket.status().watches, 0)
         self.assertEqual(self.bucket.watch(">").number, 65)
 
-    def test_a_mirror_begins_anew(self):
-        self.bucket["a"] = self.bucket["b"] = b"1"
-        mirror, told = self.bucket.mirror(), []
-        mirror.on_change(lambda key, value: told.append((key, value)))
-        del self.bucket["a"]
-        self.bucket["c"] = b"3"
-        self.bucket.compact(4)
-        self.assertEqual(mirror, {"b": b"1", "c": b"3"})
-        self.assertEqual(told, [("a", None), ("c", b"3")])
 
-    def test_a_mirror_that_begins_anew_tells_each_change_though_a_callback_raises(self):
-        mirror, told, wrong = self.bucket.mirror(), [], [True, True]
+class Changes(OfBucket):
+    def test_they_come_in_asyncio(self) -> None:
+        async def run() -> Any:
+            found: List[Any] = []
 
-        @mirror.on_change
-        def tell(key, value):
-            told.append(key)
-            if wrong:
-                raise ValueError(wrong.pop())
-
-        for key in "abc":
-            self.bucket[key] = b"1"
-        self.bucket.compact(3)
-        for _ in range(2):
-            with self.assertRaises(ValueError):
-                len(mirror)
-        self.assertEqual((sorted(mirror), told), (["a", "b", "c"], ["a", "b", "c"]))
-
-
-class Changes(Base):
-    def test_they_come_in_asyncio(self):
-        async def run():
-            found = []
-
-            async def read():
+            async def read() -> None:
                 async for item in self.bucket.watch("app.>").changes():
                     found.append(item)
 
@@ -215,8 +159,8 @@ class Changes(Base):
         found = asyncio.run(run())
         self.assertEqual([item.key for item in found if not item.marker], [f"app.{number}" for number in range(30)])
 
-    def test_they_wait_without_holding_up_others(self):
-        async def run():
+    def test_they_wait_without_holding_up_others(self) -> None:
+        async def run() -> Any:
             changes, steps = self.bucket.watch(">", updates=True).changes(), 0
             first = asyncio.ensure_future(changes.__anext__())
             while steps < 20:
@@ -228,8 +172,8 @@ class Changes(Base):
 
         self.assertEqual(asyncio.run(run()).revision, 1)
 
-    def test_another_thread_wakes_them(self):
-        async def run():
+    def test_another_thread_wakes_them(self) -> None:
+        async def run() -> Any:
             timer = later(self.bucket.put, "a", b"1")
             item = await asyncio.wait_for(self.bucket.watch("a", updates=True).changes().__anext__(), LONG)
             timer.join()
@@ -237,8 +181,8 @@ class Changes(Base):
 
         self.assertEqual(asyncio.run(run()).value, b"1")
 
-    def test_a_step_that_is_cancelled_loses_nothing(self):
-        async def run():
+    def test_a_step_that_is_cancelled_loses_nothing(self) -> None:
+        async def run() -> None:
             changes = self.bucket.watch(">", updates=True).changes()
             for number in range(1, 4):
                 with self.assertRaises(asyncio.TimeoutError):
@@ -248,8 +192,8 @@ class Changes(Base):
 
         asyncio.run(run())
 
-    def test_a_second_task_is_refused(self):
-        async def run():
+    def test_a_second_task_is_refused(self) -> None:
+        async def run() -> None:
             watch = self.bucket.watch(">", updates=True)
             first = asyncio.ensure_future(watch.changes().__anext__())
             await asyncio.sleep(0.1)
@@ -260,95 +204,14 @@ class Changes(Base):
 
         asyncio.run(run())
 
-    def test_the_close_of_the_bucket_ends_them(self):
-        async def run():
+    def test_the_close_of_the_bucket_ends_them(self) -> None:
+        async def run() -> Any:
             timer = later(self.bucket.close)
             found = [item async for item in self.bucket.watch(">").changes()]
             timer.join()
             return found
 
         self.assertEqual(asyncio.run(run()), [vilgoued.MARKER])
-
-
-class Mirrors(Base):
-    def setUp(self):
-        super().setUp()
-        self.bucket["app.a"] = b"1"
-        self.bucket["app.b"] = b"2"
-        self.bucket["db.c"] = b"3"
-
-    def test_it_is_a_mapping_of_what_matches(self):
-        mirror = self.bucket.mirror("app.>")
-        self.assertEqual(mirror, {"app.a": b"1", "app.b": b"2"})
-        self.assertEqual((mirror["app.a"], mirror.get("db.c"), len(mirror)), (b"1", None, 2))
-        self.assertIn("app.b", mirror)
-        self.assertEqual(sorted(mirror), ["app.a", "app.b"])
-        self.assertEqual(mirror.get_value("app.b"), (b"2", 2))
-        with self.assertRaises(KeyError):
-            mirror["db.c"]
-        with self.assertRaises(TypeError):
-            mirror["app.a"] = b"2"
-
-    def test_each_access_shows_each_write_before_it(self):
-        mirror = self.bucket.mirror("app.>")
-        for number in range(20):
-            self.bucket["app.a"] = b"%d" % number
-            self.assertEqual(mirror["app.a"], b"%d" % number)
-        del self.bucket["app.a"]
-        self.assertNotIn("app.a", mirror)
-        self.bucket.purge("app.b")
-        self.assertEqual(len(mirror), 0)
-        self.assertEqual(mirror.revision, self.bucket.status().last)
-
-    def test_it_tells_of_each_change(self):
-        mirror, told = self.bucket.mirror("app.>"), []
-
-        @mirror.on_change
-        def tell(key, value):
-            told.append((key, value, mirror.get(key)))
-
-        self.bucket["app.a"] = b"5"
-        self.bucket["db.c"] = b"5"
-        del self.bucket["app.b"]
-        self.bucket.delete("app.never")
-        self.assertEqual(told, [])
-        self.assertEqual(mirror.copy(), {"app.a": b"5"})
-        self.assertEqual(told, [("app.a", b"5", b"5"), ("app.b", None, None)])
-
-    def test_what_a_callback_raises_comes_out_and_loses_nothing(self):
-        mirror, wrong = self.bucket.mirror("app.>"), [True]
-
-        @mirror.on_change
-        def tell(key, value):
-            if wrong:
-                raise ValueError(wrong.pop())
-
-        self.bucket["app.a"] = b"5"
-        self.bucket["app.b"] = b"6"
-        with self.assertRaises(ValueError):
-            len(mirror)
-        self.assertEqual(mirror, {"app.a": b"5", "app.b": b"6"})
-
-    def test_it_waits_for_a_change(self):
-        mirror = self.bucket.mirror("app.>")
-        timer = later(self.bucket.put, "app.c", b"7")
-        self.assertTrue(mirror.wait(LONG))
-        self.assertEqual(mirror["app.c"], b"7")
-        timer.join()
-        self.assertFalse(mirror.wait(0.05))
-
-    def test_behind_the_close_it_stays_as_it_was(self):
-        mirror = self.bucket.mirror("app.>")
-        self.bucket.close()
-        self.assertFalse(mirror.wait(LONG))
-        self.assertEqual(mirror, {"app.a": b"1", "app.b": b"2"})
-
-    def test_its_own_close(self):
-        with self.bucket.mirror("app.>") as mirror:
-            self.assertEqual(len(mirror), 2)
-        self.bucket["app.c"] = b"1"
-        self.assertEqual(len(mirror), 2)
-        self.assertEqual(self.bucket.status().watches, 0)
 
 
 SIX_THREADS = """
@@ -398,12 +261,12 @@ print(next(followed, None), next(watch.follow(0)).value)
 
 @unittest.skipIf(server, "a descriptor of the library")
 class Descriptors(unittest.TestCase):
-    def test_where_the_system_gives_none_the_watch_stays_as_it_was(self):
+    def test_where_the_system_gives_none_the_watch_stays_as_it_was(self) -> None:
         done = subprocess.run(
             [sys.executable, "-B", "-c", NO_DESCRIPTORS], cwd=os.path.join(top, "python"), capture_output=True, text=True, timeout=60)
         self.assertEqual((done.stdout, done.stderr), ("a MARKER\n64 1\nNone b'2'\n", ""))
 
-    def test_they_are_given_back(self):
+    def test_they_are_given_back(self) -> None:
         with fresh_bucket() as bucket:
             before = len(os.listdir("/proc/self/fd"))
             for _ in range(50):
@@ -417,15 +280,16 @@ class Descriptors(unittest.TestCase):
 
 @unittest.skipIf(server, "six threads of one process")
 class Threads(unittest.TestCase):
-    def test_six_threads_put_to_one_bucket(self):
+    def test_six_threads_put_to_one_bucket(self) -> None:
         done = subprocess.run(
             [sys.executable, "-B", "-c", SIX_THREADS], cwd=os.path.join(top, "python"), capture_output=True, text=True, timeout=300)
         self.assertEqual((done.stdout, done.stderr), ("0 30000 30000 30000\n", ""))
 
-    def test_threads_read_write_and_watch_one_bucket(self):
-        bucket, wrong = fresh_bucket(history=2), []
+    def test_threads_read_write_and_watch_one_bucket(self) -> None:
+        bucket = fresh_bucket(history=2)
+        wrong: List[Any] = []
 
-        def use(number):
+        def use(number: int) -> None:
             try:
                 for at in range(200):
                     bucket[f"k.{number}"] = b"%d" % at
@@ -445,14 +309,16 @@ class Threads(unittest.TestCase):
         self.assertEqual(wrong, [])
         bucket.close()
 
-    def test_a_snapshot_and_a_feed_are_used_by_several(self):
+    def test_a_snapshot_and_a_feed_are_used_by_several(self) -> None:
         with fresh_bucket() as bucket:
             for number in range(500):
                 bucket[f"k.{number}"] = b"%d" % number
             with bucket.snapshot() as view:
-                feed, found, wrong = view.watch(">"), [], []
+                feed = view.watch(">")
+                found: List[Any] = []
+                wrong: List[Any] = []
 
-                def use():
+                def use() -> None:
                     try:
                         found.extend(feed)
                         wrong.extend(number for number in range(500) if view[f"k.{number}"] != b"%d" % number)
@@ -466,10 +332,11 @@ class Threads(unittest.TestCase):
                     thread.join()
         self.assertEqual((wrong, sorted(revisions(found))), ([], list(range(501))))
 
-    def test_a_close_while_others_call(self):
-        bucket, refused = fresh_bucket(), []
+    def test_a_close_ends_those_who_call_meanwhile(self) -> None:
+        bucket = fresh_bucket()
+        refused: List[Any] = []
 
-        def use():
+        def use() -> None:
             try:
                 while True:
                     bucket["a"] = b"1"

@@ -9,10 +9,10 @@ import tempfile
 import unittest
 
 from tests import top
+from tests.python.installing import with_modules
 
 library = os.environ["VILGOUED_LIB"]
 PACKAGE = os.path.join(top, "python", "vilgoued")
-PYTHONS = [sys.executable, "/usr/bin/python3"]
 
 USER = """
 import asyncio
@@ -67,17 +67,8 @@ def ran(*command, **how):
     return done.stdout
 
 
-def with_modules(*names):
-    """A Python that has these modules, or None."""
-    for python in PYTHONS:
-        looks = "import importlib.util, sys; sys.exit(not all(map(importlib.util.find_spec, sys.argv[1:])))"
-        if os.path.exists(python) and subprocess.run([python, "-c", looks, *names]).returncode == 0:
-            return python
-    return None
-
-
 class Folder(unittest.TestCase):
-    def setUp(self):
+    def setUp(self) -> None:
         room = tempfile.TemporaryDirectory()
         self.addCleanup(room.cleanup)
         self.folder = room.name
@@ -90,7 +81,7 @@ class Folder(unittest.TestCase):
 
 
 class Types(Folder):
-    def setUp(self):
+    def setUp(self) -> None:
         super().setUp()
         self.python = with_modules("mypy")
         if self.python is None:
@@ -102,24 +93,24 @@ class Types(Folder):
                               env=environment, capture_output=True, text=True)
         return [line for line in done.stdout.splitlines() if ": error: " in line], done.stdout + done.stderr
 
-    def test_the_package_is_strict(self):
+    def test_the_package_is_strict(self) -> None:
         faults, told = self.mypy(PACKAGE)
         self.assertEqual(faults, [], told)
         self.assertIn("no issues found", told)
 
-    def test_what_users_write_is_strict(self):
+    def test_what_users_write_is_strict(self) -> None:
         faults, told = self.mypy(self.file("user.py", USER))
         self.assertEqual(faults, [], told)
         self.assertIn("no issues found", told)
 
-    def test_what_is_wrong_is_seen(self):
+    def test_what_is_wrong_is_seen(self) -> None:
         faults, _ = self.mypy(self.file("wrong.py", WRONG))
         for text in ('"put" of "Bucket" has incompatible type "int"', 'Item "Marker" of', '"Mirror"'):
             self.assertTrue(any(text in fault for fault in faults), faults)
 
 
 class Style(unittest.TestCase):
-    def test_nothing_is_left_over(self):
+    def test_nothing_is_left_over(self) -> None:
         python = with_modules("pyflakes")
         if python is None:
             self.skipTest("there is no pyflakes: apt-get install python3-pyflakes")
@@ -127,7 +118,7 @@ class Style(unittest.TestCase):
 
 
 class Refusals(unittest.TestCase):
-    def test_their_codes_and_names_are_those_of_the_rules(self):
+    def test_their_codes_and_names_are_those_of_the_rules(self) -> None:
         from vilgoued import refusals
         with open(os.path.join(top, "docs", "semantics.md"), encoding="utf-8") as page:
             rules = {name: int(code) for code, name in re.findall(r"^\| (\d+) \| (\w+) \|", page.read(), re.M)}
@@ -136,14 +127,14 @@ class Refusals(unittest.TestCase):
             # What comes in scripts and on the threads of Rattle alone has no class.
             if code not in (15, 16, 17, 18):
                 self.assertEqual(own[name], code)
-        self.assertEqual(set(own) - set(rules), {"Closed", "TooLittleRoom", "OpenAlready", "NoSuchStart", "OlderView", "NoDescriptor"})
+        self.assertEqual(set(own) - set(rules), {"Closed", "TooLittleRoom", "OpenAlready", "NoSuchStart", "OlderView", "OtherBucket", "NoDescriptor"})
         self.assertEqual(set(refusals.__all__), {"KvError", *own})
 
 
 class TheLibrary(Folder):
     """A copy of the package in a folder of its own, which has no library beside it."""
 
-    def setUp(self):
+    def setUp(self) -> None:
         super().setUp()
         self.package = shutil.copytree(PACKAGE, os.path.join(self.folder, "python", "vilgoued"), ignore=shutil.ignore_patterns("*.so", "__pycache__"))
 
@@ -160,38 +151,41 @@ class TheLibrary(Folder):
             file.write(b"\x7fELF\2\1\1" + bytes(9) + b"\3\0" + bytes([machine, 0, 1, 0, 0, 0]) + bytes(40))
         return path
 
-    def test_it_is_the_one_that_is_named(self):
+    def test_it_is_the_one_that_is_named(self) -> None:
         self.assertEqual(self.told(VILGOUED_LIB=library), library)
 
-    def test_it_is_the_one_inside(self):
+    def test_it_is_the_one_in_the_folder_that_is_named(self) -> None:
+        self.assertEqual(self.told(VILGOUED_LIB=os.path.dirname(library)), library)
+
+    def test_it_is_the_one_inside(self) -> None:
         inside = shutil.copy(library, os.path.join(self.package, "libvilgoued.so"))
         self.assertEqual(self.told(), inside)
 
-    def test_it_is_the_one_that_the_checkout_built(self):
+    def test_it_is_the_one_that_the_checkout_built(self) -> None:
         self.file("library", "")
         os.mkdir(os.path.join(self.folder, "lib"))
         built = shutil.copy(library, os.path.join(self.folder, "lib", "libvilgoued.so"))
         self.assertEqual(self.told(), built)
 
-    def test_it_is_the_one_of_the_system(self):
+    def test_it_is_the_one_of_the_system(self) -> None:
         elsewhere = os.path.join(self.folder, "elsewhere")
         os.mkdir(elsewhere)
         shutil.copy(library, os.path.join(elsewhere, "libvilgoued.so"))
         self.assertEqual(self.told(LD_LIBRARY_PATH=elsewhere), "libvilgoued.so")
 
-    def test_one_sentence_says_that_there_is_none(self):
+    def test_one_sentence_says_that_there_is_none(self) -> None:
         self.assertEqual(self.told(), "libvilgoued.so is not there: ./library in a checkout of Vilgoued makes it, and VILGOUED_LIB names where it lies")
         self.assertRegex(self.told(VILGOUED_LIB="/no/such.so"), "^there is no /no/such.so: .*/library.* makes libvilgoued.so")
 
-    def test_one_sentence_says_that_it_is_for_another_processor(self):
+    def test_one_sentence_says_that_it_is_for_another_processor(self) -> None:
         told = self.told(VILGOUED_LIB=self.fake(183))
         self.assertRegex(told, "^.*fake.so is for aarch64, and this Python is for x86_64: ./library makes one for the machine that it runs on$")
 
-    def test_one_sentence_says_that_it_is_no_library(self):
+    def test_one_sentence_says_that_it_is_no_library(self) -> None:
         told = self.told(VILGOUED_LIB=self.file("text.so", "no library at all, though of some length"))
         self.assertRegex(told, "^.*text.so is for no system that has ELF")
 
-    def test_one_sentence_says_that_it_is_of_another_version(self):
+    def test_one_sentence_says_that_it_is_of_another_version(self) -> None:
         source = self.file("empty.c", "int kv_shared_open(void) { return 0; }\n")
         try:
             ran(os.environ.get("CC", "cc"), "-shared", "-fPIC", source, "-o", os.path.join(self.folder, "empty.so"))
@@ -200,14 +194,14 @@ class TheLibrary(Folder):
         told = self.told(VILGOUED_LIB=os.path.join(self.folder, "empty.so"))
         self.assertRegex(told, "empty.so is of another version, as it has no kv_shared_finish: ./library makes the one of this version")
 
-    def test_one_sentence_says_that_the_c_library_is_too_old(self):
+    def test_one_sentence_says_that_the_c_library_is_too_old(self) -> None:
         from vilgoued import _library
         told = _library._why(library, OSError("/lib/libc.so.6: version `GLIBC_2.99' not found (required by it)"))
         self.assertRegex(told, "wants a newer C library than this system has .*GLIBC_2.99.*: ./library makes one for this system$")
 
 
 class Installed(Folder):
-    def test_pip_installs_it_with_no_network(self):
+    def test_pip_installs_it_with_no_network(self) -> None:
         python = with_modules("setuptools", "wheel", "pip", "venv", "ensurepip")
         if python is None:
             self.skipTest("no Python here has setuptools, wheel and venv: apt-get install python3-venv python3-wheel")
@@ -224,7 +218,7 @@ class Installed(Folder):
         self.assertEqual(ran(of_venv, "-c", where, cwd=self.folder, env=environment), "True\n")
         version = "import importlib.metadata as m; print(m.version('vilgoued'), m.metadata('vilgoued').get_all('Requires-Dist'))"
         with open(os.path.join(top, "crates", "kv_run", "src", "help.rt"), encoding="utf-8") as file:
-            wanted = re.search(r'VERSION: &str = "kvbucket ([\d.]+),', file.read())[1]
+            (wanted,) = re.findall(r'VERSION: &str = "kvbucket ([\d.]+),', file.read())
         self.assertEqual(ran(of_venv, "-c", version, cwd=self.folder), wanted + " None\n")
         for tool in "vilgoued-to-nats", "vilgoued-from-nats":
             self.assertIn("nats URL NAME", ran(os.path.join(self.folder, "venv", "bin", tool), "--help", cwd=self.folder))

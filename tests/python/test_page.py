@@ -14,10 +14,10 @@ EXAMPLES = list(zip(blocks(PAGE, "python"), blocks(PAGE, "answers")))
 
 
 class Page(unittest.TestCase):
-    def test_each_example_has_its_answers(self):
+    def test_each_example_has_its_answers(self) -> None:
         self.assertEqual(len(blocks(PAGE, "python")), len(blocks(PAGE, "answers")))
 
-    def test_each_example_prints_what_it_says(self):
+    def test_each_example_prints_what_it_says(self) -> None:
         for lines, answers in EXAMPLES:
             if any(URL in line for line in lines) == bool(server):
                 with self.subTest(lines[0] + ", " + lines[-1].strip()):

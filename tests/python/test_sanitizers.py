@@ -17,15 +17,15 @@ def sanitizer():
 
 
 class Sanitizers(unittest.TestCase):
-    def test_nothing_beside_a_buffer_is_touched(self):
+    def test_nothing_beside_a_buffer_is_touched(self) -> None:
         path = sanitizer()
         if path is None:
             self.skipTest("%s has no AddressSanitizer" % C)
         # What Python itself still has at its end is no leak of the library.
         environment = dict(os.environ, LD_PRELOAD=path, ASAN_OPTIONS="detect_leaks=0", PYTHONMALLOC="malloc")
-        for module in "tests.python.test_scripts", "tests.python.test_vilgoued", "tests.python.test_batches", "tests.python.test_following":
-            with self.subTest(module):
-                command = [sys.executable, "-B", "-m", "unittest", module]
+        for name in "scripts", "vilgoued", "batches", "following", "mirrors", "lagging":
+            with self.subTest(name):
+                command = [sys.executable, "-B", "-m", "unittest", "tests.python.test_" + name]
                 done = subprocess.run(command, cwd=top, env=environment, stdin=subprocess.DEVNULL, capture_output=True, text=True)
                 self.assertEqual(done.returncode, 0, done.stderr[-3000:])
 

@@ -1,5 +1,5 @@
-"""The worked scripts on a bucket of vilgoued, over the library for C: the answers have to be those of the program. A race is of
-threads in one process, and batches are of the script alone: the library has neither."""
+"""The worked scripts on a bucket of vilgoued, over the library for C: the answers have to be those of the program. Those of a race are
+left out, which is of threads of the program."""
 import unittest
 
 import vilgoued
@@ -8,9 +8,9 @@ from tests.worked import scripts
 
 
 class Scripts(unittest.TestCase):
-    def test_scripts(self):
+    def test_each_script_has_the_answers_of_the_program(self) -> None:
         for script in scripts():
-            if script.is_of_calls:
+            if not script.is_race:
                 with self.subTest(script.name), vilgoued.Bucket("kv", **script.settings) as bucket:
                     self.assertEqual(replay(bucket, script), script.output.decode().splitlines())
 

@@ -60,10 +60,10 @@ class Rust(unittest.TestCase):
         print("\n".join(line for line in told.splitlines() if line.startswith("test result")))
         self.assertRegex(told, r"Page .*ok", "the examples of the page are not among them")
 
-    def test_the_worked_scripts(self):
+    def test_each_script_has_the_answers_of_the_program(self):
         cargo("build", "--offline", "--examples")
         for script in scripts():
-            if script.is_of_calls:
+            if not script.is_race:
                 program = os.path.join(TARGET, "debug", "examples", "lines")
                 with self.subTest(script.name), Driven(program, **script.settings) as bucket:
                     self.assertEqual(replay(bucket, script), script.output.decode().splitlines())
@@ -77,20 +77,20 @@ class Rust(unittest.TestCase):
                 for at in unsafe:
                     self.assertRegex("\n".join(lines[max(0, at - 4):at + 1]), "SAFETY: ", "line %d" % (at + 1))
 
-    def test_clippy(self):
+    def test_clippy_finds_nothing(self):
         if not has("clippy"):
             self.skipTest("clippy is not installed: apt-get install rust-clippy")
         cargo("clippy", "--offline", "--all-targets", "--", "-D", "warnings")
 
-    def test_rustdoc(self):
+    def test_rustdoc_finds_nothing(self):
         cargo("doc", "--offline", "--no-deps", RUSTDOCFLAGS="-D warnings")
 
     @unittest.skipUnless(glob.glob(os.path.join(SOURCES, "tokio-1.*")), "there is no tokio: apt-get install librust-tokio-dev")
-    def test_a_follower_in_tokio(self):
+    def test_a_follower_is_awaited_in_tokio(self):
         told = cargo("test", "--offline", *OF_DEBIAN, folder=os.path.join(top, "tests", "rust", "tokio"))
         self.assertIn("3 passed; 0 failed", told)
 
-    def test_what_calls_take(self):
+    def test_what_calls_take_is_told(self):
         print(cargo("run", "--offline", "--quiet", "--release", "--example", "costs"), end="")
 
 

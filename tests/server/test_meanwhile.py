@@ -3,9 +3,11 @@ import os
 import subprocess
 import threading
 import unittest
+from typing import Any, cast
 
 from tests import top
-from vilgoued.nats import Bucket, KeyExists
+from vilgoued.nats import Bucket
+from vilgoued.refusals import KeyExists
 
 server = os.environ.get("VILGOUED_SERVER", "")
 
@@ -30,7 +32,7 @@ class Meanwhile(unittest.TestCase):
             self.addCleanup(bucket.close)
         return buckets
 
-    def test_a_watch_of_several_filters(self):
+    def test_a_watch_of_several_filters_goes_by_revision(self):
         bucket, other = self.buckets("filters")
         watch = bucket.watch("a.*,c.*,b.*", updates=True)
 
@@ -49,14 +51,14 @@ class Meanwhile(unittest.TestCase):
         bucket.meanwhile = write_two
         self.assertEqual([it.key for it in watch], ["a.w", "b.w"])
 
-    def test_keys(self):
+    def test_keys_name_each_key_once(self):
         bucket, other = self.buckets("keys")
         for key in ("a", "hot", "c"):
             other[key] = b"1"
         bucket.meanwhile = lambda: other.put("hot", b"2")
         self.assertEqual(sorted(bucket.keys()), ["a", "c", "hot"])
 
-    def test_history(self):
+    def test_a_history_has_no_more_than_is_kept(self):
         for history in (1, 3):
             bucket, other = self.buckets("history-%d" % history, history)
             for number in range(4):
@@ -66,7 +68,7 @@ class Meanwhile(unittest.TestCase):
             self.assertIn(len(entries), range(1, history + 1))
             self.assertEqual({it.key for it in entries}, {"hot"})
 
-    def test_create(self):
+    def test_a_create_of_a_key_that_others_delete_is_made(self):
         bucket, other = self.buckets("create")
         turns = iter(range(3))
         bucket.meanwhile = lambda: next(turns, None) is None or other.delete("k")
@@ -75,7 +77,7 @@ class Meanwhile(unittest.TestCase):
         with self.assertRaises(KeyExists):
             bucket.create("k", b"2")
 
-    def test_a_script_of_a_bucket(self):
+    def test_a_script_of_a_bucket_that_others_write_is_told_to_be_none_of_a_moment(self):
         with Bucket(server, "written") as other:
             for number in range(100):
                 other["k.%d" % number] = b"1"
@@ -111,11 +113,11 @@ class Half:
 
 
 class Interruptions(unittest.TestCase):
-    def test_a_caller_that_is_interrupted(self):
+    def test_a_caller_that_was_interrupted_can_go_on(self):
         with Bucket(server, "interrupted") as bucket:
-            bucket._server._socket = Half(bucket._server._socket)
+            cast(Any, bucket._server)._socket = Half(bucket._server._socket)
             with self.assertRaises(KeyboardInterrupt):
                 bucket["a"] = b"1" * 1000
             bucket["b"] = b"2"
             self.assertEqual(bucket["b"], b"2")
-            self.assertNotIn("a", bucket)
+            self.assertIsNone(bucket.get("a"))

@@ -4,6 +4,7 @@ import socket
 import subprocess
 import threading
 import unittest
+from typing import cast
 
 import vilgoued
 from tests import program, top
@@ -75,7 +76,7 @@ class Relay:
 
 
 class Moves(unittest.TestCase):
-    def test_there_and_back_again(self):
+    def test_a_bucket_that_moved_there_and_back_is_the_same(self):
         for history in ("1", "2", "64"):
             with self.subTest(history):
                 status, told, faults = to_nats(server, "copy-" + history, "--history", history)
@@ -90,7 +91,7 @@ class Moves(unittest.TestCase):
                 again = run("from-nats", server, "again-" + history)[1]
                 self.assertEqual(again.split("\n")[1:], script.split("\n")[1:])
 
-    def test_what_goes_along(self):
+    def test_what_is_retained_goes_along_and_a_seal_does_not(self):
         status, told, _ = to_nats(server, "along", "--history", "2", script=SCRIPT + "\nseal\n")
         self.assertEqual(status, 0)
         self.assertIn("written: 8 entries, of the revisions 2 to 11, which are 1 to 8 there", told)
@@ -100,7 +101,7 @@ class Moves(unittest.TestCase):
                 ("a", "PUT", b"2"), ("a", "PUT", b"3"), ("b.d", "PUT", b"\0"), ("b.d", "DEL", None), ("b.c", "PURGE", None),
                 ("never", "DEL", None), ("b.c", "PUT", b"x"), ("gone", "PURGE", None)])
 
-    def test_values_as_text(self):
+    def test_values_as_text_go_along(self):
         script = "put port 8080\nput name two words\nput word MQ==\nput sign \N{EURO SIGN}\nput none \ndelete port\n"
         self.assertEqual(to_nats(server, "text", "--text", "--history", "2", script=script)[::2], (0, ""))
         with Bucket(server, "text") as bucket:
@@ -108,7 +109,7 @@ class Moves(unittest.TestCase):
                 ("port", "PUT", b"8080"), ("name", "PUT", b"two words"), ("word", "PUT", b"MQ=="),
                 ("sign", "PUT", "\N{EURO SIGN}".encode()), ("none", "PUT", b""), ("port", "DEL", None)])
 
-    def test_from_python(self):
+    def test_a_bucket_of_python_is_copied_by_its_watch(self):
         try:
             here = vilgoued.Bucket("settings", history=2)
         except OSError:
@@ -118,10 +119,10 @@ class Moves(unittest.TestCase):
             here.delete("b")
             here.purge("a")
             for entry in iter(here.watch(">", history=True).__next__, vilgoued.MARKER):
-                copy_to(there, entry)
+                copy_to(there, cast(vilgoued.Entry, entry))
             self.assertEqual(shown(there), shown(here))
 
-    def test_left_out(self):
+    def test_a_key_that_is_none_here_is_left_out_and_told(self):
         with Bucket(server, "long") as bucket:
             bucket["a"] = b"1"
             bucket._write("k" * 300, b"2")
@@ -138,31 +139,31 @@ class Faults(unittest.TestCase):
         for text in told:
             self.assertIn(text, faults)
 
-    def test_no_server(self):
+    def test_where_there_is_no_server_one_sentence_says_so(self):
         with socket.create_server(("127.0.0.1", 0)) as free:
             url = "nats://127.0.0.1:%d" % free.getsockname()[1]
         self.refused(to_nats(url, "none"), "there is no server at 127.0.0.1:")
         self.refused(run("from-nats", url, "none"), "there is no server at 127.0.0.1:")
         self.refused(to_nats("http://127.0.0.1", "none"), "no URL of a NATS server")
 
-    def test_no_bucket(self):
+    def test_where_there_is_no_bucket_one_sentence_says_so(self):
         self.refused(run("from-nats", server, "no-such"), "there is no bucket no-such")
         with Server(nats_server, keeps_buckets=False) as other:
             self.refused(to_nats(other.url, "none"), "keeps buckets")
 
-    def test_other_settings(self):
+    def test_a_bucket_with_another_history_is_refused(self):
         Bucket(server, "other", history=2).close()
         self.refused(to_nats(server, "other", "--history", "3"), "the bucket other is there, with history 2 and not 3")
 
-    def test_not_empty(self):
+    def test_a_bucket_that_has_had_writes_is_refused(self):
         with Bucket(server, "full") as bucket:
             bucket["a"] = b"1"
         self.refused(to_nats(server, "full"), "has had writes, up to revision 1, and nothing was written")
 
-    def test_bad_configuration(self):
+    def test_a_history_over_the_limit_writes_nothing(self):
         self.refused(to_nats(server, "bad", "--history", "65"), "nothing was written")
 
-    def test_value_too_large(self):
+    def test_a_value_too_large_is_told_with_how_far_it_came(self):
         with Server(nats_server, "max_payload: 1000") as small:
             script = "put a MQ==\nput b Mg==\nput c %s\nput d Mw==\n" % ("AAAA" * 400)
             self.refused(to_nats(small.url, "large", script=script), "revision 3, key c: ValueTooLarge: 1200 bytes",
@@ -171,21 +172,21 @@ class Faults(unittest.TestCase):
             self.assertEqual(status, 0)
             self.assertIn("written: 1 entries, of the revisions 4 to 4, which are 3 to 3 there", told)
 
-    def test_connection_lost(self):
+    def test_a_connection_that_is_lost_is_told_with_how_far_it_came(self):
         relay = Relay(int(server.rpartition(":")[2]), 5)
         script = "".join("put k%d MQ==\n" % number for number in range(20))
         self.refused(to_nats(relay.url, "lost", script=script), "ConnectionError", "may be there or not", "written: 4 entries")
 
-    def test_password(self):
+    def test_a_password_in_the_url_lets_it_in(self):
         with Server(nats_server, 'authorization { user: u, password: "p:w" }') as guarded:
             self.refused(run("from-nats", guarded.url, "a"), "Authorization Violation")
             Bucket(guarded.url.replace("//", "//u:p%3Aw@"), "a").close()
             self.assertEqual(run("from-nats", guarded.url.replace("//", "//u:p%3Aw@"), "a")[0], 0)
 
-    def test_server_that_comes_back(self):
+    def test_a_bucket_goes_on_behind_a_connection_that_is_lost(self):
         with Bucket(server, "back") as bucket:
             bucket["a"] = b"1"
-            bucket._server._socket.shutdown(socket.SHUT_RDWR)
+            cast(socket.socket, bucket._server._socket).shutdown(socket.SHUT_RDWR)
             self.assertEqual(bucket["a"], b"1")
 
 

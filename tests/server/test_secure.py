@@ -6,15 +6,18 @@ import subprocess
 import tempfile
 import threading
 import unittest
+from typing import cast
 
 from tests.server.running import Server
-from vilgoued.nats import MARKER, Bucket
+from vilgoued.nats import MARKER, Bucket, Entry
 
 nats_server = os.environ["NATS_SERVER"]
 
 
 @unittest.skipUnless(shutil.which("openssl"), "there is no openssl to make certificates: apt-get install openssl")
 class Tls(unittest.TestCase):
+    certificate = key = ""
+
     @classmethod
     def setUpClass(cls):
         room = tempfile.TemporaryDirectory()
@@ -43,11 +46,11 @@ class Tls(unittest.TestCase):
             watch = bucket.watch(">", updates=True)
             timer = threading.Timer(0.1, bucket.put, ("b", b"2"))
             timer.start()
-            self.assertEqual(next(watch.follow(20)).key, "b")
+            self.assertEqual(cast(Entry, next(watch.follow(20))).key, "b")
             timer.join()
             for number in range(20):
                 bucket["c"] = b"%d" % number
-            self.assertEqual([it.value for it in watch.follow(0)], [b"19"])
+            self.assertEqual([it.value for it in watch.follow(0) if not it.marker], [b"19"])
 
     def test_a_certificate_that_nobody_vouches_for_is_refused(self):
         with self.server() as server, self.assertRaisesRegex(ConnectionError, "CERTIFICATE_VERIFY_FAILED"):
@@ -57,7 +60,7 @@ class Tls(unittest.TestCase):
         with Server(nats_server) as server, self.assertRaisesRegex(ConnectionError, "the server speaks no TLS"):
             Bucket(self.url(server), "a")
 
-    def test_a_certificate_of_ones_own(self):
+    def test_a_certificate_of_ones_own_lets_it_in(self):
         with self.server('ca_file: "%s", verify: true' % self.certificate) as server:
             with self.assertRaises(ConnectionError):
                 Bucket(self.url(server), "a", tls=self.context())
@@ -69,7 +72,7 @@ class Tls(unittest.TestCase):
 
 
 class Credentials(unittest.TestCase):
-    def test_a_token(self):
+    def test_a_token_in_the_url_lets_it_in(self):
         with Server(nats_server, 'authorization { token: "s3/cret" }') as server:
             at = server.url.replace("nats://", "")
             with self.assertRaisesRegex(ConnectionError, "Authorization Violation"):

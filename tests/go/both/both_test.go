@@ -3,8 +3,10 @@ package both
 
 import (
 	"context"
+	"errors"
 	"fmt"
 	"os"
+	"strings"
 	"testing"
 	"time"
 
@@ -55,11 +57,34 @@ type keyValue[Entry entry, Watcher watcher[Entry], Status status, WatchOpt, Dele
 	Status() (Status, error)
 }
 
+// What refuses calls in a package. Of another last revision nats.go has no name: there it is the error of ErrKeyExists.
+type refusals struct {
+	keyExists, keyNotFound, invalidKey, wrongLast error
+}
+
+// The name of what refused a call.
+func (r refusals) name(err error) string {
+	switch {
+	case err == nil:
+		return "none"
+	case errors.Is(err, r.keyExists):
+		return "ErrKeyExists"
+	case errors.Is(err, r.keyNotFound):
+		return "ErrKeyNotFound"
+	case errors.Is(err, r.invalidKey):
+		return "ErrInvalidKey"
+	}
+	return "another"
+}
+
 // A service that keeps its settings in a bucket: what it sees, line by line.
-func use[E entry, W watcher[E], S status, WO, DO any](b keyValue[E, W, S, WO, DO], ignoreDeletes WO, lastRevision func(uint64) DO) []string {
+func use[E entry, W watcher[E], S status, WO, DO any](b keyValue[E, W, S, WO, DO], named refusals, ignoreDeletes WO, lastRevision func(uint64) DO) []string {
 	var seen []string
 	say := func(what string, told any, err error) {
-		seen = append(seen, fmt.Sprintf("%s: %v, refused %v", what, told, err != nil))
+		seen = append(seen, fmt.Sprintf("%s: %v, refused: %s", what, told, named.name(err)))
+	}
+	sayOfRevision := func(what string, err error) {
+		seen = append(seen, fmt.Sprintf("%s: another last revision %v", what, errors.Is(err, named.wrongLast)))
 	}
 	put := func(key, value string) {
 		revision, err := b.PutString(key, value)
@@ -73,7 +98,7 @@ func use[E entry, W watcher[E], S status, WO, DO any](b keyValue[E, W, S, WO, DO
 	revision, err = b.Update("app.port", []byte("8080"), 1)
 	say("update", revision, err)
 	_, err = b.Update("app.port", []byte("9090"), 1)
-	say("update at another revision", 0, err)
+	sayOfRevision("update at another revision", err)
 
 	all, err := b.Watch("app.*")
 	say("watch", 0, err)
@@ -87,7 +112,7 @@ func use[E entry, W watcher[E], S status, WO, DO any](b keyValue[E, W, S, WO, DO
 		}
 	}
 	say("delete", 0, b.Delete("app.host"))
-	say("delete at another revision", 0, b.Delete("app.port", lastRevision(1)))
+	sayOfRevision("delete at another revision", b.Delete("app.port", lastRevision(1)))
 	revision, err = b.Put("db.port", []byte{})
 	say("put nothing", revision, err)
 	// It is read before the purge: behind that NATS would send it no more.
@@ -146,12 +171,20 @@ func here(t *testing.T) []string {
 	}
 	defer b.Close()
 	return use[vilgoued.KeyValueEntry, vilgoued.KeyWatcher, vilgoued.KeyValueStatus, vilgoued.WatchOpt, vilgoued.DeleteOpt](
-		b, vilgoued.IgnoreDeletes(), vilgoued.LastRevision)
+		b, refusals{vilgoued.ErrKeyExists, vilgoued.ErrKeyNotFound, vilgoued.ErrInvalidKey, vilgoued.ErrWrongLastRevision},
+		vilgoued.IgnoreDeletes(), vilgoued.LastRevision)
 }
 
 func TestTheFunctionRunsOnThisBucket(t *testing.T) {
-	for _, line := range here(t) {
-		t.Log(line)
+	seen := strings.Join(here(t), "\n")
+	t.Log(seen)
+	for _, wanted := range []string{
+		"create what is there: 0, refused: ErrKeyExists", "update at another revision: another last revision true",
+		"get what was deleted: 0, refused: ErrKeyNotFound", "get by no key: 0, refused: ErrInvalidKey",
+	} {
+		if !strings.Contains(seen, wanted) {
+			t.Error("it is not told: ", wanted)
+		}
 	}
 }
 
@@ -175,7 +208,7 @@ func TestTheFunctionSeesTheSameOnABucketOfNATS(t *testing.T) {
 	}
 	defer func() { _ = js.DeleteKeyValue("settings-of-go") }()
 	there := use[nats.KeyValueEntry, nats.KeyWatcher, nats.KeyValueStatus, nats.WatchOpt, nats.DeleteOpt](
-		b, nats.IgnoreDeletes(), nats.LastRevision)
+		b, refusals{nats.ErrKeyExists, nats.ErrKeyNotFound, nats.ErrInvalidKey, nats.ErrKeyExists}, nats.IgnoreDeletes(), nats.LastRevision)
 	wanted := here(t)
 	for at, line := range wanted {
 		if at >= len(there) || there[at] != line {
