@@ -96,7 +96,7 @@ def only():
     if not here and elsewhere:
         raise Missing("the release in dist/ is for %s, and this machine is %s: get or make one for it" % (" and ".join(elsewhere), machine()))
     if not here:
-        raise Missing("there is no release in dist/: ./release makes it")
+        raise Missing("there is no release in dist/: get one, or make it by ./release with the Rattle kit")
     return here[0]
 
 

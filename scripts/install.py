@@ -45,8 +45,10 @@ def main():
         if len(words) > 1 or any(word.startswith("-") for word in words):
             sys.exit("install: the only argument is a folder to install under, as in ./install /usr/local")
         install(os.path.abspath(words[0] if words else os.path.expanduser("~/.local")))
-    except (archive.Missing, OSError) as error:
+    except archive.Missing as error:
         sys.exit("install: %s" % error)
+    except OSError as error:
+        sys.exit("install: %s: name a folder that you may write to, as in ./install ~/.local" % error)
 
 
 if __name__ == "__main__":

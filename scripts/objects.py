@@ -2,8 +2,8 @@
 import hashlib
 
 START, HEADER = b"!<arch>\n", 60
-# The object of a shell in C, which the machine's own compiler makes; all others of libvilgoued.a are the kit's.
-OWN = "shared.o"
+# The objects of the shell in C, which the machine's own compiler makes; all others of libvilgoued.a are the kit's.
+OWN = ("opening.o", "shared.o")
 
 
 def headers(data):
@@ -33,5 +33,5 @@ def objects(data):
 
 def sum_of_kit(data):
     """The sum of all that the kit made, whoever compiled the rest."""
-    lines = ("%s  %s\n" % (hashlib.sha256(content).hexdigest(), name) for name, content in objects(data) if name != OWN)
+    lines = ("%s  %s\n" % (hashlib.sha256(content).hexdigest(), name) for name, content in objects(data) if name not in OWN)
     return hashlib.sha256("".join(lines).encode()).hexdigest()

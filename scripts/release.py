@@ -10,7 +10,7 @@ import os, subprocess, sys, tempfile
 if __name__ == "__main__":
     sys.dont_write_bytecode = True
     sys.path.insert(0, os.path.dirname(os.path.dirname(os.path.realpath(__file__))))
-from scripts import archive, current, kit, objects, top
+from scripts import archive, current, kit, objects, top, wheel
 from scripts.current import LIBRARY, PROGRAM
 
 # How what is not current is built.
@@ -75,11 +75,11 @@ def kit_part():
 
 
 def package():
-    """The files of the Python package."""
+    """The files of the Python package, by their paths beside it."""
     paths = [path for path in current.files_in(PACKAGE) if "__pycache__" not in path and not path.endswith(".so")]
     if PACKAGE + "/__init__.py" not in paths:
         raise Refused("there is no Python package in %s: check out the whole repository" % PACKAGE)
-    return {"lib/" + path: read(path) for path in paths}
+    return {os.path.relpath(path, os.path.dirname(PACKAGE)): read(path) for path in paths}
 
 
 def manual():
@@ -98,7 +98,11 @@ def wanted(compiler, libraries):
     build = "version: %s\nkit: %s\ncompiler: %s\nlibvilgoued.a, what the kit made: %s\nsources:\n%s" % (
         release, kit.version(), compiler, kit_part(), sources())
     files = {"BUILD": build.encode(), "LICENSE": read("LICENSE"), "lib/pkgconfig/vilgoued.pc": (PKG_CONFIG % release).encode(),
-             **{path: read(path) for path in current.files_in("include")}, **manual(), **package(), **dict(zip(LIBRARIES, libraries))}
+             **{path: read(path) for path in current.files_in("include")}, **manual(), **dict(zip(LIBRARIES, libraries))}
+    modules = package()
+    files.update(("lib/python/" + path, data) for path, data in modules.items())
+    name, data = wheel.wheel(release, modules, files["lib/python/" + wheel.LIBRARY])
+    files["share/vilgoued/" + name] = data
     members = {path: archive.Member(data) for path, data in files.items()}
     members["bin/kvbucket"] = archive.Member(read(current.built(PROGRAM).made[0]), is_run=True)
     members["lib/libvilgoued.so"] = archive.Member(b"", link="libvilgoued.so.0")

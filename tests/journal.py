@@ -60,9 +60,10 @@ def read(data):
     first = frame_at(data, seed, 17)
     if first is None or first[:5] != b"\0\0\0\0\6":
         raise NoJournal
-    numbers, bucket = struct.unpack_from(">QQQQ", first, 5), first[37:].decode("ascii")
+    history, value_limit, write_limit, revision_limit = struct.unpack_from(">QQQQ", first, 5)
+    bucket = first[37:].decode("ascii")
     at, entries = 17 + 8 + len(first), []
     while (payload := frame_at(data, seed, at)) is not None:
         entries.append(entry(payload))
         at += 8 + len(payload)
-    return Journal(seed, bucket, *numbers, entries, at, shows_damage(data, seed, at))
+    return Journal(seed, bucket, history, value_limit, write_limit, revision_limit, entries, at, shows_damage(data, seed, at))

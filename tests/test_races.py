@@ -49,7 +49,7 @@ def race_of(workers):
 
 
 class Races(unittest.TestCase):
-    def test_races(self):
+    def test_each_race_makes_every_write_once_and_its_watches_see_all(self):
         mixed, longest, start = 0, 0.0, time.time()
         for race in range(RACES):
             began, workers = time.time(), 16 if race % 10 == 9 else 4

@@ -1,162 +1,16 @@
-"""./release, ./install and the choice that ./kvbucket makes, in a small tree with these scripts, whose "proved" program is a script and
-whose library has one call. Its path has a space. The commands of docs/install.md are run in it."""
-import gzip, os, re, shlex, shutil, subprocess, sys, tarfile, tempfile, unittest
+"""./release, ./install and the choice that ./kvbucket makes, in a small tree with these scripts. The commands of docs/install.md are run
+in it."""
+import gzip, os, re, shlex, shutil, tarfile, unittest
 
 from scripts import archive, objects
 from tests import top
+from tests.tree import KIT, LIBRARY, PROGRAM, USER, Tree
 
-COPIED = ("kvbucket", "library", "release", "install", "scripts", "include", "c", "docs/man", "LICENSE")
-PROGRAM = """#!/bin/sh
-case "$*" in
-  --version) echo "kvbucket 0.2.0, proved with Rattle's logic 0123" ;;
-  *) echo "%s" ;;
-esac
-"""
-KIT = """#!/bin/sh
-case "$1" in
-  version) echo "rattle-kit-0 logic 0123" ;;
-  doc) echo "$(dirname "$0")/START-HERE.md" ;;
-  lib) mkdir -p out && cp ../../kit/libkv_c.a out ;;
-  try) echo "quick build"; echo "run=ended status=0 proved=no" >&2 ;;
-esac
-"""
-LIBRARY = """#include <vilgoued.h>
-uint64_t kv_reach(kv_bucket *bucket, uint64_t *floor) { *floor = %d; return bucket->is_open ? KV_OK : KV_CLOSED; }
-"""
-USER = """#include <vilgoued.h>
-int main(void) { kv_bucket bucket = {0}; uint64_t floor; return kv_reach(&bucket, &floor) == KV_CLOSED ? 0 : 1; }
-"""
-ALTER = """
-import sys
-sys.path.insert(0, ".")
-from scripts import archive
-_, name, path, data = sys.argv
-members = dict(archive.each(name))
-members[path] = members[path]._replace(data=data.encode())
-archive.write(name, members)
-"""
-PACKAGE = """import ctypes, os
-library = ctypes.CDLL(os.path.join(os.path.dirname(os.path.abspath(__file__)), "libvilgoued.so"))
-"""
 HEADERS = ["include/" + name for name in sorted(os.listdir(os.path.join(top, "include")))]
 MEMBERS = ["BUILD", "LICENSE", "bin/kvbucket", *HEADERS, "lib/libvilgoued.a", "lib/libvilgoued.so", "lib/libvilgoued.so.0",
            "lib/pkgconfig/vilgoued.pc", "lib/python/vilgoued/__init__.py", "lib/python/vilgoued/libvilgoued.so",
-           "lib/python/vilgoued/py.typed", "share/man/man1/kvbucket.1", "share/man/man3/vilgoued.3"]
-# What a build and a release leave.
-OUTPUTS = ("crates/kvbucket/out", "lib", "dist")
-NEEDED = ("cc", "strip", "ar", "pkg-config")
-missing = [name for name in NEEDED if not shutil.which(name)]
-
-
-def copy(path, to):
-    os.makedirs(os.path.dirname(to), exist_ok=True)
-    if os.path.isdir(path):
-        shutil.copytree(path, to)
-    else:
-        shutil.copy(path, to)
-
-
-def setUpModule():
-    Tree.outputs = tempfile.mkdtemp()
-    unittest.addModuleCleanup(shutil.rmtree, Tree.outputs)
-
-
-@unittest.skipIf(missing, "%s is not installed: apt-get install build-essential pkg-config" % " and ".join(missing))
-class Tree(unittest.TestCase):
-    """A test in a tree of its own."""
-
-    # Where the outputs of the first tree that was built and released lie, for all others.
-    outputs = ""
-
-    def setUp(self):
-        room = tempfile.TemporaryDirectory()
-        self.addCleanup(room.cleanup)
-        self.room, self.top = room.name, os.path.join(room.name, "a tree")
-        for path in filter(lambda path: os.path.exists(os.path.join(top, path)), COPIED):
-            copy(os.path.join(top, path), self.path(path))
-        self.write("crates.txt", "low:\nkvbucket: low\nkv_c staticlib: low\n")
-        for name in "low", "kvbucket", "kv_c":
-            self.write("crates/%s/src/lib.rt" % name, "pub fn %s() {}\n" % name)
-        self.write("python/vilgoued/__init__.py", PACKAGE)
-        self.write("python/vilgoued/py.typed", "")
-        self.write("python/vilgoued/__pycache__/it.pyc", "of another Python\n")
-        self.write("kit/rt", KIT, is_run=True)
-
-    def path(self, path):
-        return os.path.join(self.top, path)
-
-    def write(self, path, text, is_run=False):
-        os.makedirs(os.path.dirname(self.path(path)), exist_ok=True)
-        with open(self.path(path), "w", encoding="utf-8") as file:
-            file.write(text)
-        os.chmod(self.path(path), 0o755 if is_run else 0o644)
-
-    def run_in(self, *command, kit=True, text="", **environment):
-        """How a command ends in the tree, with the kit on the path or without."""
-        path = [os.path.dirname(sys.executable), "/usr/bin", "/bin"]
-        given = {"HOME": self.room, "PATH": ":".join([self.path("kit"), *path] if kit else path), **environment}
-        return subprocess.run(command, cwd=self.top, env=given, input=text, capture_output=True, text=True)
-
-    def works(self, *command, **how):
-        """What a command prints that has to succeed."""
-        done = self.run_in(*command, **how)
-        self.assertEqual(done.returncode, 0, done.stdout + done.stderr)
-        return done.stdout
-
-    def refused(self, *command, **how):
-        """The one sentence by which a command refuses."""
-        done = self.run_in(*command, **how)
-        self.assertNotEqual(done.returncode, 0, done.stdout)
-        self.assertEqual((done.stdout, done.stderr.count("\n")), ("", 1), done.stderr)
-        return done.stderr
-
-    def keep(self, name, **environment):
-        sources = self.works("scripts/current.py", "--sources", name, **environment)
-        self.works("scripts/current.py", "--keep", name, "/dev/stdin", text=sources, **environment)
-
-    def build_program(self, says="built here"):
-        self.write("crates/kvbucket/out/kvbucket", PROGRAM % says, is_run=True)
-        self.keep("kvbucket")
-
-    def build_static(self, path, source):
-        """Makes a static library of a text in C."""
-        self.write("it.c", source)
-        os.makedirs(os.path.dirname(self.path(path)), exist_ok=True)
-        self.works("cc", "-Iinclude", "-fPIC", "-c", "it.c", "-o", "it.o")
-        self.works("ar", "rcD", path, "it.o")
-
-    def build_library(self, number=1):
-        self.build_static("lib/libvilgoued.a", LIBRARY % number)
-        self.works("cc", "-shared", "-o", "lib/libvilgoued.so", "it.o")
-        self.keep("libvilgoued")
-
-    def make(self):
-        """Builds all, makes the release, and answers its path."""
-        self.build_program()
-        self.build_library()
-        self.works("./release")
-        return self.path("dist/vilgoued-0.2.0-%s.tar.gz" % archive.machine())
-
-    def release(self):
-        """The same, of the tree as it was at first."""
-        for path in OUTPUTS:
-            shutil.rmtree(self.path(path), ignore_errors=True)
-        if not os.listdir(self.outputs):
-            self.make()
-            for path in OUTPUTS:
-                copy(self.path(path), os.path.join(self.outputs, path))
-        else:
-            for path in OUTPUTS:
-                copy(os.path.join(self.outputs, path), self.path(path))
-        return self.path("dist/vilgoued-0.2.0-%s.tar.gz" % archive.machine())
-
-    def forget_builds(self):
-        for path in OUTPUTS[:2]:
-            shutil.rmtree(self.path(path))
-
-    def alter(self, name, path, data):
-        """Makes the archive again, with other bytes of a member."""
-        self.works(sys.executable, "-B", "-c", ALTER, name, path, data)
+           "lib/python/vilgoued/py.typed", "share/man/man1/kvbucket.1", "share/man/man3/vilgoued.3",
+           "share/vilgoued/vilgoued-0.2.0-py3-none-manylinux_2_34_x86_64.whl"]
 
 
 class Making(Tree):
@@ -255,7 +109,7 @@ class Checking(Tree):
     def test_one_with_another_file_than_the_tree_fails(self):
         self.release()
         for path, members in (("docs/man/kvbucket.1", "share/man/man1/kvbucket.1"), ("LICENSE", "LICENSE, share/man/man1/kvbucket.1"),
-                              ("python/vilgoued/new.py", "LICENSE, lib/python/vilgoued/new.py, share/man/man1/kvbucket.1")):
+                              ("python/vilgoued/new.py", "LICENSE, lib/python/vilgoued/new.py, share/man/man1/kvbucket.1, %s" % MEMBERS[-1])):
             with self.subTest(path):
                 self.write(path, "changed\n")
                 self.assertIn("is not what was built (%s): run ./release" % members, self.refused("./release", "--check"))
@@ -355,7 +209,19 @@ class Running(Tree):
         done = self.run_in("./kvbucket")
         self.assertEqual((done.returncode, done.stdout), (0, "quick build\n"))
         self.assertIn("a quick build, which proves nothing", done.stderr)
-        self.assertIn("rt is not on the path", self.refused("./kvbucket", kit=False))
+        self.assertIn("rt is not on the path, nothing was built of these sources, and the release in dist/ is of other sources (crates/low): ",
+                      self.refused("./kvbucket", kit=False))
+
+    def test_with_neither_a_release_nor_the_kit_one_sentence_says_so(self):
+        self.assertIn("rt is not on the path, nothing was built of these sources, and there is no release in dist/: get one, ",
+                      self.refused("./kvbucket", kit=False))
+
+    def test_in_a_folder_that_takes_no_file_it_is_unpacked_into_one_of_the_users(self):
+        self.release()
+        self.forget_builds()
+        self.write("out", "no folder\n")
+        self.assertEqual(self.works("./kvbucket", kit=False), "built here\n")
+        self.assertEqual(os.listdir(os.path.join(self.room, ".cache")), ["vilgoued"])
 
     def test_a_change_of_the_library_alone_leaves_the_program(self):
         self.release()

@@ -38,7 +38,7 @@ class Scripts(refusing.RefusingTest):
         self.assertTrue(requests and met, "no request for memory was refused")
         return met
 
-    def test_scripts(self):
+    def test_each_script_has_its_answers_and_ends_well_with_any_request_refused(self):
         count = refusals = 0
         for script in scripts():
             command, stdin = [program.path, *script.arguments], os.path.join(self.folder, script.name)

@@ -38,11 +38,11 @@ class WhileMoreIsAwaited(unittest.TestCase):
                 run.kill()
                 self.fail("it does not end")
 
-    def test_a_pipe(self):
+    def test_it_answers_a_pipe_before_the_next_line(self):
         read_end, write_end = os.pipe()
         self.talks(read_end, write_end, lambda: os.close(write_end))
 
-    def test_a_terminal(self):
+    def test_it_answers_a_terminal_before_the_next_line(self):
         held, terminal = pty.openpty()
         self.addCleanup(os.close, held)
         self.talks(terminal, held, lambda: os.write(held, b"\x04"))
@@ -79,23 +79,23 @@ class LongScripts(unittest.TestCase):
             self.assertLess(peak, megabytes)
         return last
 
-    def test_a_million_puts_and_gets(self):
+    def test_a_million_puts_and_gets_stay_within_their_bounds(self):
         script = (b"put k%d MQ==\nget k%d\n" % (i % 1000, i % 1000) for i in range(500_000))
         last = self.streamed("1,000,000 lines of put and get", script, 1_000_000, 60, 400)
         with self.subTest("the last answer"):
             self.assertEqual(last[last.index(b"{"):].splitlines(True)[-1], b'{"key":"k999","op":"PUT","revision":500000,"size":1,"value":"MQ=="}\n')
 
     # A value of 1 MiB, whose answer has 1.4 MB: what waits is no more than 64 KiB and one answer.
-    def test_reads_of_a_large_value(self):
+    def test_reads_of_a_large_value_stay_within_their_bounds(self):
         large = base64.b64encode(bytes(1 << 20))
         self.streamed("2,000 reads of 1 MiB", [b"put a " + large + b"\n", 2_000 * b"get a\n"], 2_001, 120, 40)
 
-    def test_a_take_of_large_values(self):
+    def test_a_take_of_large_values_stays_within_its_bounds(self):
         large = base64.b64encode(bytes(1 << 20))
         puts = [piece for i in range(24) for piece in (b"put k%d " % i, large, b"\n")]
         self.streamed("one take of 24 values of 1 MiB", puts + [b"watch >\ntake 1 1000000\n"], 24 + 1 + 24 + 2, 120, 24 + 40)
 
-    def test_a_million_reads(self):
+    def test_a_million_reads_stay_within_their_bounds(self):
         script = [b"put a " + base64.b64encode(bytes(100)) + b"\n"] + 1_000 * [1_000 * b"get a\n"]
         self.streamed("1,000,000 reads of 100 bytes", script, 1_000_001, 60, 40)
 

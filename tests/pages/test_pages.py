@@ -44,9 +44,9 @@ def wrong(page, line, text):
 def parts_of(page):
     """The blocks of a page, as (line, kind, lines), its tables, as (line, arguments, rows), and its other lines, numbered. A block
     with no end is of the kind "no end"."""
-    blocks: list = []
-    tables: list = []
-    texts: list = []
+    blocks: list[Any] = []
+    tables: list[Any] = []
+    texts: list[Any] = []
     fence: Any = None
     table: Any = None
     for number, line in enumerate(read(os.path.join(top, page)).split("\n"), 1):
