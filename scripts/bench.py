@@ -389,7 +389,7 @@ def page(figures, load, machine, left_out, charts):
     yield "- %s" % machine.told()
     yield ("- The programs: `kv_bench` and `kvbucket`, proved and built by LLVM with %s. Times are of the system's monotonic "
            "clock, unless they are called processor time." % (kit.version() or "an unknown kit"))
-    yield ("- Values of 16 bytes; keys of 3 to 8, and five entries of a key kept, but of lines keys of 14 to 19, and one entry. A pass "
+    yield ("- Values of 16 bytes; keys of 3 to 8, and five entries of a key kept, but one where threads read all keys; of lines keys of 14 to 19, and one entry. A pass "
            "has three rounds, one of followers, of Rust's own crates and where memory is weighed; more than 100,000 keys, and the delays, have all their "
            "rounds in the first pass. What is read back is checked: a wrong answer ends the bench.")
     yield ("- A bucket stores at most 1,000,000 writes, and a full one takes none. So what is written to while it is measured has fewer "

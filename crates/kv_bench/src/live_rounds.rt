@@ -3,7 +3,7 @@
 ghost use Rattle.std.specs.Prelude.{◌≡◌};
 
 use crate::jobs::{Job, perform_all};
-use crate::lives::{Follows, Load, Reads, Writes, fill, opened, spread_load};
+use crate::lives::{Follows, Load, Reads, Writes, fill, opened, opened_for_latest, spread_load};
 use crate::round::{Done, Round, Task, asked};
 use crate::told::{Over, most, tell_all, untold};
 use kv_bucket::{Filters, KvError, Live, LiveName, Opened, Reader};
@@ -154,6 +154,9 @@ pub fn run<R: Threads + Wait + Sync + Clock + CpuClock + Print>(
     plan: Plan,
     task: Task,
 ) -> Result<(), Fault> {
-    let opened = opened(alloc, most(task))?;
+    let opened = match task {
+        Task::ReadAll => opened_for_latest(alloc, most(task))?,
+        _ => opened(alloc, most(task))?,
+    };
     opened_figures::<Brand, R>(rt, alloc, plan.with_room(), task, opened)
 }

@@ -1,7 +1,7 @@
 //! A live bucket: its readers, its writers and its feeds.
 
 use crate::sides::{Copies, Gets, Named, Puts, Takes};
-use kv_bucket::{Cached, Feed, Key, Live, LiveName, Opened, Reader, Request, Taken};
+use kv_bucket::{Cached, Config, Feed, Key, Live, LiveName, Opened, Reader, Request, Taken};
 use kv_gauge::fault::Fault;
 use kv_gauge::keys::{key, put, puts, spread};
 use kv_gauge::plan::Plan;
@@ -20,6 +20,16 @@ const MOST_NAPS: usize = 100_000;
 /// A bucket that threads share, opened for so many readers.
 pub fn opened(alloc: Global, readers: usize) -> Result<Opened, Fault> {
     let config = config(alloc)?;
+    let opened = Live::open(alloc, &config, readers)?;
+    Ok(opened)
+}
+
+/// The same, that keeps one entry of each key. So a compaction makes room again where all keys were written to.
+pub fn opened_for_latest(alloc: Global, readers: usize) -> Result<Opened, Fault> {
+    let config = Config {
+        history: 1,
+        ..config(alloc)?
+    };
     let opened = Live::open(alloc, &config, readers)?;
     Ok(opened)
 }
