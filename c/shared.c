@@ -34,6 +34,7 @@ struct core {
     uint64_t last, floor; /* the bucket's last revision, and the floor that it was compacted to */
     _Atomic size_t references;
     struct place *followers, *readers, *keeping_up;
+    _Atomic(struct reader *) catching_up; /* readers that keep up from the next act on */
     bool has_waiters; /* whether a follower may be asleep, or a descriptor wait to become readable */
     /* Readers load the sequence all the time, so it has a cache line for itself. */
     char before[64];
@@ -53,8 +54,9 @@ struct page {
  * who hold the mutex; where one is, whoever takes the offer away has the page. */
 enum { OFFERED = 2 };
 
-/* How often a reader that is to be offered a view looks for it before it takes the mutex. */
-enum { LOOKS = 64 };
+/* How often a reader looks for a view that it is to be offered before it sleeps for the mutex: tens of microseconds. At
+ * one look of so many it tries the mutex too, which takes its cache line from whoever has it. */
+enum { LOOKS = 512, LOOKS_FOR_ONE_TRY = 16 };
 
 struct reader {
     struct core *core;
@@ -63,8 +65,9 @@ struct reader {
     struct place among_all;
     char before[64];
     _Atomic unsigned offer;
-    _Atomic bool is_keeping_up; /* it changes under the mutex */
+    _Atomic bool is_keeping_up; /* or catching up: the reader sets it, and who has the mutex ends it */
     struct place among_keeping_up;
+    struct reader *next_catching_up;
     char behind[64];
     struct page pages[2];
 };
@@ -124,19 +127,33 @@ static struct reader *keeping_up(struct place *place) {
     return STANDS_IN(struct reader, among_keeping_up, place);
 }
 
-/* A reader that keeps up is offered a view of each act. Under the mutex. */
-static void keep_up(struct reader *reader) {
-    if (atomic_load_explicit(&reader->is_keeping_up, memory_order_relaxed))
-        return;
-    join(&reader->core->keeping_up, &reader->among_keeping_up);
+/* A reader that fell behind is offered a view of each act again, from the one on that is made now. It asks for that
+ * without the mutex: who makes one act after another would have the mutex again before a sleeper is awake. */
+static void catch_up(struct reader *reader) {
+    struct core *core = reader->core;
+    struct reader *next = atomic_load_explicit(&core->catching_up, memory_order_relaxed);
     atomic_store_explicit(&reader->is_keeping_up, true, memory_order_relaxed);
+    do
+        reader->next_catching_up = next;
+    while (!atomic_compare_exchange_weak_explicit(&core->catching_up, &next, reader, memory_order_release,
+                                                  memory_order_relaxed));
 }
 
-static void fall_behind(struct reader *reader) {
-    if (!atomic_load_explicit(&reader->is_keeping_up, memory_order_relaxed))
+/* Those that catch up keep up. Under the mutex. */
+static void admit(struct core *core) {
+    struct reader *next;
+    if (!atomic_load_explicit(&core->catching_up, memory_order_relaxed))
         return;
+    for (struct reader *it = atomic_exchange_explicit(&core->catching_up, NULL, memory_order_acquire); it; it = next) {
+        next = it->next_catching_up;
+        join(&core->keeping_up, &it->among_keeping_up);
+    }
+}
+
+/* Under the mutex. */
+static void fall_behind(struct reader *reader) {
     part(&reader->among_keeping_up);
-    atomic_store_explicit(&reader->is_keeping_up, false, memory_order_relaxed);
+    atomic_store_explicit(&reader->is_keeping_up, false, memory_order_release);
 }
 
 /* Puts a number for an offer that is there. It is false where the other side was there first. */
@@ -155,9 +172,10 @@ static bool take_offer(struct reader *reader) {
     return true;
 }
 
-/* Before what changes the sequence: frees the views that readers left, and those that they did not take, so that the
- * nodes of these are changed in place. Who did not take the last one falls behind: a reader that looks less often than
- * others write takes the mutex, and has them copy nothing meanwhile. Under the mutex. */
+/* Behind an act, before the sequence tells it: up to here readers may take what was offered at the last one, so none
+ * that keeps up waits for an act. Frees the views that readers left, and those that they did not take. Who did not take
+ * one falls behind: a reader that looks less often than others write has them copy nothing meanwhile. Under the
+ * mutex. */
 static void end_offers(struct core *core) {
     struct place *next;
     for (struct place *it = core->keeping_up; it; it = next) {
@@ -195,9 +213,11 @@ static void publish(struct core *core, uint64_t sequence) {
         signal_fd(STANDS_IN(struct follower, among_all, it));
 }
 
-/* The same where end_offers came before. A view is offered behind the change: once one reader has what is new, every
- * other that asks goes on to it. Under the mutex. */
+/* The same for what readers read. A view is offered behind the change of the sequence: once one reader has what is new,
+ * every other that asks goes on to it. Under the mutex. */
 static void publish_and_offer(struct core *core, uint64_t sequence) {
+    end_offers(core);
+    admit(core);
     open_offers(core, sequence);
     publish(core, sequence);
     for (struct place *it = core->keeping_up; it; it = it->next)
@@ -240,14 +260,6 @@ static struct core *enter(kv_shared *shared) {
             break;
         }
     return NULL;
-}
-
-/* The same before an act. */
-static struct core *enter_to_act(kv_shared *shared) {
-    struct core *core = enter(shared);
-    if (core)
-        end_offers(core);
-    return core;
 }
 
 /* Drops one reference. */
@@ -297,7 +309,7 @@ uint64_t kv_shared_open(kv_shared *shared, const uint8_t *name, size_t name_size
 }
 
 uint64_t kv_shared_finish(kv_shared *shared) {
-    struct core *core = enter_to_act(shared);
+    struct core *core = enter(shared);
     if (!core)
         return KV_CLOSED;
     publish_and_offer(core, sequence_of(core) | FINISHED);
@@ -322,7 +334,7 @@ void kv_shared_close(kv_shared *shared) {
 
 uint64_t kv_shared_put(kv_shared *shared, const uint8_t *key, size_t key_size, const uint8_t *value, size_t value_size,
                        uint64_t *revision) {
-    struct core *core = enter_to_act(shared);
+    struct core *core = enter(shared);
     return !core ? KV_CLOSED
                  : leave_written(shared, core, kv_put(&core->bucket, key, key_size, value, value_size, revision),
                                  revision);
@@ -330,7 +342,7 @@ uint64_t kv_shared_put(kv_shared *shared, const uint8_t *key, size_t key_size, c
 
 uint64_t kv_shared_create(kv_shared *shared, const uint8_t *key, size_t key_size, const uint8_t *value,
                           size_t value_size, uint64_t *revision) {
-    struct core *core = enter_to_act(shared);
+    struct core *core = enter(shared);
     return !core ? KV_CLOSED
                  : leave_written(shared, core, kv_create(&core->bucket, key, key_size, value, value_size, revision),
                                  revision);
@@ -338,7 +350,7 @@ uint64_t kv_shared_create(kv_shared *shared, const uint8_t *key, size_t key_size
 
 uint64_t kv_shared_update(kv_shared *shared, const uint8_t *key, size_t key_size, const uint8_t *value,
                           size_t value_size, uint64_t last, uint64_t *revision) {
-    struct core *core = enter_to_act(shared);
+    struct core *core = enter(shared);
     return !core ? KV_CLOSED
                  : leave_written(shared, core,
                                  kv_update(&core->bucket, key, key_size, value, value_size, last, revision), revision);
@@ -346,7 +358,7 @@ uint64_t kv_shared_update(kv_shared *shared, const uint8_t *key, size_t key_size
 
 uint64_t kv_shared_delete(kv_shared *shared, const uint8_t *key, size_t key_size, bool has_last, uint64_t last,
                           uint64_t *revision) {
-    struct core *core = enter_to_act(shared);
+    struct core *core = enter(shared);
     return !core ? KV_CLOSED
                  : leave_written(shared, core, kv_delete(&core->bucket, key, key_size, has_last, last, revision),
                                  revision);
@@ -354,7 +366,7 @@ uint64_t kv_shared_delete(kv_shared *shared, const uint8_t *key, size_t key_size
 
 uint64_t kv_shared_purge(kv_shared *shared, const uint8_t *key, size_t key_size, bool has_last, uint64_t last,
                          uint64_t *revision) {
-    struct core *core = enter_to_act(shared);
+    struct core *core = enter(shared);
     return !core ? KV_CLOSED
                  : leave_written(shared, core, kv_purge(&core->bucket, key, key_size, has_last, last, revision),
                                  revision);
@@ -362,7 +374,7 @@ uint64_t kv_shared_purge(kv_shared *shared, const uint8_t *key, size_t key_size,
 
 /* A batch of no writes is no act: nothing is published. */
 uint64_t kv_shared_write_all(kv_shared *shared, kv_batch *batch, uint64_t *revision, size_t *at) {
-    struct core *core = enter_to_act(shared);
+    struct core *core = enter(shared);
     size_t size = 0;
     uint64_t code;
     if (!core)
@@ -377,12 +389,12 @@ uint64_t kv_shared_write_all(kv_shared *shared, kv_batch *batch, uint64_t *revis
 }
 
 uint64_t kv_shared_seal(kv_shared *shared) {
-    struct core *core = enter_to_act(shared);
+    struct core *core = enter(shared);
     return !core ? KV_CLOSED : leave_published(shared, core, kv_seal(&core->bucket));
 }
 
 uint64_t kv_shared_compact(kv_shared *shared, uint64_t floor, uint64_t *watch) {
-    struct core *core = enter_to_act(shared);
+    struct core *core = enter(shared);
     uint64_t code;
     if (!core)
         return KV_CLOSED;
@@ -498,29 +510,40 @@ uint64_t kv_reader_open(kv_shared *shared, kv_reader *handle) {
     return leave(shared, core, code);
 }
 
-/* Goes on under the mutex: to a view that was offered meanwhile, or to one of its own, from which on it keeps up. */
-static uint64_t go_on(struct reader *reader) {
+/* Goes on to a view that was offered meanwhile, or to one of its own. Under the mutex, which it lets go. */
+static uint64_t go_on_and_unlock(struct reader *reader) {
     struct core *core = reader->core;
-    struct page *page;
+    struct page *page = &reader->pages[reader->at];
     kv_view later = {0}, left = {0};
-    uint64_t sequence, code = KV_OK;
-    pthread_mutex_lock(&core->lock);
-    sequence = sequence_of(core);
+    uint64_t sequence = sequence_of(core), code = KV_OK;
     if (sequence & CLOSED)
         code = KV_CLOSED;
     else if (!take_offer(reader)) {
         code = kv_snapshot(&core->bucket, &later);
         if (code == KV_OK) {
-            page = &reader->pages[reader->at];
             left = page->view;
             *page = (struct page){.view = later, .seen = sequence, .last = core->last};
             atomic_store_explicit(&reader->last, core->last, memory_order_relaxed);
-            keep_up(reader);
         }
     }
     pthread_mutex_unlock(&core->lock);
     kv_view_close(&left);
     return code;
+}
+
+/* Goes on to what is published: by an offer, or by the mutex, whichever it has first. */
+static uint64_t go_on(struct reader *reader) {
+    for (int i = 0; i < LOOKS; i++) {
+        if (!atomic_load_explicit(&reader->is_keeping_up, memory_order_acquire))
+            catch_up(reader);
+        if (take_offer(reader))
+            return KV_OK;
+        if (i % LOOKS_FOR_ONE_TRY == 0 && pthread_mutex_trylock(&reader->core->lock) == 0)
+            return go_on_and_unlock(reader);
+        __builtin_ia32_pause();
+    }
+    pthread_mutex_lock(&reader->core->lock);
+    return go_on_and_unlock(reader);
 }
 
 /* The view of a handle's reader, gone on to all that is published; NULL where it can't, and the code says why. What was
@@ -536,11 +559,6 @@ static kv_view *refreshed(kv_reader *handle, uint64_t *code) {
         return &reader->pages[reader->at].view;
     if (sequence & CLOSED)
         return NULL;
-    for (int i = 0; i < LOOKS && atomic_load_explicit(&reader->is_keeping_up, memory_order_relaxed); i++) {
-        if (take_offer(reader))
-            return &reader->pages[reader->at].view;
-        __builtin_ia32_pause();
-    }
     *code = go_on(reader);
     return *code == KV_OK ? &reader->pages[reader->at].view : NULL;
 }
@@ -585,7 +603,9 @@ void kv_reader_close(kv_reader *handle) {
         return;
     *handle = (kv_reader){0};
     pthread_mutex_lock(&reader->core->lock);
-    fall_behind(reader);
+    admit(reader->core);
+    if (atomic_load_explicit(&reader->is_keeping_up, memory_order_relaxed))
+        fall_behind(reader);
     part(&reader->among_all);
     pthread_mutex_unlock(&reader->core->lock);
     kv_view_close(&reader->pages[0].view);

@@ -128,9 +128,10 @@ uint64_t kv_reader_open(kv_shared *shared, kv_reader *reader);
 /* Reads, as the calls of views in vilgoued.h that they are named after. One call at a time. Each first goes on to all
  * that is published: it reads every write that had returned when it began, and nothing older than what a reader of this
  * bucket had read by then. That is one atomic load where nothing is new. A reader that looks at each act is offered a
- * view of the next one by whoever writes that, and takes it by one exchange; one that does not look as often takes a
- * snapshot under the mutex. A write takes some 0.1 microseconds more for each reader that keeps up; it frees the views
- * that these left. */
+ * view of it by whoever writes it, and takes that by one exchange, also while the next act is being written. One that
+ * does not look as often takes a snapshot under the mutex, or is offered a view of the act that is being written. A
+ * write takes some microseconds more beside readers that keep up, as it copies what they have, and frees the views that
+ * these left. */
 uint64_t kv_reader_get(kv_reader *reader, const uint8_t *key, size_t key_size, uint8_t *room, size_t room_size,
                        size_t *size, uint64_t *revision);
 uint64_t kv_reader_get_at(kv_reader *reader, const uint8_t *key, size_t key_size, uint64_t at, uint8_t *room,

@@ -141,18 +141,20 @@ static double a_get_under_the_mutex(void) {
 }
 
 static _Atomic bool is_over;
-static _Atomic uint64_t written;
+static uint64_t written;
+static double of_a_put;
 
 /* Writes at this pace, or as fast as it can. */
 static void *writes(void *with) {
-    double pace = *(const double *)with, at = now();
+    double pace = *(const double *)with, at = now(), began = spent();
     uint64_t i = 0;
     for (; !atomic_load(&is_over) && i < 900000; i++) {
         put(i);
         for (at += pace; pace > 0 && now() < at && !atomic_load(&is_over);)
             ;
     }
-    atomic_store(&written, i);
+    of_a_put = (spent() - began) / (double)i;
+    written = i;
     return NULL;
 }
 
@@ -189,6 +191,7 @@ static void gets(void) {
     gets_beside("a writer of 10,000 a second", 1e5);
     gets_beside("a writer of 100,000 a second", 1e4);
     gets_beside("a writer as fast as it can", 0);
+    told("kv_shared_put of this writer", of_a_put);
 }
 
 /* A thread that sleeps, and when it was woken. */
