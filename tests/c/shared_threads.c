@@ -1,4 +1,4 @@
-/* Threads that share a bucket. The first word is by how much less there is of everything, for slow runs. */
+/* Threads that share a bucket. A word tells that a sanitizer looks on, or `valgrind`. */
 #include "vilgoued_shared.h"
 #include "wanting.h"
 #include <poll.h>
@@ -9,11 +9,12 @@
 #include <time.h>
 #include <unistd.h>
 
-enum { WRITERS = 4, READERS = 4, FOLLOWERS = 4, KEYS = 64, MOST = 50000, PATIENCE = 60000 };
+enum { WRITERS = 4, READERS = 4, FOLLOWERS = 4, KEYS = 64, PATIENCE = 60000 };
+enum { EACH = 50000, ROUNDS = 10000, CLOSES = 500 };
 
 static const kv_limits limits = {1, 1048576, 1000000, 4294967295};
 static const kv_options updates = {KV_UPDATES, 0, false, false};
-static int each = MOST, rounds = 10000, closes = 500;
+static bool is_looked_on, takes_turns;
 
 static kv_shared bucket;
 
@@ -23,8 +24,12 @@ static double seconds(clockid_t clock) {
     return (double)now.tv_sec + (double)now.tv_nsec / 1e9;
 }
 
+/* With the system's own stack of 8 MiB a thread takes valgrind some 20 ms to begin, and most of the run is that. */
 static void begin(pthread_t *thread, void *(*does)(void *), void *with) {
-    WANT(pthread_create(thread, NULL, does, with) == 0);
+    pthread_attr_t small;
+    WANT(pthread_attr_init(&small) == 0 && pthread_attr_setstacksize(&small, 1 << 18) == 0);
+    WANT(pthread_create(thread, &small, does, with) == 0);
+    pthread_attr_destroy(&small);
 }
 
 static void end(pthread_t thread) {
@@ -33,6 +38,12 @@ static void end(pthread_t thread) {
 
 static void put(kv_shared *b, const char *key, const char *value, uint64_t *revision) {
     WANT(kv_shared_put(b, B(key), B(value), revision) == KV_OK);
+}
+
+/* Valgrind runs one thread at a time, and one that has nothing to do would go on so to the end of its turn. */
+static void has_nothing_to_do(void) {
+    if (takes_turns)
+        sched_yield();
 }
 
 /* What is handed out, for one thread. */
@@ -55,7 +66,7 @@ static uint64_t next(kv_follower *f, uint64_t milliseconds, struct taken *t) {
 /* Writers and who follows and reads them. Of writer w the i-th write puts i to wW.kI, I being i modulo KEYS, or deletes
  * that key where i is a multiple of 16. */
 
-static uint32_t revisions[WRITERS][MOST];
+static uint32_t revisions[WRITERS][EACH];
 static _Atomic uint64_t known; /* the highest revision that a write has answered, or a reader read */
 
 static void is_known(uint64_t revision) {
@@ -70,7 +81,7 @@ static bool deletes(int i) {
 
 static void *writes(void *with) {
     int w = (int)(intptr_t)with;
-    for (int i = 0; i < each; i++) {
+    for (int i = 0; i < EACH; i++) {
         char key[32], value[32];
         uint64_t revision = 0;
         snprintf(key, sizeof key, "w%d.k%d", w, i % KEYS);
@@ -93,12 +104,14 @@ static void *reads(void *with) {
     (void)with;
     snprintf(key, sizeof key, "w%d.k0", (int)(intptr_t)with);
     WANT(kv_reader_open(&bucket, &reader) == KV_OK);
-    while (last < (uint64_t)each * WRITERS) {
+    while (last < (uint64_t)EACH * WRITERS) {
         uint64_t before = atomic_load(&known), revision = 0, code;
         size_t size = 0;
         uint8_t value[32] = {0};
         kv_status status;
         WANT(kv_reader_get_status(&reader, &status) == KV_OK && status.last >= before && status.last >= last);
+        if (status.last == last)
+            has_nothing_to_do();
         last = status.last;
         is_known(last);
         code = kv_reader_get(&reader, B(key), value, sizeof value - 1, &size, &revision);
@@ -119,7 +132,7 @@ static struct following {
     bool polls;
     kv_follower follower;
     uint64_t handed;
-    uint32_t revisions[WRITERS * MOST];
+    uint32_t revisions[WRITERS * EACH];
 } followings[FOLLOWERS] = {
     {.filters = ">", .writers = 15},
     {.filters = "w0.>", .writers = 1, .polls = true},
@@ -158,7 +171,7 @@ static void *follows(void *with) {
 static void *compacts(void *with) {
     struct timespec pause = {0, 5000000};
     (void)with;
-    while (atomic_load(&known) < (uint64_t)each * WRITERS) {
+    while (atomic_load(&known) < (uint64_t)EACH * WRITERS) {
         uint64_t floor = 0, watch = 0, code;
         WANT(kv_shared_reach(&bucket, &floor) == KV_OK);
         code = floor == 0 ? KV_OK : kv_shared_compact(&bucket, floor, &watch);
@@ -174,9 +187,9 @@ static void handed_all(const struct following *it) {
     for (uint64_t n = 0;; n++) {
         int first = -1;
         for (int w = 0; w < WRITERS; w++) {
-            while (at[w] < each && !matches(it, w, at[w]))
+            while (at[w] < EACH && !matches(it, w, at[w]))
                 at[w]++;
-            if (at[w] < each && (first < 0 || revisions[w][at[w]] < revisions[first][at[first]]))
+            if (at[w] < EACH && (first < 0 || revisions[w][at[w]] < revisions[first][at[first]]))
                 first = w;
         }
         if (first < 0) {
@@ -214,7 +227,7 @@ static void all_at_once(void) {
         handed_all(&followings[i]);
     }
     printf("%d writes by %d threads: each follower was handed what it matches, once, in order; each reader only grew\n",
-           each * WRITERS, WRITERS);
+           EACH * WRITERS, WRITERS);
 }
 
 /* Batches of two keys that always have the same value: nobody is shown the one without the other. */
@@ -224,7 +237,7 @@ enum { PAIRERS = 2 };
 static void *writes_pairs(void *with) {
     kv_batch batch = {0};
     uint64_t last = 0;
-    for (int i = 0; i < rounds; i++) {
+    for (int i = 0; i < ROUNDS; i++) {
         char text[32];
         uint64_t revision = 0;
         size_t at = 77;
@@ -249,7 +262,7 @@ static void *reads_pairs(void *with) {
     kv_reader reader = {0};
     uint64_t last = 0;
     WANT(kv_reader_open(&bucket, &reader) == KV_OK);
-    while (last < (uint64_t)rounds * PAIRERS * 2) {
+    while (last < (uint64_t)ROUNDS * PAIRERS * 2) {
         uint64_t before = atomic_load(&known), left = 0, right = 0;
         uint8_t of_left[32], of_right[32];
         size_t left_size = 0, right_size = 0;
@@ -257,6 +270,8 @@ static void *reads_pairs(void *with) {
         kv_status status;
         WANT(kv_reader_get_status(&reader, &status) == KV_OK && status.last % 2 == 0);
         WANT(status.last >= before && status.last >= last);
+        if (status.last == last)
+            has_nothing_to_do();
         last = status.last;
         is_known(last);
         if (!with || last == 0)
@@ -285,7 +300,7 @@ static void *follows_pairs(void *with) {
         WANT(left.item.revision == revision + 1 && right.item.revision == revision + 2 && !strcmp(left.value, right.value));
         revision += 2;
     }
-    WANT(revision == (uint64_t)rounds * PAIRERS * 2);
+    WANT(revision == (uint64_t)ROUNDS * PAIRERS * 2);
     return NULL;
 }
 
@@ -310,7 +325,7 @@ static void batches_are_whole(void) {
         kv_follower_close(&following[i]);
     }
     kv_shared_close(&bucket);
-    printf("%d batches of two: each reader, view and follower has both writes of each or neither\n", rounds * PAIRERS);
+    printf("%d batches of two: each reader, view and follower has both writes of each or neither\n", ROUNDS * PAIRERS);
 }
 
 /* Two threads that answer each other: each wake-up that were lost would end the wait of both. */
@@ -319,7 +334,7 @@ static void *answers(void *with) {
     kv_follower *pings = with;
     struct taken t;
     uint64_t revision;
-    for (int i = 0; i < rounds; i++) {
+    for (int i = 0; i < ROUNDS; i++) {
         WANT(next(pings, PATIENCE, &t) == KV_OK && t.item.kind == KV_ENTRY && atoi(t.value) == i);
         for (volatile int spin = 0; spin < i * 7 % 1000; spin++)
             ;
@@ -337,7 +352,7 @@ static void no_wake_up_is_lost(void) {
     WANT(kv_follower_open(&bucket, B("ping"), &updates, &pings) == KV_OK);
     WANT(kv_follower_open(&bucket, B("pong"), &updates, &pongs) == KV_OK);
     begin(&other, answers, &pings);
-    for (int i = 0; i < rounds; i++) {
+    for (int i = 0; i < ROUNDS; i++) {
         char value[32];
         snprintf(value, sizeof value, "%d", i);
         for (volatile int spin = 0; spin < i * 13 % 1000; spin++)
@@ -349,7 +364,7 @@ static void no_wake_up_is_lost(void) {
     kv_follower_close(&pings);
     kv_follower_close(&pongs);
     kv_shared_close(&bucket);
-    printf("%d rounds of two threads that wake each other: no wake-up is lost\n", rounds);
+    printf("%d rounds of two threads that wake each other: no wake-up is lost\n", ROUNDS);
 }
 
 static void sleeps_for_nothing(void) {
@@ -368,7 +383,7 @@ static void sleeps_for_nothing(void) {
     cpu = seconds(CLOCK_PROCESS_CPUTIME_ID) - cpu;
     before = seconds(CLOCK_MONOTONIC) - before;
     /* What a sanitizer does meanwhile in threads of its own counts as well. */
-    WANT(before >= 1 && before < 30 && (cpu < 0.001 || each < MOST));
+    WANT(before >= 1 && before < 30 && (cpu < 0.001 || is_looked_on));
     kv_follower_close(&f);
     kv_shared_close(&bucket);
     printf("a follower asleep for %.3f s took %.3f ms of processor time\n", before, cpu * 1000);
@@ -409,7 +424,7 @@ static void sleeps_on(void) {
 static void *writes_both(void *with) {
     uint64_t revision;
     (void)with;
-    for (int i = 0; i < rounds; i++) {
+    for (int i = 0; i < ROUNDS; i++) {
         put(&bucket, i % 3 ? "a" : "b", "1", &revision);
         if (i % 64 == 0)
             sched_yield();
@@ -447,8 +462,8 @@ static void waits_in_a_loop(void) {
     end(other);
     close(loop);
     kv_shared_close(&bucket);
-    WANT(handed[1] == (rounds + 2) / 3 && handed[0] == rounds - handed[1]);
-    printf("%d items of two followers in one loop of epoll\n", rounds);
+    WANT(handed[1] == (ROUNDS + 2) / 3 && handed[0] == ROUNDS - handed[1]);
+    printf("%d items of two followers in one loop of epoll\n", ROUNDS);
 }
 
 /* A close while others do all that they can. Each comes to an end, and closes its own handle. */
@@ -498,6 +513,7 @@ static void *reads_until_closed(void *with) {
         code = kv_reader_get(&r, B("a"), value, sizeof value, &size, &revision);
         if (code == KV_KEY_NOT_FOUND)
             code = KV_OK;
+        has_nothing_to_do();
     }
     WANT(code == KV_CLOSED);
     kv_reader_close(&r);
@@ -508,8 +524,10 @@ static void *writes_until_closed(void *with) {
     uint64_t revision, code = KV_OK;
     (void)with;
     atomic_fetch_add(&inside, 1);
-    while (code == KV_OK)
+    while (code == KV_OK) {
         code = kv_shared_put(&bucket, B("a"), B("1"), &revision);
+        has_nothing_to_do();
+    }
     WANT(code == KV_CLOSED && kv_shared_put(&bucket, B("a"), B("1"), &revision) == KV_CLOSED);
     return NULL;
 }
@@ -524,7 +542,7 @@ static void closes_beside_all(void) {
     void *(*const roles[])(void *) = {sleeps_until_closed, sleeps_until_closed, polls_until_closed,
                                       reads_until_closed,  writes_until_closed, writes_until_closed};
     enum { ROLES = sizeof roles / sizeof *roles };
-    for (int round = 0; round < closes; round++) {
+    for (int round = 0; round < CLOSES; round++) {
         pthread_t threads[ROLES], second;
         int waits_for = round % (ROLES + 1);
         atomic_store(&inside, 0);
@@ -542,7 +560,7 @@ static void closes_beside_all(void) {
             end(second);
         WANT(bucket.state == 0);
     }
-    printf("%d closes while others sleep, wait, read and write\n", closes);
+    printf("%d closes while others sleep, wait, read and write\n", CLOSES);
 }
 
 /* A stop from another thread. */
@@ -555,7 +573,7 @@ static void *sleeps_until_stopped(void *with) {
 
 static void stops_a_sleeper(void) {
     struct timespec pause = {0, 1000000};
-    for (int i = 0; i < closes; i++) {
+    for (int i = 0; i < CLOSES; i++) {
         kv_follower f = {0}, other = {0};
         pthread_t sleeper;
         struct taken t;
@@ -574,17 +592,14 @@ static void stops_a_sleeper(void) {
         kv_follower_close(&other);
         kv_shared_close(&bucket);
     }
-    printf("%d sleepers stopped\n", closes);
+    printf("%d sleepers stopped\n", CLOSES);
 }
 
 int main(int argc, char **argv) {
-    int less = argc > 1 ? atoi(argv[1]) : 1;
-    WANT(less >= 1 && less <= 50);
+    is_looked_on = argc > 1;
+    takes_turns = is_looked_on && !strcmp(argv[1], "valgrind");
     /* Whoever waits for ever ends the run. */
     alarm(300);
-    each /= less;
-    rounds /= less;
-    closes = closes / less + 8;
     all_at_once();
     batches_are_whole();
     no_wake_up_is_lost();

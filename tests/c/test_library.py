@@ -30,7 +30,9 @@ class Programs(ProgramTest):
 
     @unittest.skipUnless(shutil.which("valgrind"), "valgrind is not installed: apt-get install valgrind")
     def test_valgrind_finds_nothing(self):
-        ran("valgrind", "-q", "--leak-check=full", "--error-exitcode=9", self.built("use", "-O2"))
+        for name in "use", "threads", "sweep":
+            with self.subTest(name):
+                ran("valgrind", "-q", "--leak-check=full", "--error-exitcode=9", "--fair-sched=yes", self.built(name, "-O2", "-g"))
 
 
 class Quoted(unittest.TestCase):

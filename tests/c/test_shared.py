@@ -1,6 +1,6 @@
 """vilgoued_shared.h, the shell in C by which threads share a bucket, as programs in C use it: each function and each refusal; writers,
-readers and followers at once; sleeping, waking and closing; each request for memory refused; the same under sanitizers and valgrind
-where they are installed, with less of everything. What calls take is printed."""
+readers and followers at once; sleeping, waking and closing; each request for memory refused; all of the same under sanitizers and
+valgrind where they are installed. What calls take is printed."""
 import os, shutil, unittest
 
 from tests.c.compiling import C, CHECKED, CXX, INCLUDE, OPENING, SHARED, SHELL, STATIC, STRICT, ProgramTest, here, ran
@@ -10,9 +10,13 @@ from tests.pages.examples import blocks, lines_of
 # nothing, not even that a count of owners orders a free behind the last read.
 RACES = ["-g", "-O1", "-fsanitize=thread", "-include", os.path.join(here, "touching.h")]
 NOT_SEEN = os.path.join(here, "races-not-seen")
-# By how much less there is of everything where each step is slow.
-LESS = "4"
-LEAST = "50"
+# What is run where something looks on, and the word that tells it so. None of it is left out or made less: of the threads, which take
+# longest, sanitizers run all in 5 s, and valgrind in 25 s of one processor.
+PROGRAMS = ("shared_use", "shared_threads", "shared_sweep")
+
+
+def words(name, looking_on):
+    return [looking_on] if name == "shared_threads" else []
 
 
 class Shell(ProgramTest):
@@ -48,21 +52,23 @@ class Programs(ProgramTest):
 
     def test_sanitizers_of_addresses_and_undefined_behaviour_find_nothing(self):
         self.needs(*CHECKED)
-        for name, *words in (["shared_use"], ["shared_threads", LESS], ["shared_sweep"]):
+        for name in PROGRAMS:
             with self.subTest(name):
-                ran(self.built(name, SHELL, *CHECKED), *words)
+                ran(self.built(name, SHELL, *CHECKED), *words(name, "sanitizer"))
 
     def test_the_sanitizer_of_threads_finds_nothing(self):
         self.needs("-fsanitize=thread")
-        for name, *words in (["shared_use"], ["shared_threads", LESS], ["shared_sweep"]):
+        for name in PROGRAMS:
             with self.subTest(name):
-                ran(self.built(name, SHELL, *RACES, beside=SHARED), *words, TSAN_OPTIONS="suppressions=%s halt_on_error=1" % NOT_SEEN)
+                ran(self.built(name, SHELL, *RACES, beside=SHARED), *words(name, "sanitizer"),
+                    TSAN_OPTIONS="suppressions=%s halt_on_error=1" % NOT_SEEN)
 
     @unittest.skipUnless(shutil.which("valgrind"), "valgrind is not installed: apt-get install valgrind")
     def test_valgrind_finds_nothing(self):
-        for name, *words in (["shared_use"], ["shared_threads", LEAST], ["shared_sweep"]):
+        for name in PROGRAMS:
             with self.subTest(name):
-                ran("valgrind", "-q", "--leak-check=full", "--error-exitcode=9", "--fair-sched=yes", self.built(name, "-O2", "-g"), *words)
+                ran("valgrind", "-q", "--leak-check=full", "--error-exitcode=9", "--fair-sched=yes", self.built(name, "-O2", "-g"),
+                    *words(name, "valgrind"))
 
 
 class Quoted(unittest.TestCase):
