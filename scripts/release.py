@@ -4,7 +4,8 @@ which have to be of the sources as they are now, and tells its size.
 
 With --check it compares the release that lies in dist/ with what would be made now, byte for byte. What the machine's own C compiler makes
 of the library it compares so where that is the compiler of the release, and else by the sums of its sources; what the kit makes of it by
-its sum, whatever compiler there is. Where there is no dist/ it says that this is left out."""
+its sum, whatever compiler there is. A checkout whose commits have or had a release has to have one; where there is none else, it says that
+this is left out."""
 import os, subprocess, sys, tempfile
 
 if __name__ == "__main__":
@@ -127,9 +128,23 @@ def older(build):
     return [line.split()[1] for line in sources().splitlines() if line not in build.splitlines()]
 
 
+def commits_have_one():
+    """Whether this is a checkout, and one of its commits has dist/."""
+    if not os.path.lexists(os.path.join(top, ".git")):
+        return False
+    try:
+        done = subprocess.run(["git", "rev-list", "--max-count=1", "--all", "--", os.path.relpath(archive.FOLDER, top)], cwd=top,
+                              stdin=subprocess.DEVNULL, capture_output=True, text=True)
+    except OSError as error:
+        raise Refused("this is a checkout, and git, which tells whether its commits have a release, is not there: apt-get install git") from error
+    if done.returncode != 0:
+        raise Refused("git does not tell whether the commits of this checkout have a release: %s" % done.stderr.strip().partition("\n")[0])
+    return done.stdout != ""
+
+
 def check():
-    if not os.path.isdir(archive.FOLDER):
-        print("left out: there is no dist/, and so no release to compare")
+    if not archive.machines() and not commits_have_one():
+        print("1 left out: there is no release in dist/ to compare, and no commit has one")
         return
     name = archive.only()
     there = dict(archive.each(name))

@@ -84,8 +84,41 @@ class Making(Tree):
 
 
 class Checking(Tree):
-    def test_without_a_release_it_passes_and_says_so(self):
-        self.assertIn("there is no dist/", self.works("./release", "--check"))
+    def commit(self, *paths):
+        """Commits these files of the tree, in a repository of its own."""
+        git = ("git", "-c", "user.name=A Tree", "-c", "user.email=tree@example.org")
+        self.works("git", "init", "--quiet")
+        self.works("git", "add", "--", *paths)
+        self.works(*git, "commit", "--quiet", "--message=It")
+
+    def test_without_a_release_in_no_checkout_it_is_left_out(self):
+        self.assertRegex(self.works("./release", "--check"), "^1 left out: there is no release in dist/")
+
+    @unittest.skipUnless(shutil.which("git"), "git is not installed: apt-get install git")
+    def test_without_a_release_in_a_checkout_that_never_had_one_it_is_left_out(self):
+        self.works("git", "init", "--quiet")
+        self.assertRegex(self.works("./release", "--check"), "^1 left out: there is no release in dist/")
+        self.commit("LICENSE")
+        self.assertRegex(self.works("./release", "--check"), "^1 left out: there is no release in dist/")
+
+    @unittest.skipUnless(shutil.which("git"), "git is not installed: apt-get install git")
+    def test_a_release_that_a_commit_has_and_that_is_gone_fails(self):
+        self.release()
+        self.commit("dist")
+        self.works("./release", "--check")
+        for remove, gone in ((os.remove, self.path("dist/vilgoued-0.2.0-%s.tar.gz" % archive.machine())), (os.rmdir, self.path("dist"))):
+            with self.subTest(os.path.basename(gone)):
+                remove(gone)
+                self.assertRegex(self.refused("./release", "--check"), "^release: there is no release in dist/: .* ./release ")
+        with self.subTest("a later commit has none"):
+            self.works("git", "rm", "--quiet", "-r", "dist")
+            self.commit("LICENSE")
+            self.assertIn("there is no release in dist/", self.refused("./release", "--check"))
+
+    @unittest.skipUnless(shutil.which("git"), "git is not installed: apt-get install git")
+    def test_a_checkout_whose_commits_nobody_tells_fails(self):
+        self.write(".git", "gitdir: nowhere\n")
+        self.assertIn("git does not tell whether the commits of this checkout have a release", self.refused("./release", "--check"))
 
     def test_a_release_of_what_was_built_passes(self):
         self.release()
