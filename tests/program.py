@@ -17,7 +17,7 @@ class RunsTest(unittest.TestCase):
               standard_output=subprocess.PIPE, **given):
         """Runs the program: its status, and each text, exactly or as a part of what is written."""
         with self.subTest(name):
-            done = subprocess.run([path, *arguments], stderr=subprocess.PIPE, timeout=60, stdout=standard_output,
+            done = subprocess.run([path, *arguments], stderr=subprocess.PIPE, timeout=300, stdout=standard_output,
                                   **(given or {"stdin": standard_input}))
             written, told = (done.stdout or b"").decode(), done.stderr.decode()
             seen = "status %d, %r, %r" % (done.returncode, written[:200], told[:200])

@@ -33,7 +33,7 @@ def items_of(watch, matches, revisions):
 def race_of(workers):
     """What is wrong with one race, or nothing, and whether workers wrote in between each other."""
     try:
-        done = subprocess.run([program.path, "--race", str(workers)], input=SCRIPT, capture_output=True, timeout=20)
+        done = subprocess.run([program.path, "--race", str(workers)], input=SCRIPT, capture_output=True, timeout=300)
     except subprocess.TimeoutExpired:
         return "it did not end", False
     if done.returncode != 0 or done.stderr:

@@ -91,13 +91,13 @@ def arguments_in(line):
 
 def run_program(arguments, lines):
     text = "".join(line + "\n" for line in lines)
-    done = subprocess.run([program.path, *arguments], input=text.encode(), capture_output=True, timeout=120)
+    done = subprocess.run([program.path, *arguments], input=text.encode(), capture_output=True, timeout=300)
     return (done.stdout + done.stderr).decode().split("\n")[:-1]
 
 
 def run_shell(lines, folder):
     text = "\n".join(lines).replace("./kvbucket", shlex.quote(program.path))
-    done = subprocess.run(["bash", "-c", text], stdin=subprocess.DEVNULL, capture_output=True, timeout=120, cwd=folder)
+    done = subprocess.run(["bash", "-c", text], stdin=subprocess.DEVNULL, capture_output=True, timeout=300, cwd=folder)
     return (done.stdout + done.stderr).decode().split("\n")[:-1]
 
 

@@ -1,5 +1,6 @@
 """Watches that sleep for more, or wait for it in asyncio; over the library or on a NATS server, as test_vilgoued."""
 import asyncio
+import itertools
 import os
 import signal
 import subprocess
@@ -86,8 +87,10 @@ class Follow(OfBucket):
 
     def ends(self, end: Callable[[Any], object]) -> None:
         watch = self.bucket.watch(">")
+        items = watch.follow(LONG)
+        self.assertEqual(next(items), vilgoued.MARKER)
         timer = later(end, watch)
-        self.assertEqual(list(watch.follow(LONG)), [vilgoued.MARKER])
+        self.assertEqual(list(items), [])
         timer.join()
 
     def test_a_finish_ends_it(self) -> None:
@@ -109,8 +112,9 @@ class Follow(OfBucket):
         before = signal.signal(signal.SIGINT, signal.default_int_handler)
         self.addCleanup(signal.signal, signal.SIGINT, before)
         watch = self.bucket.watch(">", updates=True)
-        timer = later(os.kill, os.getpid(), signal.SIGINT)
+        timer = threading.Timer(0.1, os.kill, (os.getpid(), signal.SIGINT))
         with self.assertRaises(KeyboardInterrupt):
+            timer.start()
             list(watch.follow(LONG))
         timer.join()
         self.bucket["a"] = b"1"
@@ -122,13 +126,12 @@ class Follow(OfBucket):
         for reader in readers:
             reader.start()
         for number in range(50):
-            self.bucket["a"] = b"1"
+            self.bucket[f"a.{number}"] = b"1"
             time.sleep(0.001)
         self.bucket.finish()
         for reader in readers:
             reader.join(LONG)
-        self.assertEqual(sorted(revisions(found)), sorted(set(revisions(found))))
-        self.assertEqual(revisions(found)[-1:], [50])
+        self.assertEqual(sorted(revisions(found)), list(range(1, 51)))
 
     @unittest.skipIf(server, "watches have no limit there")
     def test_who_is_followed_counts_as_none_of_the_64(self) -> None:
@@ -206,12 +209,14 @@ class Changes(OfBucket):
 
     def test_the_close_of_the_bucket_ends_them(self) -> None:
         async def run() -> Any:
+            changes = self.bucket.watch(">").changes()
+            self.assertEqual(await changes.__anext__(), vilgoued.MARKER)
             timer = later(self.bucket.close)
-            found = [item async for item in self.bucket.watch(">").changes()]
+            found = [item async for item in changes]
             timer.join()
             return found
 
-        self.assertEqual(asyncio.run(run()), [vilgoued.MARKER])
+        self.assertEqual(asyncio.run(run()), [])
 
 
 SIX_THREADS = """
@@ -263,7 +268,7 @@ print(next(followed, None), next(watch.follow(0)).value)
 class Descriptors(unittest.TestCase):
     def test_where_the_system_gives_none_the_watch_stays_as_it_was(self) -> None:
         done = subprocess.run(
-            [sys.executable, "-B", "-c", NO_DESCRIPTORS], cwd=os.path.join(top, "python"), capture_output=True, text=True, timeout=60)
+            [sys.executable, "-B", "-c", NO_DESCRIPTORS], cwd=os.path.join(top, "python"), capture_output=True, text=True, timeout=LONG)
         self.assertEqual((done.stdout, done.stderr), ("a MARKER\n64 1\nNone b'2'\n", ""))
 
     def test_they_are_given_back(self) -> None:
@@ -282,7 +287,7 @@ class Descriptors(unittest.TestCase):
 class Threads(unittest.TestCase):
     def test_six_threads_put_to_one_bucket(self) -> None:
         done = subprocess.run(
-            [sys.executable, "-B", "-c", SIX_THREADS], cwd=os.path.join(top, "python"), capture_output=True, text=True, timeout=300)
+            [sys.executable, "-B", "-c", SIX_THREADS], cwd=os.path.join(top, "python"), capture_output=True, text=True, timeout=LONG)
         self.assertEqual((done.stdout, done.stderr), ("0 30000 30000 30000\n", ""))
 
     def test_threads_read_write_and_watch_one_bucket(self) -> None:
@@ -338,8 +343,10 @@ class Threads(unittest.TestCase):
 
         def use() -> None:
             try:
-                while True:
-                    bucket["a"] = b"1"
+                for at in itertools.count():
+                    # Not so many that the bucket is full, however long the pause is.
+                    if at < 1000:
+                        bucket["a"] = b"1"
                     bucket.get("a")
             except vilgoued.KvError as refusal:
                 refused.append(type(refusal))

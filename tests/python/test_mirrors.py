@@ -1,5 +1,6 @@
 """Mirrors, over the library or on a NATS server, as test_vilgoued; one that lags stands in test_lagging."""
 import threading
+import time
 import unittest
 from typing import Any, List, Optional, Tuple
 from unittest import mock
@@ -128,10 +129,11 @@ class Mirrors(OfBucket):
         threads = [threading.Thread(target=lambda: found.append(mirror.wait(LONG))) for _ in range(3)]
         for thread in threads:
             thread.start()
-        timer = later(self.bucket.put, "app.c", b"7")
+        while len(mirror._moved._waiters) < len(threads):
+            time.sleep(0.001)
+        self.bucket["app.c"] = b"7"
         for thread in threads:
             thread.join(LONG)
-        timer.join()
         self.assertEqual(found, [True] * 3)
 
     def test_behind_the_close_it_stays_as_it_was(self) -> None:

@@ -11,6 +11,9 @@ from tests.pages.examples import blocks
 server = os.environ.get("VILGOUED_SERVER")
 PAGE, URL = "docs/python.md", "nats://127.0.0.1:4222"
 EXAMPLES = list(zip(blocks(PAGE, "python"), blocks(PAGE, "answers")))
+# Stands before each: in the mode that looks for faults asyncio tells of each step that took a tenth of a second, as one may that waits
+# for a processor.
+QUIET = 'import logging; logging.getLogger("asyncio").addFilter(lambda told: not told.getMessage().startswith("Executing "))\n'
 
 
 class Page(unittest.TestCase):
@@ -21,8 +24,8 @@ class Page(unittest.TestCase):
         for lines, answers in EXAMPLES:
             if any(URL in line for line in lines) == bool(server):
                 with self.subTest(lines[0] + ", " + lines[-1].strip()):
-                    program = "\n".join(lines).replace(URL, server or URL)
-                    done = subprocess.run([sys.executable, "-B", "-X", "dev", "-c", program], cwd=os.path.join(top, "python"), timeout=60,
+                    program = QUIET + "\n".join(lines).replace(URL, server or URL)
+                    done = subprocess.run([sys.executable, "-B", "-X", "dev", "-c", program], cwd=os.path.join(top, "python"), timeout=300,
                                           stdin=subprocess.DEVNULL, capture_output=True, text=True)
                     self.assertEqual((done.stdout.splitlines(), done.stderr), (answers, ""))
 

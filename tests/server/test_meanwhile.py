@@ -90,7 +90,7 @@ class Meanwhile(unittest.TestCase):
             writer = threading.Thread(target=write)
             writer.start()
             try:
-                done = subprocess.run([os.path.join(top, "python", "from-nats"), server, "written"], capture_output=True, text=True, timeout=50)
+                done = subprocess.run([os.path.join(top, "python", "from-nats"), server, "written"], capture_output=True, text=True, timeout=300)
             finally:
                 over.set()
                 writer.join()

@@ -33,7 +33,7 @@ purge gone"""
 
 def run(tool, *arguments, script=""):
     """The status of a tool, and what it wrote to standard output and standard error."""
-    done = subprocess.run([os.path.join(tools, tool), *arguments], input=script, capture_output=True, text=True, timeout=50)
+    done = subprocess.run([os.path.join(tools, tool), *arguments], input=script, capture_output=True, text=True, timeout=300)
     return done.returncode, done.stdout, done.stderr
 
 
