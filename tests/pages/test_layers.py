@@ -29,15 +29,11 @@ class Layers(unittest.TestCase):
             with self.subTest(page):
                 self.assertIn("](%s)" % link, text_of(page))
 
-    def test_go(self):
-        costs = added("Go").values()
-        self.assertEqual(claimed("docs/go.md"), (min(costs), max(costs)))
-
-    def test_rust(self):
-        costs = added("Rust")
-        self.assertIn("a put nothing", text_of("docs/rust.md"))
-        self.assertLessEqual(costs.pop("put"), 0)
-        self.assertEqual(claimed("docs/rust.md"), (min(costs.values()), max(costs.values())))
+    def test_rust_and_go(self):
+        for package, page in ("Rust", "docs/rust.md"), ("Go", "docs/go.md"):
+            with self.subTest(package):
+                costs = added(package).values()
+                self.assertEqual(claimed(page), (min(costs), max(costs)))
 
     def test_c(self):
         costs = [int(ns) for ns in re.findall(r"^\| .+ \| (\d+) ns \|$", text_of(MEASURED), re.M)]
