@@ -13,6 +13,7 @@
 #include <stdbool.h>
 #include <stddef.h>
 #include <stdint.h>
+#include <string.h>
 #ifdef __cplusplus
 extern "C" {
 #endif
@@ -43,6 +44,10 @@ enum {
     KV_OLDER_VIEW = 36,
     KV_NO_SUCH_CODE = 37
 };
+
+/* A text that ends with a zero byte, as the bytes and the size that calls take: kv_put(bucket, KV_TEXT("a"), KV_TEXT("1"),
+ * &revision). It is looked at twice. */
+#define KV_TEXT(text) (const uint8_t *)(text), strlen(text)
 
 /* What a take hands out: nothing is left, the end marker, an entry. */
 enum { KV_EMPTY = 0, KV_MARKER = 1, KV_ENTRY = 2 };

@@ -1,13 +1,13 @@
-/* A bucket that threads share: one bucket behind one mutex, with readers, which have a view each, and followers, which
- * sleep until there is something for them.
+/* A bucket that threads share: one bucket behind one mutex, with readers, which have a view each, followers, which sleep
+ * until there is something for them, and watchers, which are followers on threads of their own.
  *
  * This shell is C, and not proved: it is tested, under sanitizers too. Each step that it makes on a bucket, a view or
  * a feed is a call of an export of vilgoued.h, and these are proved.
  *
  * A handle whose bytes are all 0 is closed. The caller owns the handles, and all memory that it names, as vilgoued.h
  * has it. A kv_shared is used by any number of threads at once, its close among them; so it stays where it is while it
- * is open. A kv_reader and a kv_follower are used by one call at a time, but for kv_follower_stop; they may go to
- * another thread between two calls, with a lock, or at that thread's start or end.
+ * is open. A kv_reader, a kv_follower and a kv_watcher are used by one call at a time, but for kv_follower_stop; they
+ * may go to another thread between two calls, with a lock, or at that thread's start or end.
  *
  * Each function that returns a number returns KV_OK or why it was refused, with the codes of vilgoued.h. A refused
  * call changes nothing but that a reader or a follower may have gone on; it copies nothing, and tells no more than the
@@ -24,9 +24,9 @@
 extern "C" {
 #endif
 
-/* The shell's own code: the system gives no descriptor. Those of vilgoued.h are below 64. kv_code_name has no name for
- * it. */
-enum { KV_NO_DESCRIPTOR = 64 };
+/* The shell's own codes: the system gives no descriptor, or no thread. Those of vilgoued.h are below 64. kv_code_name has
+ * no names for these. */
+enum { KV_NO_DESCRIPTOR = 64, KV_NO_THREAD = 65 };
 
 /* A time in milliseconds that is never over. */
 #define KV_FOREVER UINT64_MAX
@@ -48,6 +48,17 @@ typedef struct kv_follower {
     bool is_open;
     void *at;
 } kv_follower;
+
+/* A follower on a thread of its own. */
+typedef struct kv_watcher {
+    bool is_open;
+    void *at;
+} kv_watcher;
+
+/* What a watcher calls with each item: a function of the caller's. `with` is what the opening named. The key and the
+ * value have as many bytes as the item tells, and a zero byte behind these; they and the item are there during the call
+ * alone. */
+typedef void kv_watched(void *with, const kv_item *item, const char *key, const char *value);
 
 /* Opens a bucket with no writes, as kv_open. KV_OPEN_ALREADY where the handle is open. One thread opens it, before the
  * others use it. */
@@ -177,6 +188,21 @@ uint64_t kv_follower_stop(kv_follower *follower);
 /* Frees the follower, and closes its handle and its descriptor: its owner, in its own time, also behind the bucket's
  * close. */
 void kv_follower_close(kv_follower *follower);
+
+/* Opens a watcher: a follower, with the refusals of kv_follower_open, and a thread that calls `call` with each item, one
+ * after another. It finds the room for the values, and where memory is refused it asks again later. It ends where
+ * kv_follower_next would be KV_CLOSED or KV_LAGGED: the last call has an item whose kind is KV_EMPTY. It takes no
+ * signals. KV_NO_THREAD where the system gives no thread. Any thread. */
+uint64_t kv_watcher_open(kv_shared *shared, const uint8_t *filters, size_t filters_size, const kv_options *options,
+                         kv_watched *call, void *with, kv_watcher *watcher);
+
+/* Waits until a watcher has ended and its last call has returned, and frees it: behind kv_shared_finish it has handed out
+ * all. Tells why it ended: KV_CLOSED, or KV_LAGGED, behind which another one may be opened. KV_CLOSED where the handle is
+ * closed. Not from the function that the watcher calls. */
+uint64_t kv_watcher_join(kv_watcher *watcher);
+
+/* The same, but it ends the watcher first, behind the call that is being made, whatever it has still to hand out. */
+void kv_watcher_close(kv_watcher *watcher);
 
 #ifdef __cplusplus
 }

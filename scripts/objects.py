@@ -3,7 +3,7 @@ import hashlib
 
 START, HEADER = b"!<arch>\n", 60
 # The objects of the shell in C, which the machine's own compiler makes; all others of libvilgoued.a are the kit's.
-OWN = ("opening.o", "shared.o")
+OWN = ("opening.o", "shared.o", "watcher.o")
 
 
 def headers(data):

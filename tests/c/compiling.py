@@ -12,7 +12,9 @@ INCLUDE = os.path.join(top, "include")
 # What a program is linked with: the static library, or the shared one where it lies.
 STATIC = [os.path.join(libraries, "libvilgoued.a")]
 SHARED = ["-L" + libraries, "-lvilgoued", "-Wl,-rpath," + libraries]
-SHELL, OPENING = (os.path.join(top, "c", name) for name in ("shared.c", "opening.c"))
+# The shell, without the one file that is no part of a program: it gives each opening a number of its own.
+SHELL = [os.path.join(top, "c", name) for name in ("shared.c", "watcher.c")]
+OPENING = os.path.join(top, "c", "opening.c")
 STRICT = ["-pedantic", "-Wall", "-Wextra", "-Werror"]
 CHECKED = ["-g", "-fsanitize=address,undefined", "-fno-sanitize-recover=all"]
 WRAPPED = ["-Wl,--wrap=malloc", "-Wl,--wrap=realloc"]

@@ -1,8 +1,5 @@
 #include "vilgoued.h"
 #include <stdio.h>
-#include <string.h>
-
-#define TEXT(s) (const uint8_t *)(s), strlen(s)
 
 int main(void) {
     kv_bucket bucket = {0};
@@ -11,11 +8,11 @@ int main(void) {
     kv_item item;
     uint64_t revision, number;
     uint8_t key[255], value[1024];
-    if (kv_open(&bucket, TEXT("settings"), &limits) != KV_OK)
+    if (kv_open(&bucket, KV_TEXT("settings"), &limits) != KV_OK)
         return 1;
-    kv_put(&bucket, TEXT("app.port"), TEXT("80"), &revision);
-    kv_watch(&bucket, TEXT("app.>"), &latest, &number);
-    kv_delete(&bucket, TEXT("app.port"), false, 0, &revision);
+    kv_put(&bucket, KV_TEXT("app.port"), KV_TEXT("80"), &revision);
+    kv_watch(&bucket, KV_TEXT("app.>"), &latest, &number);
+    kv_delete(&bucket, KV_TEXT("app.port"), false, 0, &revision);
     while (!kv_take(&bucket, number, key, sizeof key, value, sizeof value, &item) && item.kind != KV_EMPTY) {
         if (item.kind == KV_MARKER)
             puts("that was all");

@@ -23,19 +23,26 @@ static int drained(kv_follower *f, uint64_t *last) {
     }
 }
 
+static void count_entries(void *count, const kv_item *it, const char *k, const char *v) {
+    (void)k;
+    (void)v;
+    *(int *)count += it->kind == KV_ENTRY;
+}
+
 static void session(void) {
     static const kv_limits limits = {3, 1048576, 1000000, 4294967295};
     static const kv_options latest = {KV_LATEST, 0, false, false};
     kv_shared b = {0};
     kv_reader r = {0};
     kv_follower all = {0}, some = {0}, late = {0};
+    kv_watcher watcher = {0};
     kv_view view = {0};
     kv_batch batch = {0};
     kv_status status;
     uint64_t revision, number, floor, handed, of_all = 0, of_some = 0, of_late = 0;
     size_t size, count;
     uint8_t keys[256];
-    int entries = 0, fd = -1;
+    int entries = 0, of_watcher = 0, fd = -1;
     TRY(kv_shared_open(&b, B("settings"), &limits));
     TRY(kv_follower_open(&b, B(">"), &latest, &all));
     TRY(kv_follower_open(&b, B("app.k1,db.*"), &latest, &some));
@@ -97,6 +104,9 @@ static void session(void) {
     TRY(kv_reader_get_status(&r, &status));
     WANT(status.stored == status.values && status.stored < 45 && status.sealed);
     TRY(kv_shared_finish(&b));
+    /* The compaction left the keys that have a value. A watcher asks again by itself for what it was refused. */
+    TRY(kv_watcher_open(&b, B(">"), &latest, count_entries, &of_watcher, &watcher));
+    WANT(kv_watcher_join(&watcher) == KV_CLOSED && of_watcher == 8);
     TRY(kv_follower_stop(&late));
     kv_shared_close(&b);
     kv_view_close(&view);

@@ -65,6 +65,7 @@ static bool puts_one(kv_shared *b, const char *k, const char *v, uint64_t revisi
 static void layout(void) {
     WANT(sizeof(kv_shared) == 16 && offsetof(kv_shared, state) == 0 && offsetof(kv_shared, at) == 8);
     WANT(sizeof(kv_reader) == 16 && offsetof(kv_reader, is_open) == 0 && offsetof(kv_reader, at) == 8);
+    WANT(sizeof(kv_watcher) == 16 && offsetof(kv_watcher, is_open) == 0 && offsetof(kv_watcher, at) == 8);
     WANT(sizeof(kv_follower) == 16 && offsetof(kv_follower, is_open) == 0 && offsetof(kv_follower, at) == 8);
 }
 

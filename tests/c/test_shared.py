@@ -12,7 +12,7 @@ RACES = ["-g", "-O1", "-fsanitize=thread", "-include", os.path.join(here, "touch
 NOT_SEEN = os.path.join(here, "races-not-seen")
 # What is run where something looks on, and the word that tells it so. None of it is left out or made less: of the threads, which take
 # longest, sanitizers run all in 5 s, and valgrind in 25 s of one processor.
-PROGRAMS = ("shared_use", "shared_threads", "shared_sweep")
+PROGRAMS = ("shared_use", "shared_watchers", "shared_threads", "shared_sweep")
 
 
 def words(name, looking_on):
@@ -22,7 +22,7 @@ def words(name, looking_on):
 class Shell(ProgramTest):
     def test_compilers_have_nothing_to_say(self):
         for compiler in filter(shutil.which, sorted({C, "gcc", "clang"})):
-            for source in SHELL, OPENING:
+            for source in (*SHELL, OPENING):
                 with self.subTest(compiler, source=source):
                     ran(compiler, "-std=c11", "-O2", "-pthread", *STRICT, "-I" + INCLUDE, "-c", source, "-o", os.path.join(self.folder, "it.o"))
 
@@ -37,6 +37,9 @@ class Shell(ProgramTest):
 class Programs(ProgramTest):
     def test_each_function_and_each_refusal_is_as_the_header_says(self):
         ran(self.built("shared_use", "-O2"))
+
+    def test_watchers_hand_each_item_to_their_function(self):
+        ran(self.built("shared_watchers", "-O2"))
 
     def test_four_writers_four_readers_and_four_followers_lose_nothing(self):
         print(ran(self.built("shared_threads", "-O2")), end="")
@@ -54,13 +57,13 @@ class Programs(ProgramTest):
         self.needs(*CHECKED)
         for name in PROGRAMS:
             with self.subTest(name):
-                ran(self.built(name, SHELL, *CHECKED), *words(name, "sanitizer"))
+                ran(self.built(name, *SHELL, *CHECKED), *words(name, "sanitizer"))
 
     def test_the_sanitizer_of_threads_finds_nothing(self):
         self.needs("-fsanitize=thread")
         for name in PROGRAMS:
             with self.subTest(name):
-                ran(self.built(name, SHELL, *RACES, beside=SHARED), *words(name, "sanitizer"),
+                ran(self.built(name, *SHELL, *RACES, beside=SHARED), *words(name, "sanitizer"),
                     TSAN_OPTIONS="suppressions=%s halt_on_error=1" % NOT_SEEN)
 
     @unittest.skipUnless(shutil.which("valgrind"), "valgrind is not installed: apt-get install valgrind")
@@ -74,6 +77,12 @@ class Programs(ProgramTest):
 class Quoted(unittest.TestCase):
     def test_the_page_quotes_the_example(self):
         self.assertIn(lines_of("tests/c/shared_example.c"), blocks("docs/c.md", "c"))
+        self.assertIn(lines_of("tests/c/shared_example.stdout"), blocks("docs/c.md", "text"))
+
+    def test_a_watcher_on_a_thread_of_its_own_takes_twenty_lines(self):
+        self.assertLessEqual(len(lines_of("tests/c/shared_example.c")), 20)
+        python = [example for example in blocks("docs/python.md", "python") if "import threading" in example]
+        self.assertTrue(python and all(len(example) <= 20 for example in python))
 
 
 if __name__ == "__main__":
