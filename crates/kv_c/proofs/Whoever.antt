@@ -1,5 +1,5 @@
 -- Calls of C in a row are a run of the model.
-use Rattle.std.proofs.Common.{◌≡◌, ℕ, ◌+◌, ◌≤◌, List, [], ◌∷◌, ◌++◌, Option, Some, None, Ok, length, map, take, refl, sym, ap, ◌∙◌, subst, arith, length-append}
+use Rattle.std.proofs.Common.{◌≡◌, ℕ, ◌+◌, List, [], ◌∷◌, ◌++◌, Option, Some, None, Ok, length, map, refl, sym, ap, ◌∙◌, subst, arith, length-append}
 use Rattle.std.specs.List.{slice_get}
 use Rattle.std.proofs.lemmas.List.{map-append}
 use Rattle.kv_c.specs.Calling.{StandsAt}
@@ -9,25 +9,20 @@ use Rattle.kv_c.specs.declared.content.Content.TheVariants.{Bucket, View, Feed, 
 use Rattle.kv_model.specs.Acts.{Wrote, Write, writes_of}
 use Rattle.kv_model.specs.Answers.{Answer, Revision}
 use Rattle.kv_model.specs.Batches.{accept_all, first_revision}
-use Rattle.kv_model.specs.Configuration.{Configuration}
-use Rattle.kv_model.specs.Given.{Item, given}
 use Rattle.kv_model.specs.Requests.{asked}
 use Rattle.kv_model.specs.Runs.{Exchange, calls_of, run, transcript}
-use Rattle.kv_model.specs.State.{State, Watch, add_act, after, after_write, answer_to, answer_write, given_to, open_at, watch_at}
+use Rattle.kv_model.specs.State.{State, Watch, add_act, after, after_write, answer_to, answer_write, open_at}
 use Rattle.kv_model.specs.Told.{Tells, TellsEachWatch}
 use Rattle.kv_model.specs.declared.call.Call.{Call}
 use Rattle.kv_model.specs.declared.call.Call.TheVariants as calls
-use Rattle.kv_model.specs.declared.options.Options.{Options}
 use Rattle.kv_model.specs.declared.request.Request.{Request}
-use Rattle.kv_model.specs.further.Counts.{Told}
 use Rattle.kv_model.proofs.Batching.{as_many, batch_runs, first_number, numbered, rest_of, split_ok}
-use Rattle.kv_model.proofs.Further.{tells_further}
 use Rattle.kv_model.proofs.Numbered.{writes_of-wrote}
-use Rattle.kv_model.proofs.Numbers.{open_is}
 use Rattle.kv_model.proofs.Others.{run-append}
 use Rattle.kv_model.proofs.Theorem.{tells_each_watch}
 use Rattle.kv_model.specs.Acceptance.{accept}
-use Rattle.kv_single.specs.Held.{Bucketed, Follows, Holding, IsHeld, Represents, held_at}
+use Rattle.kv_single.specs.Held.{Bucketed, Represents}
+use Rattle.kv_single.proofs.Whoever.{run_tells}
 
 -- exchanges are those of the run of their calls, and that leads to what a handle holds
 abbrev Ran : State → List Exchange → Option Content → Type 0
@@ -119,35 +114,6 @@ pub calls_tell : (old new : Option Content) (done : List Done) (state : State) �
 calls_tell old new done state are stands = subst (TellsEachWatch state) (sym (all_ran done old new state are stands).0) (tells_each_watch state (calls_of (told done)))
 
 -- ---- a watch that was open before
-
--- it was handed the first items of what it is given
-module _ (state : State) (bucket : Bucketed) (watch : Watch) (r : Represents state bucket) where
-  abbrev Reached : Type 0
-  Reached = Told state.config.history state.acts watch (take watch.handed (given_to state.config.history state.acts watch))
-
-  from_holding : (holding : Holding) → Follows state.acts bucket.version holding watch → Reached
-  from_holding holding follows =
-      let place = follows.place.place in
-      let config : holding.watch.opening.config ≡ state.config = sym place.same_config ∙ r.config in
-      let same : given holding.watch.opening.config.history watch.began state.acts holding.watch.cursor.filters holding.watch.cursor.options ≡ given_to state.config.history state.acts watch =
-      ap (λ (c : Configuration). given c.history watch.began state.acts holding.watch.cursor.filters holding.watch.cursor.options) config
-      ∙ ap (λ (fs : List (List ℕ)). given state.config.history watch.began state.acts fs holding.watch.cursor.options) follows.filters
-      ∙ ap (λ (os : Options). given state.config.history watch.began state.acts watch.filters os) follows.options in
-      record {
-        prefix = place.prefix;
-        within = subst (λ (items : List Item). watch.handed ≤ length items) same place.taken;
-        first = refl;
-      }
-
-  from_held : (held : Option Holding) → IsHeld state.acts bucket.version held (Some watch) → Reached
-  from_held None is = absurd is
-  from_held (Some holding) is = from_holding holding is
-
-  run_tells : (number : ℕ) (made : List Call) → open_at number state ≡ Some watch → Tells state (transcript state made) number watch
-  run_tells number made is_open =
-      let is = subst (IsHeld state.acts bucket.version (held_at number bucket.watches)) is_open (r.held number) in
-      let here : watch_at number state.watches ≡ Some watch = (open_is (watch_at number state.watches) watch is_open).0 in
-      tells_further state number watch (take watch.handed (given_to state.config.history state.acts watch)) here (from_held (held_at number bucket.watches) is) made
 
 pub calls_tell_held : (old new : Option Content) (done : List Done) (state : State) (number : ℕ) (watch : Watch) → AreDone old done new → StandsAt state old → open_at number state ≡ Some watch → Tells state (told done) number watch
 calls_tell_held None new done state number watch are stands is_open = absurd stands

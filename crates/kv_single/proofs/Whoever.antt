@@ -6,6 +6,7 @@ use Rattle.kv_model.specs.Given.{Item, given}
 use Rattle.kv_model.specs.Runs.{Exchange, calls_of, run, transcript}
 use Rattle.kv_model.specs.State.{State, Watch, watch_at, open_at, given_to, after, answer_to}
 use Rattle.kv_model.specs.Told.{Tells, TellsEachWatch}
+use Rattle.kv_model.specs.declared.call.Call.{Call}
 use Rattle.kv_model.specs.declared.options.Options.{Options}
 use Rattle.kv_model.specs.further.Counts.{Told}
 use Rattle.kv_model.proofs.Further.{tells_further}
@@ -52,10 +53,14 @@ module _ (state : State) (bucket : Bucketed) (watch : Watch) (r : Represents sta
   from_held None is = absurd is
   from_held (Some holding) is = from_holding holding is
 
+  -- and by further calls it is handed the next ones
+  pub run_tells : (number : ℕ) (made : List Call) → open_at number state ≡ Some watch → Tells state (transcript state made) number watch
+  run_tells number made is_open =
+      let is = subst (IsHeld state.acts bucket.version (held_at number bucket.watches)) is_open (r.held number) in
+      let here : watch_at number state.watches ≡ Some watch = (open_is (watch_at number state.watches) watch is_open).0 in
+      tells_further state number watch (take watch.handed (given_to state.config.history state.acts watch)) here (from_held (held_at number bucket.watches) is) made
+
 pub steps_tell_held : (old new : Bucketed) (told : List Exchange) (state : State) (number : ℕ) (watch : Watch) → AreSteps old told new → Represents state old → open_at number state ≡ Some watch → Tells state told number watch
 steps_tell_held old new told state number watch steps r is_open =
-    let is = subst (IsHeld state.acts old.version (held_at number old.watches)) is_open (r.held number) in
-    let reached = from_held state old watch r (held_at number old.watches) is in
-    let here : watch_at number state.watches ≡ Some watch = (open_is (watch_at number state.watches) watch is_open).0 in
     subst (λ (es : List Exchange). Tells state es number watch) (sym (steps_are old new told steps state r).0)
-    (tells_further state number watch (take watch.handed (given_to state.config.history state.acts watch)) here reached (calls_of told))
+    (run_tells state old watch r number (calls_of told) is_open)
