@@ -7,6 +7,7 @@ import shutil
 import subprocess
 import sys
 import tempfile
+from typing import Optional, Tuple
 
 from setuptools import setup
 from setuptools.command.build_py import build_py
@@ -28,12 +29,12 @@ DO = "VILGOUED_LIB names a library, or is none for a package without one"
 room = tempfile.mkdtemp()
 
 
-def is_checkout():
+def is_checkout() -> bool:
     """Whether this is the folder python/ of a checkout, and no copy of it that another folder's scripts happen to lie beside."""
     return os.path.basename(HERE) == "python" and os.path.exists(FIND)
 
 
-def found():
+def found() -> str:
     """The path of the library of the checkout."""
     done = subprocess.run([sys.executable, "-I", FIND, NAME, room], stdout=subprocess.PIPE, stderr=subprocess.PIPE)
     if done.returncode != 0:
@@ -42,7 +43,7 @@ def found():
 
 
 @functools.lru_cache(maxsize=None)
-def library():
+def library() -> Optional[str]:
     """The path of the library, or None where the package is to have none."""
     if NAMED == "none":
         return None
@@ -55,20 +56,21 @@ def library():
 
 
 class WithLibrary(build_py):
-    def run(self):
+    def run(self) -> None:
         super().run()
-        if library() and not getattr(self, "editable_mode", False):
-            shutil.copyfile(library(), os.path.join(self.build_lib, "vilgoued", NAME))
+        path = library()
+        if path and not getattr(self, "editable_mode", False):
+            shutil.copyfile(path, os.path.join(self.build_lib, "vilgoued", NAME))
 
 
 class Wheel(bdist_wheel):
     """For any Python 3, and where there is a library for one platform."""
 
-    def finalize_options(self):
+    def finalize_options(self) -> None:
         super().finalize_options()
         self.root_is_pure = library() is None
 
-    def get_tag(self):
+    def get_tag(self) -> Tuple[str, str, str]:
         python, abi, platform = super().get_tag()
         return (python, abi, platform) if library() is None else ("py3", "none", platform)
 

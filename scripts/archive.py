@@ -1,31 +1,40 @@
 """The archive of a release: a tar whose bytes are those of its members alone. They are sorted, and have no times and no owners."""
-import collections, gzip, io, os, platform, re, sys, tarfile, zlib
+from __future__ import annotations
+
+import gzip, io, os, platform, re, sys, tarfile, zlib
+from typing import Iterable, Iterator, NamedTuple, Optional
 
 from scripts import top
 
 FOLDER = os.path.join(top, "dist")
-# What lies in it: bytes, or a symbolic link to this path.
-Member = collections.namedtuple("Member", "data is_run link", defaults=(False, ""))
+
+
+class Member(NamedTuple):
+    """What lies in it: bytes, or a symbolic link to this path."""
+
+    data: bytes
+    is_run: bool = False
+    link: str = ""
 
 
 class Missing(Exception):
     """Why there is no release for this machine, in one sentence."""
 
 
-def machine():
+def machine() -> str:
     """What a program has to be built for to run here."""
     return "%s-%s" % (sys.platform, platform.machine())
 
 
-def name_of(version):
+def name_of(version: str) -> str:
     return "vilgoued-%s-%s" % (version, machine())
 
 
-def path_of(name):
+def path_of(name: str) -> str:
     return os.path.join(FOLDER, name + ".tar.gz")
 
 
-def header_of(path, member, earlier):
+def header_of(path: str, member: Optional[Member], earlier: dict[Optional[Member], str]) -> tarfile.TarInfo:
     """What the tar tells of a member, or of a folder, which is None. Without times and owners that is 1970, and root. What has the
     bytes of an earlier member is a hard link to it."""
     header = tarfile.TarInfo(path)
@@ -43,16 +52,16 @@ def header_of(path, member, earlier):
     return header
 
 
-def folders_of(paths):
+def folders_of(paths: Iterable[str]) -> set[str]:
     return {path[:at] for path in paths for at, letter in enumerate(path) if letter == "/"}
 
 
-def tar(name, members):
+def tar(name: str, members: dict[str, Member]) -> bytes:
     """The tar of these members, in a folder of this name."""
-    whole = {"%s/%s" % (name, path): member for path, member in members.items()}
+    whole: dict[str, Optional[Member]] = {"%s/%s" % (name, path): member for path, member in members.items()}
     whole.update(dict.fromkeys(folders_of(whole)))
     written = io.BytesIO()
-    earlier: dict[Member, str] = {}
+    earlier: dict[Optional[Member], str] = {}
     with tarfile.open(fileobj=written, mode="w", format=tarfile.USTAR_FORMAT) as file:
         for path in sorted(whole, key=os.fsencode):
             member = whole[path]
@@ -61,7 +70,7 @@ def tar(name, members):
     return written.getvalue()
 
 
-def write(name, members):
+def write(name: str, members: dict[str, Member]) -> str:
     """Writes the archive, in place of each other one for this machine, and answers its path."""
     packed = io.BytesIO()
     with gzip.GzipFile("", "wb", 9, packed, mtime=0) as file:
@@ -76,19 +85,19 @@ def write(name, members):
     return path
 
 
-def machines():
+def machines() -> dict[str, str]:
     """For which machine each archive is, by its name."""
     there = os.listdir(FOLDER) if os.path.isdir(FOLDER) else []
     found = map(re.compile(r"(vilgoued-.+-([^-]+-[^-]+))\.tar\.gz").fullmatch, sorted(there))
     return {it[1]: it[2] for it in found if it}
 
 
-def names():
+def names() -> list[str]:
     """The names of the archives for this machine."""
     return [name for name, of in machines().items() if of == machine()]
 
 
-def only():
+def only() -> str:
     """The name of the one archive for this machine."""
     here, elsewhere = names(), sorted(set(machines().values()))
     if len(here) > 1:
@@ -100,13 +109,13 @@ def only():
     return here[0]
 
 
-def unpacked(name):
+def unpacked(name: str) -> bytes:
     """The bytes of an archive's tar."""
     with gzip.open(path_of(name)) as file:
         return file.read()
 
 
-def each(name):
+def each(name: str) -> Iterator[tuple[str, Member]]:
     """The paths of an archive's members, and these, in order."""
     try:
         with tarfile.open(path_of(name), "r:gz") as file:

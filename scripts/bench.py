@@ -5,7 +5,7 @@ in two more. It writes into the folder (docs/bench where none is given) the figu
 charts where matplotlib is there (scripts/charts.py), and where no folder is given the table of the repository's README.md
 (scripts/compared.py). It tells on standard error what it is doing. tests/test_bench.py looks at whether that works."""
 import collections, datetime, os, platform, random, subprocess, sys, time
-from typing import Optional
+from typing import Any, Callable, Iterable, Iterator, NamedTuple, Optional, Sequence
 
 if __name__ == "__main__":
     sys.dont_write_bytecode = True
@@ -77,24 +77,24 @@ PUTS = 2_000
 MOST_WRITTEN = 990_000
 
 
-def say(text):
+def say(text: str) -> None:
     print("bench: " + text, file=sys.stderr, flush=True)
 
 
 class Watch:
     """How long the bench has taken, and how much of that Rust's own crates."""
 
-    def __init__(self):
+    def __init__(self) -> None:
         self.begin()
 
-    def begin(self):
+    def begin(self) -> None:
         self.started = time.monotonic()
         self.of_peers = 0.0
 
-    def elapsed(self):
+    def elapsed(self) -> float:
         return time.monotonic() - self.started
 
-    def of_bucket(self):
+    def of_bucket(self) -> float:
         return self.elapsed() - self.of_peers
 
 
@@ -104,7 +104,7 @@ watch = Watch()
 # The figures.
 
 
-def run(bench, group, keys, rounds, **more):
+def run(bench: str, group: str, keys: int, rounds: int, **more: str) -> list[Figure]:
     done = subprocess.run([bench, group, str(keys), str(rounds)], stdin=subprocess.DEVNULL, capture_output=True, text=True,
                           env={**os.environ, **more})
     if done.returncode != 0:
@@ -113,36 +113,36 @@ def run(bench, group, keys, rounds, **more):
     return [parsed(line, tenths=True) for line in done.stdout.splitlines()]
 
 
-def merged(figures):
+def merged(figures: Sequence[Figure]) -> Figure:
     """One figure for the same figure of several passes."""
     medians = sorted(it.median for it in figures)
     return figures[0]._replace(median=medians[len(medians) // 2], least=min(it.least for it in figures), most=max(it.most for it in figures))
 
 
-def measured(bench, group, keys, rounds):
+def measured(bench: str, group: str, keys: int, rounds: int) -> list[Figure]:
     say("%s at %s, after %d s" % (group, in_digits(keys), watch.elapsed()))
     return run(bench, group, keys, rounds)
 
 
-def in_large_pages(bench, group, keys, rounds):
+def in_large_pages(bench: str, group: str, keys: int, rounds: int) -> list[Figure]:
     """The same with pages of 2 MiB, as figures of a group of their own."""
     say("%s at %s in large pages, after %d s" % (group, in_digits(keys), watch.elapsed()))
     return [it._replace(group="pages", of=LARGE) for it in run(bench, group, keys, rounds, **LARGE_PAGES)]
 
 
 # What is run: by which of these, a group, a size, and how many rounds.
-Run = collections.namedtuple("Run", "by group keys rounds")
+Run = NamedTuple("Run", [("by", str), ("group", str), ("keys", int), ("rounds", int)])
 OF_BUCKET, OF_PEERS, IN_PAGES = "kv_bench", "peers", "pages"
 
 
-def rounds_of(by, group, keys):
+def rounds_of(by: str, group: str, keys: int) -> int:
     """The rounds of a process, in the passes in which it is run."""
     is_once = keys > MOST_KEYS or group == "delay"
     is_brief = group.startswith("memory-") or (not is_once and (group == "feeds" or by == OF_PEERS))
     return 1 if is_brief or by == IN_PAGES else ROUNDS
 
 
-def runs_of(number):
+def runs_of(number: int) -> list[Run]:
     """What is measured in the pass of this number. The largest sizes, which take longest, are last."""
     of_all = ((OF_BUCKET, RUNS), (OF_PEERS, RUNS_OF_PEERS), (IN_PAGES, [(group, [keys]) for group, keys in IN_LARGE_PAGES]))
     runs = [Run(by, group, keys, rounds_of(by, group, keys)) for by, groups in of_all for group, sizes in groups for keys in sizes
@@ -153,18 +153,18 @@ def runs_of(number):
 class Machine:
     """Whether the machine does other work meanwhile, by a probe that takes longer then."""
 
-    def __init__(self, probe):
+    def __init__(self, probe: Callable[[], float]) -> None:
         self.probe = probe
         self.least = min(probe() for _ in range(PROBES))
         self.begun = self.disturbed = 0
         self.waited = 0.0
 
-    def is_calm(self):
+    def is_calm(self) -> bool:
         took = self.probe()
         self.least = min(self.least, took)
         return took <= CALM * self.least
 
-    def wait(self):
+    def wait(self) -> None:
         """Waits for a calm moment, but not for ever."""
         began = time.monotonic()
         self.begun += 1
@@ -175,13 +175,13 @@ class Machine:
                 break
         self.waited += time.monotonic() - began
 
-    def told(self):
+    def told(self) -> str:
         return ("Before each process of `kv_bench`, and each size of a round of lines, it waited until a get of the kit's `HashMap` with "
                 "10,000 keys took at most %s times the least that it took in this run, %s, but for %d s at most, and %d s in all. "
                 "Of %d waits %d ended without." % (CALM, in_words(self.least, "ns"), PATIENCE, WAITING, self.begun, self.disturbed))
 
 
-def map_get(bench):
+def map_get(bench: str) -> float:
     """A get of the kit's map: the same code whatever the bucket's is, and one that needs the caches."""
     return next(it.median for it in run(bench, "beside-maps", 10_000, 1) if it.what == "get" and it.of.startswith("HashMap"))
 
@@ -193,14 +193,14 @@ class Lines:
     """Programs with so many keys each, which wait for their next round. A full bucket takes no put, so in its place another
     one with fewer keys is written to."""
 
-    def __init__(self, kvbucket, sizes, gets, puts):
+    def __init__(self, kvbucket: str, sizes: Sequence[int], gets: int, puts: int) -> None:
         self.gets, self.puts = gets, puts
         self.read = set(sizes)
         self.written = {min(size, MOST_WRITTEN) for size in sizes}
         self.programs = {keys: Program(kvbucket, os.environ) for keys in sorted(self.read | self.written)}
         # The last revisions, and the nanoseconds of each round.
         self.revisions = {keys: keys for keys in self.programs}
-        self.times = collections.defaultdict(list)
+        self.times: dict[Any, list[float]] = collections.defaultdict(list)
         random.seed(1)
         # Gets that no round measures, since a program has waited for its round while others ran: as many as there are keys, or,
         # where nothing is read, as a few puts need.
@@ -210,26 +210,26 @@ class Lines:
             some = self.some(keys, keys if keys in self.read else MOST_KEYS)
             self.warming[keys] = "".join(map(self.get, some)), len(some)
 
-    def tell(self, size, keys, line):
+    def tell(self, size: int, keys: Sequence[int], line: Callable[[int], str]) -> float:
         """Tells a program a line for each key, and returns the nanoseconds a line."""
         return 1000 * self.programs[size].tell("".join(line(key) for key in keys), len(keys)) / len(keys)
 
-    def time(self, size, what, keys, line):
+    def time(self, size: int, what: str, keys: Sequence[int], line: Callable[[int], str]) -> None:
         self.times[what, size].append(self.tell(size, keys, line))
 
-    def get(self, key):
+    def get(self, key: int) -> str:
         return "get device.%d.state\n" % key
 
-    def put(self, key):
+    def put(self, key: int) -> str:
         return "put device.%d.state %s\n" % (key, VALUE)
 
-    def some(self, size, lines):
+    def some(self, size: int, lines: int) -> list[int]:
         return [random.randrange(size) for _ in range(lines)]
 
-    def round_of_gets(self, size):
+    def round_of_gets(self, size: int) -> None:
         self.time(size, "get", self.some(size, self.gets), self.get)
 
-    def round_of_puts(self, size):
+    def round_of_puts(self, size: int) -> None:
         self.time(size, "put, key that is there", self.some(size, self.puts), self.put)
         new = range(size, size + min(self.puts, size // 5))
         self.time(size, "put, new key", new, self.put)
@@ -238,7 +238,7 @@ class Lines:
         self.revisions[size] += self.puts + 2 * len(new)
         self.programs[size].tell("compact %d\n" % self.revisions[size], 1)
 
-    def round(self, machine):
+    def round(self, machine: Any) -> None:
         for size in self.programs:
             machine.wait()
             self.programs[size].tell(*self.warming[size])
@@ -247,7 +247,7 @@ class Lines:
             if size in self.written:
                 self.round_of_puts(size)
 
-    def figures(self):
+    def figures(self) -> Iterator[Figure]:
         """Ends the programs, which have to have refused no line."""
         for program in self.programs.values():
             program.end()
@@ -259,12 +259,12 @@ class Lines:
 # The page.
 
 
-def column_of(keys):
+def column_of(keys: int) -> int:
     """The size in whose column a figure stands: what is written to has fewer keys than a bucket stores at most."""
     return min((size for size in (*SIZES, *WRITTEN_TWICE) if size >= keys), default=keys)
 
 
-def cell(figure):
+def cell(figure: Optional[Figure]) -> str:
     if figure is None:
         return ""
     words = tuple(in_words(it, figure.unit) for it in (figure.median, figure.least, figure.most))
@@ -272,13 +272,13 @@ def cell(figure):
     return "%s (%s to %s)%s" % (*words, beside)
 
 
-def row_of(figure):
+def row_of(figure: Figure) -> str:
     """What was measured, of what, and how many threads were beside the writer."""
     name = ", ".join(filter(None, (figure.what, figure.of)))
     return name + " (%d)" % figure.others if figure.group.removeprefix("rust-") in ("threads", "threads-all", "delay", "feeds", "naps") else name
 
 
-def table(figures, heading):
+def table(figures: Sequence[Figure], heading: str) -> Iterator[str]:
     """The rows are what was measured, the columns how many keys there were."""
     sizes = sorted({column_of(it.keys) for it in figures})
     found = {(row_of(it), column_of(it.keys)): it for it in figures}
@@ -355,7 +355,7 @@ GROUPS = (
 LARGE, SMALL = "pages of 2 MiB", "pages of 4 KiB"
 
 
-def figures_of(group, figures):
+def figures_of(group: str, figures: list[Figure]) -> list[Figure]:
     """The figures of a group's table: those of Rust's own crates stand below the bucket's, of the same sizes."""
     found = [it for it in figures if it.group == group]
     if group == "pages":
@@ -368,18 +368,18 @@ def figures_of(group, figures):
     return found
 
 
-def of_file(path, key):
+def of_file(path: str, key: str) -> str:
     with open(path, encoding="utf-8") as told:
         return next((line.split(":", 1)[1].strip() for line in told if line.startswith(key)), "unknown")
 
 
-def machine_of(load):
+def machine_of(load: float) -> str:
     gigabytes = int(of_file("/proc/meminfo", "MemTotal").split()[0]) / 1e6
     return ("%s, %d processors for the bench, %.0f GB; Linux %s; the load when it began was %.1f" % (
         of_file("/proc/cpuinfo", "model name"), len(os.sched_getaffinity(0)), gigabytes, platform.release().split("-")[0], load))
 
 
-def page(figures, load, machine, left_out, charts):
+def page(figures: Any, load: Any, machine: Any, left_out: Any, charts: Any) -> Iterator[str]:
     yield "# Measured"
     yield ""
     yield ("By `./bench`, on %s, in %d s. It goes through all groups in three passes; a cell has the median of their medians, and in "
@@ -416,7 +416,7 @@ def page(figures, load, machine, left_out, charts):
 # The whole.
 
 
-def write(folder, name, lines):
+def write(folder: str, name: str, lines: Iterable[str]) -> None:
     with open(os.path.join(folder, name), "w", encoding="utf-8") as file:
         file.write("".join(line + "\n" for line in lines))
 
@@ -425,11 +425,11 @@ def write(folder, name, lines):
 PYTHONS = tuple(dict.fromkeys((sys.executable, "/usr/bin/python3")))
 
 
-def has_matplotlib():
+def has_matplotlib() -> bool:
     return any(subprocess.run([python, "-c", "import matplotlib"], capture_output=True).returncode == 0 for python in PYTHONS if os.path.exists(python))
 
 
-def drawn(folder):
+def drawn(folder: str) -> dict[str, list[str]]:
     """The charts that were drawn, by group: none where no Python here has matplotlib."""
     for python in PYTHONS:
         done = subprocess.run([python, os.path.join(top, "scripts", "charts.py"), folder], capture_output=True, text=True)
@@ -437,21 +437,21 @@ def drawn(folder):
             break
     else:
         say("no charts, and any that are there are of an earlier run: " + (done.stderr.strip().split("\n")[-1] or "scripts/charts.py failed"))
-    charts = collections.defaultdict(list)
+    charts: dict[str, list[str]] = collections.defaultdict(list)
     for line in done.stdout.splitlines():
         group, name = line.split("\t")
         charts[group].append(name)
     return charts
 
 
-def tell(figures, folder, load, machine, left_out):
+def tell(figures: Any, folder: str, load: Any, machine: Any, left_out: Any) -> Any:
     write(folder, NAME, lines_of(figures))
     charts = drawn(folder)
     write(folder, "README.md", page(figures, load, machine, left_out, charts))
     return charts
 
 
-def peers_program(left_out):
+def peers_program(left_out: list[str]) -> Optional[str]:
     """The program of peers/, or None where it can't be built, which is told."""
     say("builds what measures Rust's own crates")
     try:
@@ -464,7 +464,7 @@ def peers_program(left_out):
 class Bench:
     """A whole run: the programs, what was found, and what was left out."""
 
-    def __init__(self, bench, kvbucket):
+    def __init__(self, bench: str, kvbucket: str) -> None:
         self.left_out: list[str] = []
         self.found: list[Figure] = []
         self.bench, self.peers = bench, peers_program(self.left_out)
@@ -477,10 +477,10 @@ class Bench:
         else:
             self.left_out.append("lines, as kvbucket was not built")
 
-    def leave_out(self, what, minutes):
+    def leave_out(self, what: str, minutes: str) -> None:
         self.left_out.append("%s, as the %s minutes were over" % (what, minutes))
 
-    def round_of_lines(self):
+    def round_of_lines(self) -> None:
         if self.lines is None:
             return
         if watch.of_bucket() > BUDGET:
@@ -488,14 +488,14 @@ class Bench:
         else:
             self.lines.round(self.machine)
 
-    def of_bucket(self, it):
+    def of_bucket(self, it: Run) -> None:
         if watch.of_bucket() > BUDGET:
             self.leave_out("%s at %s, once" % (it.group, in_digits(it.keys)), "five")
             return
         self.machine.wait()
         self.found += (in_large_pages if it.by == IN_PAGES else measured)(self.bench, it.group, it.keys, it.rounds)
 
-    def of_peers(self, it):
+    def of_peers(self, it: Run) -> None:
         if self.peers is None:
             return
         if watch.of_peers > BUDGET_OF_PEERS:
@@ -506,7 +506,7 @@ class Bench:
         self.found += measured(self.peers, it.group, it.keys, it.rounds)
         watch.of_peers += watch.elapsed() - began
 
-    def run(self):
+    def run(self) -> None:
         runs = [it for number in range(PASSES) for it in runs_of(number)]
         for place, it in enumerate(runs):
             # So many of the runs as there are rounds of lines begin with one.
@@ -514,12 +514,12 @@ class Bench:
                 self.round_of_lines()
             (self.of_peers if it.by == OF_PEERS else self.of_bucket)(it)
 
-    def figures(self):
+    def figures(self) -> list[Figure]:
         of_passes = grouped(self.found, lambda it: (it.group, it.what, it.of, it.others, it.keys)).values()
         return [*map(merged, of_passes), *(self.lines.figures() if self.lines else ())]
 
 
-def whole(bench, kvbucket, folder):
+def whole(bench: str, kvbucket: str, folder: str) -> None:
     load = os.getloadavg()[0]
     it = Bench(bench, kvbucket)
     it.run()
@@ -531,7 +531,7 @@ def whole(bench, kvbucket, folder):
     say("%d figures, %d s, %d s of these for Rust's own crates" % (len(figures), watch.elapsed(), watch.of_peers))
 
 
-def main():
+def main() -> None:
     bench, kvbucket, *folder = sys.argv[1:]
     whole(bench, kvbucket, *(folder or [compared.FOLDER]))
 

@@ -5,6 +5,7 @@ long it has taken. What was proved stays in the crates' folders out/, so a build
 A crate begins when those that it stands on are done, and gets its share of the processors: where the crates stand one on
 another, one has them all."""
 import concurrent.futures, os, re, signal, subprocess, sys, time
+from typing import Any, Collection
 
 if __name__ == "__main__":
     sys.dont_write_bytecode = True
@@ -12,21 +13,21 @@ if __name__ == "__main__":
 from scripts import current, kit, top
 
 
-def processors():
+def processors() -> int:
     return len(os.sched_getaffinity(0))
 
 
-def memory():
+def memory() -> int:
     """The bytes that programs can get."""
     with open("/proc/meminfo", encoding="ascii") as told:
         return next(1024 * int(line.split()[1]) for line in told if line.startswith("MemAvailable:"))
 
 
-def log_of(crate):
+def log_of(crate: Any) -> str:
     return os.path.join(crate.folder, "out", "build.log")
 
 
-def so_far(crate):
+def so_far(crate: Any) -> str:
     """How many of a crate's functions are proved, as the prover last said, or nothing."""
     try:
         with open(log_of(crate), encoding="utf-8", errors="replace") as log:
@@ -36,7 +37,7 @@ def so_far(crate):
     return " (%s of %s functions)" % told[-1] if told else ""
 
 
-def show(path):
+def show(path: str) -> None:
     with open(path, encoding="utf-8", errors="replace") as log:
         sys.stderr.write("".join(log.readlines()[-20:]))
 
@@ -44,36 +45,38 @@ def show(path):
 class Build:
     """The build of a program: which of the crates that it stands on are proved, which are being proved, and which failed."""
 
-    def __init__(self, name, crates):
+    def __init__(self, name: str, crates: Collection[Any]) -> None:
         self.name, self.crates = name, crates
-        self.done, self.running, self.failed = [it for it in crates if it.is_built()], {}, []
+        self.done = [it for it in crates if it.is_built()]
+        self.running: dict[Any, int] = {}
+        self.failed: list[Any] = []
         self.started = time.monotonic()
 
-    def say(self, text):
+    def say(self, text: str) -> None:
         print("%s: %s" % (self.name, text), file=sys.stderr, flush=True)
 
-    def elapsed(self):
+    def elapsed(self) -> str:
         seconds = int(time.monotonic() - self.started)
         return "%d min %02d s" % divmod(seconds, 60) if seconds >= 60 else "%d s" % seconds
 
-    def blame(self, log, why):
+    def blame(self, log: str, why: str) -> None:
         """Shows the last lines of a log."""
         show(log)
         self.say("%s; all that was said of it is in %s" % (why, os.path.relpath(log, top)))
 
-    def ready(self):
+    def ready(self) -> list[Any]:
         waiting = [it for it in self.crates if it not in self.done and it not in self.running and it not in self.failed]
         return [it for it in waiting if all(dep in self.done for dep in it.below())]
 
-    def jobs(self, beside):
+    def jobs(self, beside: int) -> int:
         """The processors for a crate that is begun with so many others, where there are 3 GB for each."""
         free = processors() - sum(self.running.values())
         return max(1, min(free // beside, memory() // 3_000_000_000, 8))
 
-    def tell(self, proving):
+    def tell(self, proving: str) -> None:
         self.say("proving %s; %d of %d crates done; %s" % (proving, len(self.done), len(self.crates) + 1, self.elapsed()))
 
-    def prove_all(self):
+    def prove_all(self) -> bool:
         """Proves each crate below the program, and tells whether all are proved."""
         with concurrent.futures.ThreadPoolExecutor(processors()) as pool:
             runs, told = {}, 0.0
@@ -101,13 +104,13 @@ class Build:
         return not self.failed
 
 
-def prove(crate, jobs):
+def prove(crate: Any, jobs: int) -> Any:
     """Proves a library, and keeps what the prover says of it in its folder out/, as the file build.log."""
     with crate.out:
         return crate.build_rlib(["--jobs", str(jobs)], anew=False)
 
 
-def arguments(folder):
+def arguments(folder: str) -> list[str]:
     """The arguments that the program is run with once, as its crate's file says, if it has one."""
     path = os.path.join(folder, "args")
     if not os.path.exists(path):
@@ -116,14 +119,14 @@ def arguments(folder):
         return ["--", *words.read().split("\n")[:-1]]
 
 
-def link(folder, log):
+def link(folder: str, log: str) -> bool:
     """Proves and links the program itself, by rt, and runs it once on nothing."""
     with open(log, "w", encoding="utf-8") as file:
         done = subprocess.run(["rt", "run", *arguments(folder)], cwd=folder, stdin=subprocess.DEVNULL, stdout=file, stderr=file)
     return done.returncode == 0
 
 
-def main():
+def main() -> None:
     name = sys.argv[1] if len(sys.argv) > 1 else "kvbucket"
     program = current.path_of(name)
     # With Python's own handler an interrupt would wait for the checks that run.

@@ -7,6 +7,7 @@ import math, os, sys
 import matplotlib
 from matplotlib import figure as drawing, ticker
 from matplotlib.backends.backend_svg import FigureCanvasSVG
+from typing import Any, Callable, Optional, Sequence
 
 if __name__ == "__main__":
     sys.dont_write_bytecode = True
@@ -21,12 +22,12 @@ MARKS = "os^vD*Ppx+<>hH1"
 LINES = (":", "-.", "--", "-")
 
 
-def name_of(figure):
+def name_of(figure: figures.Figure) -> str:
     """What was measured, or of what, where several are set side by side."""
     return figure.of or figure.what
 
 
-def curve(axes, found, at, label, scale, colour=None, mark="o", line="-"):
+def curve(axes: Any, found: Sequence[figures.Figure], at: Any, label: str, scale: float, colour: Optional[str] = None, mark: str = "o", line: str = "-") -> None:
     """What is below a hundredth of the unit is drawn there, since the scales are logarithmic."""
     found = sorted(found, key=at)
     low, middle, high = ([max(getattr(it, part) / scale, 0.01) for it in found] for part in ("least", "median", "most"))
@@ -35,18 +36,18 @@ def curve(axes, found, at, label, scale, colour=None, mark="o", line="-"):
                   linestyle=line, capsize=2, color=colour)
 
 
-def colour_of(what):
+def colour_of(what: str) -> Optional[str]:
     return next((colour for name, colour in COLOURS.items() if name in what), None)
 
 
-def plain(axis):
+def plain(axis: Any) -> None:
     """Numbers, and no powers of ten, at 1, 2 and 5 of each decade."""
     axis.set_major_locator(ticker.LogLocator(subs=(1, 2, 5), numticks=60))
     axis.set_major_formatter(ticker.FuncFormatter(lambda value, _: "{:,.0f}".format(value) if value >= 1 else "{:g}".format(value)))
     axis.set_minor_formatter(ticker.NullFormatter())
 
 
-def across_keys(axes, found):
+def across_keys(axes: Any, found: Sequence[figures.Figure]) -> None:
     """A tick at each size, but for one that a little larger one stands for."""
     sizes = sorted({it.keys for it in found})
     axes.set_xscale("log")
@@ -58,17 +59,17 @@ def across_keys(axes, found):
 class Chart:
     """A chart of one file. `with` it curves are drawn, and then it is written and told."""
 
-    def __init__(self, folder, name, group, title, across, up):
+    def __init__(self, folder: str, name: str, group: str, title: str, across: str, up: str) -> None:
         self.path, self.told = os.path.join(folder, name), "%s\t%s" % (group, name)
         self.drawing = drawing.Figure(figsize=(7.5, 4.8))
         FigureCanvasSVG(self.drawing)
         self.axes = self.drawing.subplots()
         self.labels = {"xlabel": across, "ylabel": up, "title": title}
 
-    def __enter__(self):
+    def __enter__(self) -> Any:
         return self.axes
 
-    def __exit__(self, *raised):
+    def __exit__(self, *raised: object) -> None:
         self.axes.set(yscale="log", **self.labels)
         plain(self.axes.yaxis)
         self.axes.legend(fontsize=7.5, loc="center left", bbox_to_anchor=(1.0, 0.5))
@@ -77,7 +78,7 @@ class Chart:
         print(self.told)
 
 
-def chart(folder, name, group, of_group, title, across, up, scale):
+def chart(folder: str, name: str, group: str, of_group: Any, title: str, across: str, up: str, scale: float) -> None:
     """One chart: keys across, one curve for each of what was measured."""
     with Chart(folder, name, group, title, across, up) as axes:
         for place, (what, found) in enumerate(figures.grouped(of_group, name_of).items()):
@@ -85,7 +86,7 @@ def chart(folder, name, group, of_group, title, across, up, scale):
         across_keys(axes, of_group)
 
 
-def chart_of_others(folder, name, group, of_group, title, across, up, scale):
+def chart_of_others(folder: str, name: str, group: str, of_group: Any, title: str, across: str, up: str, scale: float) -> None:
     """One chart: threads beside the writer across; a colour for each that is set side by side, a line for each size."""
     with Chart(folder, name, group, title, across, up) as axes:
         for what, found in figures.grouped(of_group, name_of).items():
@@ -96,18 +97,18 @@ def chart_of_others(folder, name, group, of_group, title, across, up, scale):
         axes.set(xticks=sorted({it.others for it in of_group}))
 
 
-def at_both_ends(found):
+def at_both_ends(found: list[figures.Figure]) -> list[figures.Figure]:
     """The figures of 10,000 keys and of the most, where there are such: more curves could not be told apart."""
     return [it for it in found if it.keys == 10_000 or it.keys > 500_000] or found
 
 
-def beside(of, group, what):
+def beside(of: Any, group: str, what: str) -> list[figures.Figure]:
     """The figures of Rust's own crates in a group, with the bucket's of the same."""
     found = [it for it in of["rust-" + group] if it.what == what]
     return [it for it in of[group] if it.what == what and it.of == "Vilgoued"] + found if found else []
 
 
-def draw_peers(folder, of):
+def draw_peers(folder: str, of: Any) -> None:
     """The charts of Rust's own crates beside the bucket."""
     for word, title in (("get", "A get"), ("put", "A put")):
         if found := beside(of, "beside", word):
@@ -125,8 +126,8 @@ def draw_peers(folder, of):
                         "From a write's return to its delivery (bars: 99 of 100 are below)", "followers", "µs", 1e3)
 
 
-def draw(folder, of):
-    lists = lambda it: it.what.startswith(("keys of", "open a watch"))
+def draw(folder: str, of: Any) -> None:
+    lists: Callable[[figures.Figure], bool] = lambda it: it.what.startswith(("keys of", "open a watch"))
     calls = of["calls"]
     if calls:
         chart(folder, "calls.svg", "calls", [it for it in calls if not lists(it)], "Calls of the library on one thread",
@@ -167,7 +168,7 @@ def draw(folder, of):
               "µs a line", 1e3)
 
 
-def main():
+def main() -> None:
     folder = sys.argv[1]
     of = figures.grouped(figures.read(folder), lambda it: it.group)
     with matplotlib.rc_context(STYLE):

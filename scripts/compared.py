@@ -2,6 +2,7 @@
 """compared.py: writes into README.md, between its two marks, what the figures of docs/bench say of the bucket and of the rival that is
 hardest to beat in each row: of all that the bench measured beside it, the kit's and Rust's own."""
 import os, sys
+from typing import Any, Iterator, Sequence
 
 if __name__ == "__main__":
     sys.dont_write_bytecode = True
@@ -28,25 +29,25 @@ ROWS = (
 FEWER = 0.95
 
 
-def stands_in(figure, row):
+def stands_in(figure: figures.Figure, row: Sequence[Any]) -> bool:
     _, group, what, others, keys = row
     return (figure.group.removeprefix("rust-") == group and (figure.what, figure.others) == (what, others)
             and FEWER * keys <= figure.keys <= keys)
 
 
-def best(found):
+def best(found: Sequence[figures.Figure]) -> figures.Figure:
     """The best of these figures: the highest of what is counted by the second, and the lowest of what takes time."""
     return (max if found[0].unit == "a second" else min)(found, key=lambda it: it.median)
 
 
-def told(figure, found):
+def told(figure: figures.Figure, found: Sequence[figures.Figure]) -> str:
     """A figure in words; of reads with what the writer beside them writes, as a lock gives to the one what it takes from the other."""
     words = figures.in_words(figure.median, figure.unit)
     writes = [it for it in found if it[:5] == (figure.group, "writes", *figure[2:5])]
     return "%s, beside %s writes" % (words, figures.in_words(writes[0].median, writes[0].unit)) if figure.what == "reads" and writes else words
 
 
-def table(found):
+def table(found: Sequence[figures.Figure]) -> Iterator[str]:
     """The lines of the table: a row for each that the bucket and somebody else have a figure of."""
     yield "| | %s | The hardest to beat |\n" % OWN
     yield "|---|---|---|\n"
@@ -59,14 +60,14 @@ def table(found):
             yield "| %s | %s | %s: %s |\n" % (row[0], told(own[0], found), of, told(rival, found))
 
 
-def written(text, found):
+def written(text: str, found: Sequence[figures.Figure]) -> str:
     """A text with the table between its two marks."""
     before, _, rest = text.partition(BEGIN)
     _, _, behind = rest.partition(END)
     return "".join([before, BEGIN, "\n", *table(found), "\n", END, behind])
 
 
-def write(found):
+def write(found: Sequence[figures.Figure]) -> None:
     with open(README, encoding="utf-8") as file:
         text = file.read()
     if BEGIN in text:
@@ -74,7 +75,7 @@ def write(found):
             file.write(written(text, found))
 
 
-def main():
+def main() -> None:
     write(figures.read(FOLDER))
 
 

@@ -3,6 +3,7 @@
 of them and the first sentence of what is said above them, all from the sources. With --check it compares the page with what
 it would write, and ends with status 1 where they differ."""
 import os, re, sys
+from typing import Iterator, Optional, Sequence
 
 if __name__ == "__main__":
     sys.dont_write_bytecode = True
@@ -18,12 +19,12 @@ How to read a clause: `self.now` is the value that a call borrows, `self.old` an
 """
 
 
-def read(path):
+def read(path: str) -> str:
     with open(path, encoding="utf-8") as file:
         return file.read()
 
 
-def crates():
+def crates() -> list[str]:
     """The names of the crates that a contract is written for, in the order of crates.txt: no tests, and not the bench."""
     names = [line.split(":")[0].split()[0] for line in read(os.path.join(top, "crates.txt")).splitlines() if line.strip()]
     return [name for name in names if not re.search(r"_tests?$|_tools$|bench|gauge|^kvbucket$", name)]
@@ -32,14 +33,14 @@ def crates():
 class Call:
     """A public function: where it stands, its signature, its clauses, and what is said of it."""
 
-    def __init__(self, path, owner, signature, clauses, said):
+    def __init__(self, path: str, owner: Optional[str], signature: str, clauses: str, said: str) -> None:
         self.path, self.owner, self.signature, self.clauses, self.said = path, owner, signature, clauses, said
 
-    def name(self):
-        return re.findall(r"\bfn (\w+)", self.signature)[0]
+    def name(self) -> str:
+        return str(re.findall(r"\bfn (\w+)", self.signature)[0])
 
 
-def exported(root):
+def exported(root: str) -> tuple[set[str], set[str]]:
     """What a crate's root hands on: the names after `pub use`, and the modules that are public."""
     text = read(root)
     used = set()
@@ -48,7 +49,7 @@ def exported(root):
     return used, set(re.findall(r"^pub mod (\w+);", text, re.M))
 
 
-def sources(crate):
+def sources(crate: str) -> Iterator[tuple[str, str]]:
     """The source files of a crate, in the order in which its root names its modules, each with whether its module is public."""
     source = os.path.join(top, "crates", crate, "src")
     for folder, folders, files in os.walk(source):
@@ -59,21 +60,21 @@ def sources(crate):
                 yield path, os.path.relpath(path, source).split(os.sep)[0].removesuffix(".rt")
 
 
-def owner_of(line):
+def owner_of(line: str) -> Optional[str]:
     """The type whose calls an `impl` has, or None where it is of a trait."""
     head = re.sub(r"^(unsafe )?impl(<.*?>)?\s+(?=\w)", "", line.strip())
     if re.search(r"\bfor\b", head):
         return None
-    return re.findall(r"\w+", head)[0]
+    return str(re.findall(r"\w+", head)[0])
 
 
-def is_balanced(lines):
+def is_balanced(lines: Sequence[str]) -> bool:
     """Whether each brace that is opened in the lines is closed in them: a clause may have a record, whose lines end by semicolons."""
     text = "".join(lines)
     return text.count("{") == text.count("}")
 
 
-def declaration(lines, at):
+def declaration(lines: Sequence[str], at: int) -> tuple[str, str, int]:
     """The signature and the clauses of the function that begins at a line, and its last line."""
     indent = lines[at][: len(lines[at]) - len(lines[at].lstrip())]
     head: list[str] = []
@@ -90,7 +91,7 @@ def declaration(lines, at):
     return "\n".join(head), "\n".join(it.removeprefix("    ") for it in clauses), at
 
 
-def calls_of(path):
+def calls_of(path: str) -> Iterator[Call]:
     """The functions of a file that are declared `pub` or in a trait that is, with the type or trait that they belong to."""
     lines = read(path).splitlines()
     owner, kind, said, at = None, None, [], 0
@@ -115,7 +116,7 @@ def calls_of(path):
         at += 1
 
 
-def public_calls(crate):
+def public_calls(crate: str) -> Iterator[Call]:
     """The calls that whoever uses a crate can name."""
     used, modules = exported(os.path.join(top, "crates", crate, "src", "lib.rt"))
     for path, module in sources(crate):
@@ -125,17 +126,17 @@ def public_calls(crate):
                 yield call
 
 
-def first_sentence(said):
-    return re.findall(r".*?[.:](?=\s|$)|.*", said)[0].rstrip(":")
+def first_sentence(said: str) -> str:
+    return str(re.findall(r".*?[.:](?=\s|$)|.*", said)[0]).rstrip(":")
 
 
-def signature(call):
+def signature(call: Call) -> str:
     """A signature on one line, without `pub`."""
     text = re.sub(r"\s+", " ", call.signature).replace("( ", "(").replace(", )", ")")
     return re.sub(r"^\s*pub ", "", text)
 
 
-def section(crate):
+def section(crate: str) -> str:
     """What the page has of a crate."""
     calls = list(public_calls(crate))
     if not calls:
@@ -152,12 +153,12 @@ def section(crate):
     return "\n".join(out)
 
 
-def page():
+def page() -> str:
     """The whole page."""
     return INTRO + "\n" + "\n".join(filter(None, map(section, crates())))
 
 
-def main():
+def main() -> None:
     if sys.argv[1:] == ["--check"]:
         if not os.path.exists(PAGE) or read(PAGE) != page():
             print("docs/contracts.md is not what the sources say: run ./scripts/contracts.py", file=sys.stderr)

@@ -9,7 +9,10 @@ given away for it.
 NAME is a program, as kvbucket, or libvilgoued, which ./library leaves in lib/. What it is made from is a text with a sum for each
 crate that it stands on: of the crate's line of crates.txt, and of each file of its code, its definitions and its proofs; and with
 one for each other file. A build leaves the text beside what it made, with the sums of that."""
-import collections, hashlib, os, re, subprocess, sys
+from __future__ import annotations
+
+import hashlib, os, re, subprocess, sys
+from typing import NamedTuple
 
 if __name__ == "__main__":
     sys.dont_write_bytecode = True
@@ -17,25 +20,31 @@ if __name__ == "__main__":
 from scripts import top
 
 PARTS = ("src", "specs", "proofs")
-# What a build makes, as paths of the repository: of a crate and those below it, and of other files and folders.
-Built = collections.namedtuple("Built", "crate others made")
 PROGRAM, LIBRARY = "kvbucket", "libvilgoued"
 
 
-def built(name):
+class Built(NamedTuple):
+    """What a build makes, as paths of the repository: of a crate and those below it, and of other files and folders."""
+
+    crate: str
+    others: tuple[str, ...]
+    made: tuple[str, ...]
+
+
+def built(name: str) -> Built:
     if name == LIBRARY:
         return Built("kv_c", ("library", "include", "c", "scripts/exports.map"), ("lib/libvilgoued.a", "lib/libvilgoued.so"))
     return Built(name, (), ("crates/%s/out/%s" % (name, name),))
 
 
-def crates():
+def crates() -> dict[str, str]:
     """The line of each crate of crates.txt, by its name."""
     with open(os.path.join(top, "crates.txt"), encoding="utf-8") as file:
         lines = file.read().splitlines()
     return {re.split("[ :]", line)[0]: line for line in lines if re.match("[a-z0-9_]+[ :]", line)}
 
 
-def below(name):
+def below(name: str) -> list[str]:
     """This crate and those that it stands on, but for the kit's."""
     lines, found, waiting = crates(), set(), [name]
     while waiting:
@@ -46,17 +55,17 @@ def below(name):
     return sorted(found)
 
 
-def sum_of(data):
+def sum_of(data: bytes) -> str:
     return hashlib.sha256(data).hexdigest()
 
 
-def sum_line(path):
+def sum_line(path: str) -> str:
     """The sum of a file of the repository, and its path."""
     with open(os.path.join(top, path), "rb") as file:
         return "%s  %s\n" % (sum_of(file.read()), path)
 
 
-def files_in(path):
+def files_in(path: str) -> list[str]:
     """The files of the repository below a path, or the one that it is; none where nothing is there."""
     whole = os.path.join(top, path)
     if os.path.isfile(whole):
@@ -65,20 +74,20 @@ def files_in(path):
     return sorted((os.path.relpath(it, top) for it in found), key=os.fsencode)
 
 
-def crate_line(crate, line):
+def crate_line(crate: str, line: str) -> str:
     """The sum of a crate, and its path."""
     files = (path for part in PARTS for path in files_in("crates/%s/%s" % (crate, part)))
     return "%s  crates/%s\n" % (sum_of("".join([line + "\n", *map(sum_line, files)]).encode()), crate)
 
 
-def sources(name):
+def sources(name: str) -> str:
     """What this is made from."""
     lines, it = crates(), built(name)
     others = (path for other in it.others for path in files_in(other))
     return "".join([*(crate_line(crate, lines[crate]) for crate in below(it.crate)), *map(sum_line, others)])
 
 
-def version_of(*command, word=""):
+def version_of(*command: str, word: str = "") -> str:
     """The first line with this word of what a tool tells of itself."""
     try:
         done = subprocess.run(command, stdin=subprocess.DEVNULL, capture_output=True, text=True)
@@ -87,28 +96,28 @@ def version_of(*command, word=""):
     return next((line.strip() for line in (done.stdout + done.stderr).splitlines() if word in line), "unknown")
 
 
-def compiler():
+def compiler() -> str:
     """The C compiler that ./library takes, and the tools that it links with: others make other bytes."""
     return "%s, %s" % (version_of(os.environ.get("CC") or "cc", "-v", word=" version "), version_of("strip", "--version"))
 
 
-def path_of(name):
+def path_of(name: str) -> str:
     """The path of a program, or of the first file of another thing that is made."""
     return os.path.join(top, built(name).made[0])
 
 
-def note_of(name):
+def note_of(name: str) -> str:
     """The file that a build leaves beside what it made."""
     return path_of(name) + ".sources"
 
 
-def noted(name, made_from):
+def noted(name: str, made_from: str) -> str:
     """What this file holds of what is made from this."""
     by = "compiler: %s\n" % compiler() if name == LIBRARY else ""
     return "".join([made_from, by, *map(sum_line, built(name).made)])
 
 
-def is_current(name):
+def is_current(name: str) -> bool:
     try:
         with open(note_of(name), encoding="utf-8") as file:
             return file.read() == noted(name, sources(name))
@@ -116,7 +125,7 @@ def is_current(name):
         return False
 
 
-def keep(name, made_from):
+def keep(name: str, made_from: str) -> bool:
     """Notes it as current, if the sources are still these."""
     is_same = sources(name) == made_from
     if is_same:
@@ -125,7 +134,7 @@ def keep(name, made_from):
     return is_same
 
 
-def main():
+def main() -> None:
     words = sys.argv[1:]
     if words[:1] == ["--sources"]:
         sys.stdout.write(sources(words[1]))

@@ -2,7 +2,10 @@
 """find.py NAME [FOLDER]: prints the path of what stands for the sources as they are now: of the program kvbucket, or of the library,
 libvilgoued.a or libvilgoued.so. It is the one that was built here, or else that of a release in dist/, which is unpacked into FOLDER,
 or into out/release where none is named. Where there is neither, one sentence says why, and the status is 1."""
+from __future__ import annotations
+
 import os, sys, tempfile
+from typing import Optional
 
 if __name__ == "__main__":
     sys.dont_write_bytecode = True
@@ -19,13 +22,13 @@ FILES = {
 }
 
 
-def changed(release, name):
+def changed(release: str, name: str) -> list[str]:
     """What has other sources now than this release, of those that this is made from."""
     build = next((member.data.decode() for path, member in archive.each(release) if path == "BUILD"), "").splitlines()
     return [line.split()[1] for line in current.sources(name).splitlines() if line not in build]
 
 
-def of_release(file):
+def of_release(file: str) -> bytes:
     """The bytes of a file in a release of the sources as they are now."""
     name, inside = FILES[file]
     others = {release: changed(release, name) for release in archive.names() or [archive.only()]}
@@ -39,7 +42,7 @@ def of_release(file):
     return data
 
 
-def unpack(data, path):
+def unpack(data: bytes, path: str) -> str:
     """Puts a file where it can be run, unless it lies there already."""
     try:
         with open(path, "rb") as there:
@@ -56,20 +59,20 @@ def unpack(data, path):
     return path
 
 
-def own_folder(data):
+def own_folder(data: bytes) -> str:
     """A folder of the user's for a file with these bytes, for where the checkout can't be written."""
     caches = os.environ.get("XDG_CACHE_HOME") or os.path.expanduser("~/.cache")
     return os.path.join(caches, "vilgoued", current.sum_of(data))
 
 
-def built(file):
+def built(file: str) -> Optional[str]:
     """The path of a file that was built here from the sources as they are now, or None."""
     name = FILES[file][0]
     paths = [os.path.join(top, path) for path in current.built(name).made] if current.is_current(name) else []
     return next((path for path in paths if os.path.basename(path) == file), None)
 
 
-def find(file, folder=None):
+def find(file: str, folder: Optional[str] = None) -> str:
     """The path of a file, or archive.Missing."""
     path = built(file)
     if path:
@@ -83,7 +86,7 @@ def find(file, folder=None):
         return unpack(data, os.path.join(own_folder(data), file))
 
 
-def main():
+def main() -> None:
     words = sys.argv[1:]
     if not 1 <= len(words) <= 2 or words[0] not in FILES:
         sys.exit("find.py: name one of %s, and at most a folder to unpack it into" % ", ".join(FILES))

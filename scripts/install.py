@@ -1,6 +1,8 @@
 #!/usr/bin/env python3
 """install.py [PREFIX]: puts the release that lies in dist/ under a folder, ~/.local where none is named, and tells each file that it
 wrote, and how they are found there."""
+from __future__ import annotations
+
 import os, shlex, sys, tempfile
 
 if __name__ == "__main__":
@@ -14,7 +16,7 @@ DOCUMENTS = {"BUILD": "share/doc/vilgoued/BUILD", "LICENSE": "share/doc/vilgoued
 FOUND_BY = (("PATH", "bin"), ("PKG_CONFIG_PATH", "lib/pkgconfig"), ("PYTHONPATH", "lib/python"))
 
 
-def put(path, member):
+def put(path: str, member: archive.Member) -> None:
     """Writes a file, or a link, in place of what is there: who runs the old one, or reads it, keeps it."""
     os.makedirs(os.path.dirname(path), exist_ok=True)
     with tempfile.TemporaryDirectory(dir=os.path.dirname(path)) as folder:
@@ -28,7 +30,7 @@ def put(path, member):
         os.replace(new, path)
 
 
-def install(prefix):
+def install(prefix: str) -> None:
     name = archive.only()
     for path, member in dict(archive.each(name)).items():
         whole = os.path.join(prefix, DOCUMENTS.get(path, path))
@@ -39,7 +41,7 @@ def install(prefix):
         print("export %s=%s${%s:+:$%s}" % (variable, shlex.quote(os.path.join(prefix, folder)), variable, variable))
 
 
-def main():
+def main() -> None:
     words = sys.argv[1:]
     try:
         if len(words) > 1 or any(word.startswith("-") for word in words):

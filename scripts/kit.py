@@ -4,6 +4,7 @@
     kit.py version    prints the kit and the logic that it proves in, as rt does, or nothing where there is no kit
     kit.py logic      prints the logic alone, as programs tell it"""
 import contextlib, functools, importlib.machinery, importlib.util, os, shutil, subprocess, sys
+from typing import Any, Iterator, Optional
 
 if __name__ == "__main__":
     sys.dont_write_bytecode = True
@@ -11,23 +12,23 @@ if __name__ == "__main__":
 from scripts import top
 
 
-def command():
+def command() -> Optional[str]:
     """The path of rt, or None where it is not to be had."""
     return shutil.which("rt")
 
 
-def folder():
+def folder() -> Optional[str]:
     """The folder of the kit's programs, of its guide and of its libraries, or None."""
     rt = command()
     return rt and os.path.dirname(os.path.realpath(rt))
 
 
-def libraries():
+def libraries() -> str:
     """The folder of the kit's libraries for Rattle."""
     return os.path.join(os.path.dirname(folder() or ""), "rattle")
 
 
-def asked(*words):
+def asked(*words: str) -> str:
     """What rt answers to these words, or nothing."""
     try:
         return subprocess.run(["rt", *words], stdin=subprocess.DEVNULL, capture_output=True, text=True).stdout.strip()
@@ -35,24 +36,24 @@ def asked(*words):
         return ""
 
 
-def version():
+def version() -> str:
     """The kit and the logic that it proves in."""
     return asked("version")
 
 
-def logic():
+def logic() -> str:
     """The logic that this kit proves in, as programs tell it: releases of one logic prove the same."""
     return version().partition(" ")[2]
 
 
-def compiler():
+def compiler() -> str:
     """A C compiler: the kit's own, or else cc."""
     clang = os.path.join(os.path.dirname(asked("doc")), "toolchain", "bin", "clang")
     return clang if os.access(clang, os.X_OK) else "cc"
 
 
 @functools.cache
-def builder():
+def builder() -> Any:
     """The kit's own builder of crates, which rt is made of: rt itself keeps two crates that stand on one from being proved side
     by side, as it holds every crate below the one that it works on."""
     loader = importlib.machinery.SourceFileLoader("rtlib", os.path.join(folder() or "", "rtlib.py"))
@@ -65,13 +66,13 @@ def builder():
     return made
 
 
-def crate(name):
+def crate(name: str) -> Any:
     """A crate of the repository, as the kit's builder knows it."""
     return builder().Crate(os.path.join(top, "crates", name), top, {})
 
 
 @contextlib.contextmanager
-def held(whole):
+def held(whole: Any) -> Iterator[None]:
     """No other run of the kit works in this crate, and in those below it, until the end of the block."""
     locks = builder().lock([*whole.below(), whole])
     try:
@@ -81,7 +82,7 @@ def held(whole):
             os.close(it)
 
 
-def main():
+def main() -> None:
     print({"version": version, "logic": logic}[sys.argv[1]]())
 
 

@@ -3,6 +3,7 @@
 docs/bench/layers.md. It wants the library (./library), a C compiler, cargo and go, and takes half a minute. What a package adds that is
 above its bound is told on standard error."""
 import datetime, os, re, subprocess, sys, tempfile
+from typing import Any, Iterable, Sequence
 
 if __name__ == "__main__":
     sys.dont_write_bytecode = True
@@ -23,7 +24,7 @@ class Missing(Exception):
     """What has to be there first."""
 
 
-def printed(words, folder, **more):
+def printed(words: Sequence[str], folder: str, **more: str) -> str:
     try:
         done = subprocess.run(words, cwd=os.path.join(top, folder), stdin=subprocess.DEVNULL, capture_output=True, text=True,
                               env={**os.environ, **more})
@@ -34,7 +35,7 @@ def printed(words, folder, **more):
     return done.stdout
 
 
-def shell():
+def shell() -> list[tuple[str, str]]:
     """What calls of a bucket that threads share take in C: what, and nanoseconds."""
     with tempfile.TemporaryDirectory() as folder:
         program = os.path.join(folder, "costs")
@@ -42,28 +43,28 @@ def shell():
         return [(call.strip(), ns + " ns") for call, ns in TOLD.findall(printed([program], ""))]
 
 
-def packages():
+def packages() -> list[tuple[Any, ...]]:
     """What each package adds to a call: its name, the call, and the nanoseconds in C, there, and between the two."""
     rust = printed(["cargo", "run", "--release", "--offline", "--quiet", "--example", "costs"], "rust", VILGOUED_LIB=LIBRARY)
     go = printed(["go", "run", "./costs"], "go", GOFLAGS="-mod=mod", GOPROXY="off")
     return [(name, call, *map(int, numbers)) for name, text in (("Rust", rust), ("Go", go)) for call, *numbers in ADDED.findall(text)]
 
 
-def above(rows):
+def above(rows: Iterable[tuple[Any, ...]]) -> list[str]:
     """What is added that is above its bound, in a line each."""
     return ["%s, %s: %d ns added, above %d ns" % (name, call, added, BOUNDS[name])
             for name, call, _, _, added in rows if added > BOUNDS[name]]
 
 
-def in_words(row):
+def in_words(row: tuple[Any, ...]) -> tuple[str, ...]:
     return (*row[:2], *("%d ns" % ns for ns in row[2:]))
 
 
-def table(head, rows):
+def table(head: Sequence[str], rows: Iterable[Sequence[str]]) -> str:
     return "\n".join("| %s |" % " | ".join(row) for row in (head, ["---"] * len(head), *rows))
 
 
-def page(of_shell, of_packages, day):
+def page(of_shell: Iterable[Sequence[str]], of_packages: Iterable[tuple[Any, ...]], day: str) -> str:
     return """# What the library takes from C, Rust and Go
 
 `scripts/layers.py` wrote this page on %s, on %d processors with nothing else to do. Nothing of it is promised.
@@ -79,7 +80,7 @@ What the packages add to a call, the least of 200 rounds among 16 keys (`rust/ex
        table(["Package", "Call", "In C", "There", "Added"], map(in_words, of_packages)))
 
 
-def main():
+def main() -> None:
     try:
         if not os.path.exists(LIBRARY):
             raise Missing("there is no lib/libvilgoued.a: run ./library")

@@ -5,6 +5,7 @@
                         them, without a watch and with one that takes as it goes
 """
 import os, subprocess, sys, threading
+from typing import Mapping, Optional, Sequence
 
 # A value of 16 bytes, in base64.
 VALUE = "MDEyMzQ1Njc4OTAxMjM0NQ=="
@@ -17,7 +18,7 @@ ENVIRONMENT = {"GLIBC_TUNABLES": "glibc.malloc.hugetlb=1", **os.environ}
 class Program:
     """A program that runs, and waits for lines."""
 
-    def __init__(self, path, environment=None):
+    def __init__(self, path: str, environment: Optional[Mapping[str, str]] = None) -> None:
         self.path = path
         self.process = subprocess.Popen([path], stdin=subprocess.PIPE, stdout=subprocess.PIPE, env=environment or ENVIRONMENT)
         assert self.process.stdin and self.process.stdout
@@ -27,7 +28,7 @@ class Program:
         self.news = threading.Condition()
         threading.Thread(target=self.count_answers, daemon=True).start()
 
-    def count_answers(self):
+    def count_answers(self) -> None:
         while answers := os.read(self.answers.fileno(), 1 << 20):
             with self.news:
                 self.answered += answers.count(b"\n")
@@ -37,15 +38,15 @@ class Program:
             self.has_ended = True
             self.news.notify()
 
-    def processor_time(self):
+    def processor_time(self) -> int:
         with open(f"/proc/{self.process.pid}/schedstat", encoding="ascii") as told:
             return int(told.read().split()[0])
 
-    def megabytes(self):
+    def megabytes(self) -> int:
         with open(f"/proc/{self.process.pid}/status", encoding="ascii") as told:
             return next(int(line.split()[1]) // 1024 for line in told if line.startswith("VmRSS"))
 
-    def tell(self, lines, answers):
+    def tell(self, lines: str, answers: int) -> float:
         """Writes lines, waits for so many answers, and returns the microseconds that they took."""
         before = self.processor_time()
         self.lines.write(lines.encode())
@@ -57,18 +58,18 @@ class Program:
             sys.exit("%s ended before it had answered" % self.path)
         return (self.processor_time() - before) / 1000
 
-    def put(self, keys):
+    def put(self, keys: Sequence[int]) -> float:
         """Puts to each key, and returns the microseconds a put."""
         return self.tell("".join(f"put device.{key}.state {VALUE}\n" for key in keys), len(keys)) / len(keys)
 
-    def end(self):
+    def end(self) -> None:
         """Ends the program, which has to have answered each line, and refused none."""
         self.lines.close()
         if self.process.wait() != 0 or self.refused:
             sys.exit("%s: %d lines were refused" % (self.path, self.refused))
 
 
-def three_million(path, watched):
+def three_million(path: str, watched: bool) -> None:
     """Three million puts over a thousand keys with a compaction every 100,000: the memory after each million."""
     program = Program(path)
     told = []
@@ -86,7 +87,7 @@ def three_million(path, watched):
     program.end()
 
 
-def main():
+def main() -> None:
     for watched in False, True:
         three_million(sys.argv[1], watched)
 

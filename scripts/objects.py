@@ -1,12 +1,13 @@
 """The objects of a static library, as ar writes it in GNU's form, and what of libvilgoued.a the kit made."""
 import hashlib
+from typing import Iterator
 
 START, HEADER = b"!<arch>\n", 60
 # The objects of the shell in C, which the machine's own compiler makes; all others of libvilgoued.a are the kit's.
 OWN = ("opening.o", "shared.o", "watcher.o")
 
 
-def headers(data):
+def headers(data: bytes) -> Iterator[tuple[str, bytes]]:
     """The name that stands before each member, and the member's bytes."""
     if not data.startswith(START):
         raise ValueError("it is no static library")
@@ -18,7 +19,7 @@ def headers(data):
         at += size + size % 2
 
 
-def objects(data):
+def objects(data: bytes) -> Iterator[tuple[str, bytes]]:
     """The name and the bytes of each object, in order: without the table of symbols, and that of long names."""
     long_names = b""
     for name, content in headers(data):
@@ -31,7 +32,7 @@ def objects(data):
             yield name.rstrip("/"), content
 
 
-def sum_of_kit(data):
+def sum_of_kit(data: bytes) -> str:
     """The sum of all that the kit made, whoever compiled the rest."""
     lines = ("%s  %s\n" % (hashlib.sha256(content).hexdigest(), name) for name, content in objects(data) if name not in OWN)
     return hashlib.sha256("".join(lines).encode()).hexdigest()

@@ -21,12 +21,12 @@ class Missing(Exception):
     """Why there is no such program, in one sentence."""
 
 
-def copied(path, to):
+def copied(path: str, to: str) -> None:
     shutil.rmtree(to, ignore_errors=True)
     shutil.copytree(path, to)
 
 
-def renamed(path):
+def renamed(path: str) -> None:
     """Gives the sources of im-rc the name im: by that its build counts owners across threads."""
     manifest = os.path.join(path, "Cargo.toml")
     with open(manifest, encoding="utf-8") as file:
@@ -40,7 +40,7 @@ def renamed(path):
     os.remove(os.path.join(path, ".cargo-checksum.json"))
 
 
-def laid_out():
+def laid_out() -> None:
     found = sorted(glob.glob(os.path.join(SOURCES, "im-rc-15.*")))
     if not found:
         raise Missing("there are no sources of im: apt-get install " + " ".join(PACKAGES))
@@ -51,11 +51,11 @@ def laid_out():
     renamed(os.path.join(BUILT, "im"))
 
 
-def config(name, value):
+def config(name: str, value: str) -> list[str]:
     return ["--config", "%s = '%s'" % (name, value)]
 
 
-def built():
+def built() -> str:
     """The path of the program, built from the sources as they are now."""
     if shutil.which("cargo") is None:
         raise Missing("there is no cargo: apt-get install cargo")
@@ -69,7 +69,7 @@ def built():
     return PROGRAM
 
 
-def main():
+def main() -> None:
     try:
         print(built())
     except (Missing, OSError) as error:

@@ -7,6 +7,7 @@ of the library it compares so where that is the compiler of the release, and els
 its sum, whatever compiler there is. A checkout whose commits have or had a release has to have one; where there is none else, it says that
 this is left out."""
 import os, subprocess, sys, tempfile
+from typing import Sequence
 
 if __name__ == "__main__":
     sys.dont_write_bytecode = True
@@ -35,12 +36,12 @@ class Refused(Exception):
     """Why no release is made, or why the one that is there is no longer right."""
 
 
-def read(path):
+def read(path: str) -> bytes:
     with open(os.path.join(top, path), "rb") as file:
         return file.read()
 
 
-def version():
+def version() -> str:
     """The version, as the program tells it, which has to be proved in the logic of this kit."""
     told = subprocess.run([current.path_of(PROGRAM), "--version"], stdin=subprocess.DEVNULL, capture_output=True, text=True).stdout
     name, proved = told.rstrip("\n").partition(", proved with Rattle's ")[::2]
@@ -49,13 +50,13 @@ def version():
     return name.removeprefix(PROGRAM + " ")
 
 
-def sources():
+def sources() -> str:
     """What the release is made from: the sums of the program's sources and of the library's."""
     lines = {line for name in BUILDS for line in current.sources(name).splitlines(True)}
     return "".join(sorted(lines, key=lambda line: line.split()[1]))
 
 
-def stripped(path):
+def stripped(path: str) -> bytes:
     """The bytes of a library without the names that nothing outside it asks for."""
     with tempfile.TemporaryDirectory() as folder:
         copy = os.path.join(folder, "copy")
@@ -64,18 +65,18 @@ def stripped(path):
             return file.read()
 
 
-def libraries():
+def libraries() -> list[bytes]:
     """What the machine's own C compiler makes, in the order of LIBRARIES."""
     static, shared = map(stripped, current.built(LIBRARY).made)
     return [static, shared, shared]
 
 
-def kit_part():
+def kit_part() -> str:
     """The sum of what the kit made of the static library that was built last, before anything was stripped of it."""
     return objects.sum_of_kit(read(current.built(LIBRARY).made[0]))
 
 
-def package():
+def package() -> dict[str, bytes]:
     """The files of the Python package, by their paths beside it."""
     paths = [path for path in current.files_in(PACKAGE) if "__pycache__" not in path and not path.endswith(".so")]
     if PACKAGE + "/__init__.py" not in paths:
@@ -83,17 +84,17 @@ def package():
     return {os.path.relpath(path, os.path.dirname(PACKAGE)): read(path) for path in paths}
 
 
-def manual():
+def manual() -> dict[str, bytes]:
     """The manual pages, each in the folder of its section, which its ending tells."""
     return {"share/man/man%s/%s" % (path[-1], os.path.basename(path)): read(path) for path in current.files_in("docs/man")}
 
 
-def needs(name):
+def needs(name: str) -> None:
     if not current.is_current(name):
         raise Refused("%s was not built from the sources as they are now: run %s" % (name, BUILDS[name]))
 
 
-def wanted(compiler, libraries):
+def wanted(compiler: str, libraries: Sequence[bytes]) -> tuple[str, dict[str, archive.Member]]:
     """The name of the release that has to be there now, and its members by path, with the libraries that this compiler made."""
     release = version()
     build = "version: %s\nkit: %s\ncompiler: %s\nlibvilgoued.a, what the kit made: %s\nsources:\n%s" % (
@@ -110,7 +111,7 @@ def wanted(compiler, libraries):
     return archive.name_of(release), members
 
 
-def make():
+def make() -> None:
     needs(PROGRAM)
     needs(LIBRARY)
     name, members = wanted(current.compiler(), libraries())
@@ -118,17 +119,17 @@ def make():
     print("made %s: %d files, %d kB" % (os.path.relpath(path, top), len(members), -(-os.path.getsize(path) // 1000)))
 
 
-def told(build, word):
+def told(build: str, word: str) -> str:
     """What BUILD tells behind this word."""
     return next((line[len(word) + 2:] for line in build.splitlines() if line.startswith(word + ": ")), "")
 
 
-def older(build):
+def older(build: str) -> list[str]:
     """The crates and files that are no longer those of BUILD."""
     return [line.split()[1] for line in sources().splitlines() if line not in build.splitlines()]
 
 
-def commits_have_one():
+def commits_have_one() -> bool:
     """Whether this is a checkout, and one of its commits has dist/."""
     if not os.path.lexists(os.path.join(top, ".git")):
         return False
@@ -142,7 +143,7 @@ def commits_have_one():
     return done.stdout != ""
 
 
-def check():
+def check() -> None:
     if not archive.machines() and not commits_have_one():
         print("1 left out: there is no release in dist/ to compare, and no commit has one")
         return
@@ -170,7 +171,7 @@ def check():
         print("of the libraries what the kit made was compared, and the sources of the rest, since another compiler made them: " + compiler)
 
 
-def main():
+def main() -> None:
     try:
         if sys.argv[1:] not in ([], ["--check"]):
             raise Refused("the only argument is --check, which compares the release in dist/ with what was built")

@@ -9,7 +9,7 @@ if __name__ == "__main__":
 from scripts import kit
 
 
-def main():
+def main() -> None:
     rtlib, crate = kit.builder(), kit.crate("kv_c")
     missing = [it.name for it in crate.below() if not os.path.isdir(it.rlib)]
     if missing:

@@ -10,17 +10,17 @@ LIBRARY = "vilgoued/libvilgoued.so"
 GLIBC = "2_34"
 
 
-def told(pattern):
+def told(pattern: str) -> list[str]:
     """What pyproject.toml says behind this."""
     with open(PYPROJECT, encoding="utf-8") as file:
         return re.findall(pattern, file.read(), re.M)
 
 
-def tag():
+def tag() -> str:
     return "py3-none-manylinux_%s_%s" % (GLIBC, platform.machine())
 
 
-def information(version):
+def information(version: str) -> dict[str, str]:
     """The files that tell pip of the package, by their names."""
     of = told('^description = "(.*)"$')[0], told('^requires-python = "(.*)"$')[0]
     commands = "".join("%s = %s\n" % it for it in told('^([a-z-]+) = "(vilgoued[.].*)"$'))
@@ -31,12 +31,12 @@ def information(version):
     }
 
 
-def record_of(path, data):
+def record_of(path: str, data: bytes) -> str:
     """The line of RECORD for a member."""
     return "%s,sha256=%s,%d\n" % (path, base64.urlsafe_b64encode(hashlib.sha256(data).digest()).rstrip(b"=").decode(), len(data))
 
 
-def zipped(members):
+def zipped(members: dict[str, bytes]) -> bytes:
     written = io.BytesIO()
     with zipfile.ZipFile(written, "w", zipfile.ZIP_STORED) as file:
         for path, data in members.items():
@@ -46,7 +46,7 @@ def zipped(members):
     return written.getvalue()
 
 
-def wheel(version, package, library):
+def wheel(version: str, package: dict[str, bytes], library: bytes) -> tuple[str, bytes]:
     """The name and the bytes of the wheel of a package's files, by their paths, with this library."""
     folder = "vilgoued-%s.dist-info" % version
     members = {**package, LIBRARY: library, **{"%s/%s" % (folder, name): text.encode() for name, text in information(version).items()}}

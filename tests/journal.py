@@ -1,5 +1,6 @@
 """Reads a journal file by the words of docs/journal.md alone."""
 import collections, struct
+from typing import Any, Optional
 
 MAGIC = b"vilgoued\x01"
 SEARCH, LONGEST = 2_097_152, 1_048_845
@@ -10,7 +11,7 @@ class NoJournal(Exception):
     """The bytes do not begin as a journal does."""
 
 
-def crc32c(data):
+def crc32c(data: bytes) -> int:
     """CRC-32C (Castagnoli) of bytes, bit by bit."""
     crc = 0xFFFFFFFF
     for byte in data:
@@ -20,7 +21,7 @@ def crc32c(data):
     return crc ^ 0xFFFFFFFF
 
 
-def frame_at(data, seed, at, until=None):
+def frame_at(data: bytes, seed: int, at: int, until: Optional[int] = None) -> Optional[bytes]:
     """The payload of the whole frame that begins at this place, or None."""
     data = data[:until]
     if len(data) < at + 8:
@@ -31,7 +32,7 @@ def frame_at(data, seed, at, until=None):
     return payload if whole else None
 
 
-def entry(payload):
+def entry(payload: bytes) -> tuple[Any, ...]:
     """What an entry tells: the number of loose bytes before it, its kind, and what follows from that."""
     loose, kind = struct.unpack_from(">IB", payload)
     rest = payload[5:]
@@ -43,7 +44,7 @@ def entry(payload):
     return loose, {5: "compact", 9: "closed"}[kind], struct.unpack(">Q", rest)[0]
 
 
-def shows_damage(data, seed, bad):
+def shows_damage(data: bytes, seed: int, bad: int) -> bool:
     """Whether a whole frame behind the bad place says that this place was on the disk."""
     for at in range(bad + 1, min(len(data), bad + SEARCH)):
         payload = frame_at(data, seed, at, at + LONGEST)
@@ -52,7 +53,7 @@ def shows_damage(data, seed, bad):
     return False
 
 
-def read(data):
+def read(data: bytes) -> Journal:
     """The journal in these bytes; `end` is where its last whole frame ends."""
     if len(data) < 17 or not data.startswith(MAGIC):
         raise NoJournal

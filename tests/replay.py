@@ -1,9 +1,11 @@
 """Runs the lines of a script (docs/script.md) on a bucket of Python, over the library for C or a NATS server, and writes the answers as
 ./kvbucket does. So it can be seen what another bucket answers to the same lines. It has no race."""
 import base64, json, re
-from typing import Any
+from typing import Any, Callable, Optional
 
-from vilgoued import BadFilter, KeyNotFound, KvError, NoSuchWatch
+from vilgoued import BadFilter, Entry, KeyNotFound, KvError, NoSuchWatch
+
+from tests.worked import Script
 
 NUMBER = r"(\d{1,20})"
 VALUE = r"(-|(?:[A-Za-z0-9+/]{4})*(?:[A-Za-z0-9+/]{4}|[A-Za-z0-9+/]{3}=|[A-Za-z0-9+/]{2}==))"
@@ -25,6 +27,8 @@ COMMANDS = {
     "place": r"place ([^ ]+)",
     "batch": r"batch " + NUMBER,
 }
+# What a line is answered by.
+Told = dict[str, Any]
 WRITES = ("put", "create", "update", "delete", "purge")
 
 
@@ -34,14 +38,14 @@ class BadCommand(KvError):
     code = 16
 
 
-def number(text):
+def number(text: str) -> int:
     """A number of 64 bits."""
     if int(text) >= 1 << 64:
         raise BadCommand()
     return int(text)
 
 
-def value(text):
+def value(text: str) -> bytes:
     """The bytes that the base64 of a line stands for."""
     data = b"" if text == "-" else base64.b64decode(text)
     if text != "-" and base64.b64encode(data).decode() != text:
@@ -49,7 +53,7 @@ def value(text):
     return data
 
 
-def words_of(line):
+def words_of(line: str) -> tuple[str, tuple[Any, ...]]:
     """The name of a command, and what stands behind it."""
     name = line.split(" ")[0]
     words = re.fullmatch(COMMANDS[name], line) if name in COMMANDS else None
@@ -58,7 +62,7 @@ def words_of(line):
     return name, words.groups()
 
 
-def write(to, name, key, *words):
+def write(to: Any, name: str, key: str, *words: Any) -> Any:
     """Asks a bucket or a batch for a write."""
     if name == "update":
         return to.update(key, value(words[1]), last=number(words[0]))
@@ -67,14 +71,14 @@ def write(to, name, key, *words):
     return getattr(to, name)(key, last=None if words[0] is None else number(words[0]))
 
 
-def refused(refusal):
+def refused(refusal: KvError) -> Told:
     """A refusal as an answer shows it; the places of a batch count from 1 there."""
     it = {"code": refusal.code, "error": type(refusal).__name__}
     it.update((name, getattr(refusal, name)) for name in ("last", "watch") if hasattr(refusal, name))
     return it if refusal.at is None else {**it, "at": refusal.at + 1}
 
 
-def shown(entry):
+def shown(entry: Entry) -> Told:
     """An entry as an answer shows it."""
     it = {"key": entry.key, "op": entry.op, "revision": entry.revision, "size": entry.size}
     return it if entry.value is None else {**it, "value": base64.b64encode(entry.value).decode()}
@@ -84,11 +88,12 @@ class Gathered:
     """The lines of a batch, as far as they were read. The first that is no write, or has no key, refuses it, before what the bucket
     refuses; the lines behind it belong to the batch all the same."""
 
-    def __init__(self, batch, size):
+    def __init__(self, batch: Any, size: int) -> None:
         self.batch, self.size = batch, size
-        self.read, self.refusal = 0, None
+        self.read = 0
+        self.refusal: Optional[KvError] = None
 
-    def add(self, line):
+    def add(self, line: str) -> None:
         if self.refusal is None:
             try:
                 name, words = words_of(line)
@@ -99,10 +104,10 @@ class Gathered:
                 self.refuse(refusal)
         self.read += 1
 
-    def refuse(self, refusal):
+    def refuse(self, refusal: KvError) -> None:
         refusal.at, self.refusal = self.read, refusal
 
-    def written(self):
+    def written(self) -> Told:
         if self.read < self.size and self.refusal is None:
             self.refuse(BadCommand())
         if self.refusal is not None:
@@ -113,79 +118,79 @@ class Gathered:
 class Session:
     """A bucket, the watches that its script opened, and the batch whose lines it is at."""
 
-    def __init__(self, bucket, name):
+    def __init__(self, bucket: Any, name: str) -> None:
         self.bucket, self.name = bucket, name
-        self.watches = {}
+        self.watches: dict[int, Any] = {}
         self.gathered: Any = None
 
-    def answers(self, line):
+    def answers(self, line: str) -> list[str]:
         """The answers to a line: none, one, or those of a `take`."""
         return [] if line == "" or line.startswith("#") else self.answered(self.told, line)
 
-    def at_end(self):
+    def at_end(self) -> list[str]:
         """The answer to a batch of which the script has not all lines."""
         return [] if self.gathered is None else self.answered(self.written)
 
-    def answered(self, asked, *words):
+    def answered(self, asked: Callable[..., Any], *words: str) -> list[str]:
         try:
             told = asked(*words)
         except KvError as refusal:
             told = refused(refusal)
         return [json.dumps(it, separators=(",", ":"), sort_keys=True) for it in (told if isinstance(told, list) else [told])]
 
-    def told(self, line):
+    def told(self, line: str) -> Any:
         if self.gathered is not None:
             self.gathered.add(line)
             return self.written_if_whole()
         name, words = words_of(line)
         return {"revision": write(self.bucket, name, *words)} if name in WRITES else getattr(self, name)(*words)
 
-    def batch(self, size):
+    def batch(self, size: str) -> Any:
         self.gathered = Gathered(self.bucket.batch(), number(size))
         return self.written_if_whole()
 
-    def written_if_whole(self):
+    def written_if_whole(self) -> Any:
         return self.written() if self.gathered.read == self.gathered.size else []
 
-    def written(self):
+    def written(self) -> Any:
         gathered, self.gathered = self.gathered, None
         return gathered.written()
 
-    def get(self, key, at):
+    def get(self, key: str, at: Optional[str]) -> Told:
         found = self.bucket.get(key, at=None if at is None else number(at))
         if found is None:
             raise KeyNotFound()
         return {"key": key, "op": "PUT", "revision": found.revision, "size": len(found.value),
                 "value": base64.b64encode(found.value).decode()}
 
-    def history(self, key):
+    def history(self, key: str) -> Told:
         entries = self.bucket.history(key)
         if not entries:
             raise KeyNotFound()
         return {"entries": [shown(entry) for entry in entries]}
 
-    def keys(self, filter):
+    def keys(self, filter: str) -> Told:
         if "," in filter:
             raise BadFilter()
         return {"keys": self.bucket.keys(filter)}
 
-    def watch(self, filters, words):
-        words = words.split()
-        names = [word.partition("=")[0] for word in words]
+    def watch(self, filters: str, words: str) -> Told:
+        asked = words.split()
+        names = [word.partition("=")[0] for word in asked]
         if len(set(names)) < len(names):
             raise BadCommand()
-        since = next((number(word[5:]) for word in words if word.startswith("from=")), None)
-        watch = self.bucket.watch(filters, history="history" in words, updates="updates" in words, since=since,
-                                  ignore_deletes="nodeletes" in words, headers_only="meta" in words)
+        since = next((number(word[5:]) for word in asked if word.startswith("from=")), None)
+        watch = self.bucket.watch(filters, history="history" in asked, updates="updates" in asked, since=since,
+                                  ignore_deletes="nodeletes" in asked, headers_only="meta" in asked)
         self.watches[watch.number] = watch
         return {"watch": watch.number}
 
-    def open_watch(self, text):
+    def open_watch(self, text: str) -> Any:
         if number(text) not in self.watches:
             raise NoSuchWatch()
         return self.watches[number(text)]
 
-    def take(self, text, count):
+    def take(self, text: str, count: str) -> list[Told]:
         if not 1 <= number(count) <= 1_000_000:
             raise BadCommand()
         watch, items = self.open_watch(text), []
@@ -196,21 +201,21 @@ class Session:
                 break
         return [{**it, "watch": watch.number} for it in items]
 
-    def stop(self, text):
+    def stop(self, text: str) -> Told:
         return {"handed": self.open_watch(text).stop(), "stopped": number(text)}
 
-    def status(self):
+    def status(self) -> Told:
         return {"bucket": self.name, **self.bucket.status()._asdict()}
 
-    def seal(self):
+    def seal(self) -> Told:
         self.bucket.seal()
         return {"sealed": True}
 
-    def compact(self, floor):
+    def compact(self, floor: str) -> Told:
         self.bucket.compact(number(floor))
         return {"compacted": number(floor)}
 
-    def place(self, key):
+    def place(self, key: str) -> Told:
         """The hash of a key, FNV-1a of 32 bits, for which a bucket of Python has no call; a get sees whether it is a key."""
         self.bucket.get(key)
         hash = 2166136261
@@ -219,7 +224,7 @@ class Session:
         return {"place": "%08x" % hash}
 
 
-def replay(bucket, script):
+def replay(bucket: Any, script: Script) -> list[str]:
     """The answers of a bucket to a script (worked.py), line by line."""
     session = Session(bucket, "kv")
     answers = [answer for line, _ in script.steps for answer in session.answers(line.decode("latin-1").removesuffix("\r"))]

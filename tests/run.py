@@ -8,6 +8,7 @@ or else lib/, where ./library puts it; TESTS is a proved test program, crates/NA
 `refusals` refuses. The part `lint` runs those linters that are installed. The part `server` starts a nats-server on loopback with its store in a temporary folder, and ends it; where there is none, and Debian's
 package is not to be had, all of it is left out. How much is run, other parts read from variables: RACES, WRITES, MOST and JOBS."""
 import argparse, collections, contextlib, os, sys, tempfile, unittest
+from typing import Any, Iterator, Sequence
 
 if __name__ == "__main__":
     sys.dont_write_bytecode = True
@@ -41,7 +42,7 @@ PARTS = {
 RUN, LINKED = {"arguments", "streams", "compactions", "races", "scripts", "pages"}, {"library", "rust", "go"}
 
 
-def missing(part):
+def missing(part: str) -> str:
     """What a part can't do without and is not there, in one sentence, or nothing."""
     program = os.environ.get("KVBUCKET") or current.path_of(current.PROGRAM)
     if part in RUN and not os.path.exists(program):
@@ -54,33 +55,33 @@ def missing(part):
 class Counts(unittest.TextTestResult):
     """Counts the tests that passed, and in place of a test that has subtests these."""
 
-    def __init__(self, *arguments, **named):
+    def __init__(self, *arguments: Any, **named: Any) -> None:
         super().__init__(*arguments, **named)
         self.passed = self.of_test = 0
 
-    def startTest(self, test):
+    def startTest(self, test: unittest.TestCase) -> None:
         super().startTest(test)
         self.of_test = 0
 
-    def addSubTest(self, test, subtest, error):
+    def addSubTest(self, test: Any, subtest: Any, error: Any) -> None:
         super().addSubTest(test, subtest, error)
         self.of_test += 1
         self.passed += error is None
 
-    def addSuccess(self, test):
+    def addSuccess(self, test: unittest.TestCase) -> None:
         super().addSuccess(test)
         self.passed += not self.of_test
 
-    def addExpectedFailure(self, test, error):
+    def addExpectedFailure(self, test: unittest.TestCase, error: Any) -> None:
         super().addExpectedFailure(test, error)
         self.passed += 1
 
-    def failed(self):
+    def failed(self) -> int:
         return len(self.failures) + len(self.errors) + len(self.unexpectedSuccesses)
 
 
 @contextlib.contextmanager
-def nats_server():
+def nats_server() -> Iterator[bool]:
     """Starts a server for the tests on one, and tells whether there is one."""
     from tests.server import running
     with tempfile.TemporaryDirectory() as folder:
@@ -94,7 +95,7 @@ def nats_server():
             yield True
 
 
-def run(part):
+def run(part: str) -> tuple[int, int, list[str]]:
     """Runs a part, and tells how many tests passed and failed, and why others were left out."""
     tests = unittest.defaultTestLoader.loadTestsFromNames(PARTS[part])
     result = unittest.TextTestRunner(stream=sys.stdout, verbosity=2, resultclass=Counts).run(tests)
@@ -104,13 +105,13 @@ def run(part):
     return result.passed, result.failed(), [reason for _, reason in result.skipped]
 
 
-def told(left_out):
+def told(left_out: Sequence[str]) -> str:
     """How many tests were left out, and for which reasons."""
     reasons = ("%s (%d)" % it for it in collections.Counter(left_out).items())
     return "%d left out: %s" % (len(left_out), "; ".join(reasons))
 
 
-def main():
+def main() -> None:
     parser = argparse.ArgumentParser(description=__doc__, formatter_class=argparse.RawDescriptionHelpFormatter)
     parser.add_argument("part", choices=PARTS, metavar="PART", help=", ".join(PARTS))
     parser.add_argument("--program")

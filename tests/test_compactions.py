@@ -3,6 +3,7 @@ compaction each 10,000 and a watch that is taken from each 1,000; and one of a t
 one that is worked out here, from the last write of each key. No more than 11,000 writes may be stored, so each compaction has to
 make room for the next writes; and the longer run may take no more than a few MB of memory above the shorter one."""
 import base64, os, threading, time, unittest
+from typing import Any, Collection, Iterator
 
 from tests import program
 
@@ -13,7 +14,7 @@ EMPTY = b'{"empty":true,"watch":1}\n'
 NUMBERS = b'{"bucket":"kv","history":1,"last":%d,"sealed":false,"stored":%d,"values":%d,"watches":1}\n'
 
 
-def compacted(last, keys):
+def compacted(last: int, keys: Collection[bytes]) -> Iterator[tuple[bytes, list[bytes]]]:
     """The end of 10,000 writes: a compaction of all of them leaves the puts that were the last of their keys."""
     yield b"compact %d\n" % last, [b'{"compacted":%d}\n' % last]
     yield b"compact %d\n" % (last - 1), [BAD_FLOOR]
@@ -21,7 +22,7 @@ def compacted(last, keys):
     yield b"keys >\n", [b'{"keys":[%s]}\n' % b",".join(b'"%s"' % key for key in keys)]
 
 
-def session(writes):
+def session(writes: int) -> Iterator[tuple[bytes, list[bytes]]]:
     """Each line of the script, with the lines that answer it."""
     yield b"watch >\n", [b'{"watch":1}\n']
     keys: dict[bytes, bytes] = {}
@@ -45,7 +46,7 @@ def session(writes):
             yield from compacted(n, keys)
 
 
-def write(run, writes):
+def write(run: Any, writes: int) -> None:
     try:
         for line, _ in session(writes):
             run.stdin.write(line)
@@ -54,7 +55,7 @@ def write(run, writes):
         pass
 
 
-def fault_of(run, writes):
+def fault_of(run: Any, writes: int) -> str:
     """The first line that is answered otherwise, if there is one."""
     for line, answers in session(writes):
         for wanted in answers:
@@ -64,14 +65,14 @@ def fault_of(run, writes):
     return ""
 
 
-def memory_of(run):
+def memory_of(run: Any) -> float:
     """The most memory that the process has held so far, in MB."""
     with open("/proc/%d/status" % run.pid) as file:
         return next(int(line.split()[1]) for line in file if line.startswith("VmHWM:")) / 1024
 
 
 class Compactions(unittest.TestCase):
-    def peak_of(self, writes):
+    def peak_of(self, writes: int) -> float:
         """Runs the script, and tells how much memory the process held at most, or 0 where it answers otherwise."""
         start = time.time()
         run = program.begun("--write-limit", "11000")
@@ -90,7 +91,7 @@ class Compactions(unittest.TestCase):
             self.assertEqual((run.returncode, rest), (0, b""))
         return peak
 
-    def test_memory_stays_level(self):
+    def test_memory_stays_level(self) -> None:
         short, long = self.peak_of(WRITES // 3), self.peak_of(WRITES)
         with self.subTest("the memory"):
             self.assertTrue(0 < long < short + 4, "%.1f MB, and %.1f MB for three times as many" % (short, long))

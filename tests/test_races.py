@@ -3,6 +3,7 @@ each tenth of 16. Each has to end by itself within 20 seconds, and to answer eac
 each worker; each watch has to show its marker and then, in the order of the revisions, each put that it matches, once, with its
 value. It tells in how many of the races workers wrote in between each other, and the time."""
 import base64, json, os, subprocess, time, unittest
+from typing import Any, Callable, Optional, Sequence
 
 from tests import program
 
@@ -12,7 +13,7 @@ WATCHES = {">": lambda key: True, "a.*": lambda key: key.startswith("a.")}
 SCRIPT = "".join(["watch %s\n" % filter for filter in WATCHES] + ["put %s %s\n" % put for put in PUTS]).encode()
 
 
-def replies_are_right(replies, workers):
+def replies_are_right(replies: Sequence[dict[str, Any]], workers: int) -> Optional[list[int]]:
     """The revision of each put, in the order of the lines, if each worker answered those that were dealt to it."""
     dealt = [n for worker in range(workers) for n in range(worker, len(PUTS), workers)]
     if [reply.get("worker") for reply in replies] != [n % workers + 1 for n in dealt]:
@@ -22,7 +23,7 @@ def replies_are_right(replies, workers):
     return revisions if rise and sorted(revisions) == list(range(1, len(PUTS) + 1)) else None
 
 
-def items_of(watch, matches, revisions):
+def items_of(watch: int, matches: Callable[[str], bool], revisions: Sequence[int]) -> list[dict[str, Any]]:
     """What a watch has to show."""
     puts = sorted((revision, put) for revision, put in zip(revisions, PUTS) if matches(put[0]))
     return [{"marker": True, "watch": watch}] + [
@@ -30,7 +31,7 @@ def items_of(watch, matches, revisions):
         for revision, (key, value) in puts]
 
 
-def race_of(workers):
+def race_of(workers: int) -> tuple[str, bool]:
     """What is wrong with one race, or nothing, and whether workers wrote in between each other."""
     try:
         done = subprocess.run([program.path, "--race", str(workers)], input=SCRIPT, capture_output=True, timeout=300)
@@ -49,7 +50,7 @@ def race_of(workers):
 
 
 class Races(unittest.TestCase):
-    def test_each_race_makes_every_write_once_and_its_watches_see_all(self):
+    def test_each_race_makes_every_write_once_and_its_watches_see_all(self) -> None:
         mixed, longest, start = 0, 0.0, time.time()
         for race in range(RACES):
             began, workers = time.time(), 16 if race % 10 == 9 else 4

@@ -4,17 +4,18 @@ from its beginning with status 1 and `kvbucket: OutOfMemory` on standard error. 
 is refused, spread over all, which is printed. In a race a write may be refused alone, which is told in its line; then only the number
 of replies is compared."""
 import os, unittest
+from typing import Sequence
 
 from tests import program
 from tests.memory import refusing
 from tests.worked import scripts
 
 
-def writes_of_race(text):
+def writes_of_race(text: bytes) -> int:
     return text.count(b',"worker":')
 
 
-def ends_well(run, text):
+def ends_well(run: refusing.Run, text: bytes) -> bool:
     status, written, faults = run.status, run.out, run.err
     if status == 0 and b'"error":"OutOfMemory","worker":' in written:
         return writes_of_race(written) == writes_of_race(text)
@@ -25,7 +26,7 @@ def ends_well(run, text):
 
 
 class Scripts(refusing.RefusingTest):
-    def refused(self, name, command, stdin, text):
+    def refused(self, name: str, command: Sequence[str], stdin: str, text: bytes) -> int:
         """Runs a script with each of its requests refused, and answers how many were."""
         _, requests = self.counted(command, stdin)
         runs = self.in_turn(command, requests, stdin)
@@ -38,7 +39,7 @@ class Scripts(refusing.RefusingTest):
         self.assertTrue(requests and met, "no request for memory was refused")
         return met
 
-    def test_each_script_has_its_answers_and_ends_well_with_any_request_refused(self):
+    def test_each_script_has_its_answers_and_ends_well_with_any_request_refused(self) -> None:
         count = refusals = 0
         for script in scripts():
             command, stdin = [program.path, *script.arguments], os.path.join(self.folder, script.name)

@@ -1,5 +1,6 @@
 """A small tree with the scripts of a release, whose "proved" program is a script and whose library has one call. Its path has a space."""
 import atexit, os, shutil, subprocess, sys, tempfile, unittest
+from typing import Any
 
 from scripts import archive
 from tests import top
@@ -44,7 +45,7 @@ NEEDED = ("cc", "strip", "ar", "pkg-config")
 missing = [name for name in NEEDED if not shutil.which(name)]
 
 
-def copy(path, to):
+def copy(path: str, to: str) -> None:
     os.makedirs(os.path.dirname(to), exist_ok=True)
     if os.path.isdir(path):
         shutil.copytree(path, to)
@@ -59,7 +60,7 @@ class Tree(unittest.TestCase):
     # Where the outputs of the first tree that was built and released lie, for all others.
     outputs = ""
 
-    def setUp(self):
+    def setUp(self) -> None:
         room = tempfile.TemporaryDirectory()
         self.addCleanup(room.cleanup)
         self.room, self.top = room.name, os.path.join(room.name, "a tree")
@@ -73,62 +74,62 @@ class Tree(unittest.TestCase):
         self.write("python/vilgoued/__pycache__/it.pyc", "of another Python\n")
         self.write("kit/rt", KIT, is_run=True)
 
-    def path(self, path):
+    def path(self, path: str) -> str:
         return os.path.join(self.top, path)
 
-    def write(self, path, text, is_run=False):
+    def write(self, path: str, text: str, is_run: bool = False) -> None:
         os.makedirs(os.path.dirname(self.path(path)), exist_ok=True)
         with open(self.path(path), "w", encoding="utf-8") as file:
             file.write(text)
         os.chmod(self.path(path), 0o755 if is_run else 0o644)
 
-    def run_in(self, *command, kit=True, text="", folder=".", **environment):
+    def run_in(self, *command: str, kit: bool = True, text: str = "", folder: str = ".", **environment: str) -> subprocess.CompletedProcess[str]:
         """How a command ends in the tree, or in a folder of it, with the kit on the path or without."""
         path = [os.path.dirname(sys.executable), "/usr/bin", "/bin"]
         given = {"HOME": self.room, "PATH": ":".join([self.path("kit"), *path] if kit else path), **environment}
         return subprocess.run(command, cwd=self.path(folder), env=given, input=text, capture_output=True, text=True)
 
-    def works(self, *command, **how):
+    def works(self, *command: str, **how: Any) -> str:
         """What a command prints that has to succeed."""
         done = self.run_in(*command, **how)
         self.assertEqual(done.returncode, 0, done.stdout + done.stderr)
         return done.stdout
 
-    def refused(self, *command, **how):
+    def refused(self, *command: str, **how: Any) -> str:
         """The one sentence by which a command refuses."""
         done = self.run_in(*command, **how)
         self.assertNotEqual(done.returncode, 0, done.stdout)
         self.assertEqual((done.stdout, done.stderr.count("\n")), ("", 1), done.stderr)
         return done.stderr
 
-    def keep(self, name, **environment):
+    def keep(self, name: str, **environment: str) -> None:
         sources = self.works("scripts/current.py", "--sources", name, **environment)
         self.works("scripts/current.py", "--keep", name, "/dev/stdin", text=sources, **environment)
 
-    def build_program(self, says="built here"):
+    def build_program(self, says: str = "built here") -> None:
         self.write("crates/kvbucket/out/kvbucket", PROGRAM % says, is_run=True)
         self.keep("kvbucket")
 
-    def build_static(self, path, source):
+    def build_static(self, path: str, source: str) -> None:
         """Makes a static library of a text in C."""
         self.write("it.c", source)
         os.makedirs(os.path.dirname(self.path(path)), exist_ok=True)
         self.works("cc", "-Iinclude", "-fPIC", "-c", "it.c", "-o", "it.o")
         self.works("ar", "rcD", path, "it.o")
 
-    def build_library(self, number=1):
+    def build_library(self, number: int = 1) -> None:
         self.build_static("lib/libvilgoued.a", LIBRARY % number)
         self.works("cc", "-shared", "-o", "lib/libvilgoued.so", "it.o")
         self.keep("libvilgoued")
 
-    def make(self):
+    def make(self) -> str:
         """Builds all, makes the release, and answers its path."""
         self.build_program()
         self.build_library()
         self.works("./release")
         return self.path("dist/vilgoued-0.2.0-%s.tar.gz" % archive.machine())
 
-    def release(self):
+    def release(self) -> str:
         """The same, of the tree as it was at first."""
         for path in OUTPUTS:
             shutil.rmtree(self.path(path), ignore_errors=True)
@@ -143,10 +144,10 @@ class Tree(unittest.TestCase):
                 copy(os.path.join(Tree.outputs, path), self.path(path))
         return self.path("dist/vilgoued-0.2.0-%s.tar.gz" % archive.machine())
 
-    def forget_builds(self):
+    def forget_builds(self) -> None:
         for path in OUTPUTS[:2]:
             shutil.rmtree(self.path(path))
 
-    def alter(self, name, path, data):
+    def alter(self, name: str, path: str, data: str) -> None:
         """Makes the archive again, with other bytes of a member."""
         self.works(sys.executable, "-B", "-c", ALTER, name, path, data)

@@ -9,7 +9,8 @@
 The first line is there where the program has arguments. A line of the script stands behind `> `, and the lines that answer it follow,
 each as it is; a race answers when it has read all of its lines. A byte of a script that is no printable character of ASCII, and a
 backslash, is written as `\\xNN`. Each line of a script ends with a line feed, a carriage return before that is written as `\\x0d`."""
-import collections, os, re
+import os, re
+from typing import Iterator, NamedTuple
 
 from tests import top
 
@@ -17,32 +18,36 @@ folder = os.path.join(top, "tests", "scripts")
 PROMPT, PROGRAM = b"> ", b"./kvbucket "
 
 
-class Script(collections.namedtuple("Script", "name arguments steps")):
+class Script(NamedTuple):
     """A script: its steps are lines, each with the lines that answer it."""
 
+    name: str
+    arguments: list[str]
+    steps: list[tuple[bytes, list[bytes]]]
+
     @property
-    def input(self):
+    def input(self) -> bytes:
         return b"".join(line + b"\n" for line, _ in self.steps)
 
     @property
-    def output(self):
+    def output(self) -> bytes:
         return b"".join(answer + b"\n" for _, answers in self.steps for answer in answers)
 
     @property
-    def is_race(self):
+    def is_race(self) -> bool:
         return "--race" in self.arguments
 
     @property
-    def settings(self):
+    def settings(self) -> dict[str, int]:
         """The arguments as those of a bucket in Python, such as history=2."""
         return {name.removeprefix("--").replace("-", "_"): int(value) for name, value in zip(self.arguments[::2], self.arguments[1::2])}
 
 
-def unescaped(text):
+def unescaped(text: bytes) -> bytes:
     return re.sub(rb"\\x([0-9a-f]{2})", lambda found: bytes.fromhex(found[1].decode()), text)
 
 
-def parsed(name, text):
+def parsed(name: str, text: bytes) -> Script:
     """The script of a file's text."""
     lines = text.split(b"\n")
     if lines.pop() != b"":
@@ -59,7 +64,7 @@ def parsed(name, text):
     return Script(name, arguments, steps)
 
 
-def scripts():
+def scripts() -> Iterator[Script]:
     """All of them, by name."""
     for name in sorted(os.listdir(folder)):
         with open(os.path.join(folder, name), "rb") as file:

@@ -1,7 +1,7 @@
 """Programs in C beside libvilgoued, in the folder of VILGOUED_LIB. The C compiler is CC, or else cc, and that for C++ is CXX, or
 else c++."""
 import os, subprocess, tempfile, unittest
-from typing import Any
+from typing import Sequence
 
 from tests import top
 
@@ -20,10 +20,10 @@ CHECKED = ["-g", "-fsanitize=address,undefined", "-fno-sanitize-recover=all"]
 WRAPPED = ["-Wl,--wrap=malloc", "-Wl,--wrap=realloc"]
 
 
-def ran(*command, **more):
+def ran(*command: str, **more: str) -> str:
     """What a command that has to succeed prints, with more in its environment."""
-    how: dict[str, Any] = {"stdin": subprocess.DEVNULL, "stdout": subprocess.PIPE, "stderr": subprocess.STDOUT, "env": dict(os.environ, **more)}
-    done = subprocess.run(command, text=True, **how)
+    done = subprocess.run(command, stdin=subprocess.DEVNULL, stdout=subprocess.PIPE, stderr=subprocess.STDOUT, text=True,
+                          env=dict(os.environ, **more))
     if done.returncode != 0:
         raise AssertionError("%s: status %d\n%s" % (" ".join(command), done.returncode, done.stdout))
     return done.stdout
@@ -32,12 +32,12 @@ def ran(*command, **more):
 class ProgramTest(unittest.TestCase):
     """A test that makes and runs programs of this folder."""
 
-    def setUp(self):
+    def setUp(self) -> None:
         room = tempfile.TemporaryDirectory()
         self.addCleanup(room.cleanup)
         self.folder = room.name
 
-    def built(self, name, *flags, beside=STATIC):
+    def built(self, name: str, *flags: str, beside: Sequence[str] = STATIC) -> str:
         """Makes a program of this folder beside a library, the static one where none is named."""
         program = os.path.join(self.folder, name)
         wrapped = WRAPPED if name.endswith("sweep") else []
@@ -45,7 +45,7 @@ class ProgramTest(unittest.TestCase):
             *beside, "-o", program, "-pthread")
         return program
 
-    def needs(self, *flags):
+    def needs(self, *flags: str) -> None:
         """Leaves a test out where the compiler makes no program with these sanitizers, or it does not run."""
         empty = os.path.join(self.folder, "empty")
         with open(empty + ".c", "w", encoding="utf-8") as file:

@@ -15,19 +15,19 @@ NOT_SEEN = os.path.join(here, "races-not-seen")
 PROGRAMS = ("shared_use", "shared_watchers", "shared_threads", "shared_sweep")
 
 
-def words(name, looking_on):
+def words(name: str, looking_on: str) -> list[str]:
     return [looking_on] if name == "shared_threads" else []
 
 
 class Shell(ProgramTest):
-    def test_compilers_have_nothing_to_say(self):
+    def test_compilers_have_nothing_to_say(self) -> None:
         for compiler in filter(shutil.which, sorted({C, "gcc", "clang"})):
             for source in (*SHELL, OPENING):
                 with self.subTest(compiler, source=source):
                     ran(compiler, "-std=c11", "-O2", "-pthread", *STRICT, "-I" + INCLUDE, "-c", source, "-o", os.path.join(self.folder, "it.o"))
 
     @unittest.skipUnless(shutil.which(CXX), "there is no %s: apt-get install g++" % CXX)
-    def test_cpp_calls_it(self):
+    def test_cpp_calls_it(self) -> None:
         program = os.path.join(self.folder, "shared_cpp")
         ran(CXX, "-std=c++11", "-Wall", "-Wextra", "-Werror", "-I" + INCLUDE, os.path.join(here, "shared_cpp.cpp"), *STATIC, "-o", program,
             "-pthread")
@@ -35,31 +35,31 @@ class Shell(ProgramTest):
 
 
 class Programs(ProgramTest):
-    def test_each_function_and_each_refusal_is_as_the_header_says(self):
+    def test_each_function_and_each_refusal_is_as_the_header_says(self) -> None:
         ran(self.built("shared_use", "-O2"))
 
-    def test_watchers_hand_each_item_to_their_function(self):
+    def test_watchers_hand_each_item_to_their_function(self) -> None:
         ran(self.built("shared_watchers", "-O2"))
 
-    def test_four_writers_four_readers_and_four_followers_lose_nothing(self):
+    def test_four_writers_four_readers_and_four_followers_lose_nothing(self) -> None:
         print(ran(self.built("shared_threads", "-O2")), end="")
 
-    def test_each_request_for_memory_may_be_refused(self):
+    def test_each_request_for_memory_may_be_refused(self) -> None:
         print(ran(self.built("shared_sweep", "-O2")), end="")
 
-    def test_the_example_says_what_it_is_to_say(self):
+    def test_the_example_says_what_it_is_to_say(self) -> None:
         self.assertEqual(ran(self.built("shared_example", "-O2")).splitlines(), lines_of("tests/c/shared_example.stdout"))
 
-    def test_what_calls_take_is_told(self):
+    def test_what_calls_take_is_told(self) -> None:
         print(ran(self.built("shared_costs", "-O2")), end="")
 
-    def test_sanitizers_of_addresses_and_undefined_behaviour_find_nothing(self):
+    def test_sanitizers_of_addresses_and_undefined_behaviour_find_nothing(self) -> None:
         self.needs(*CHECKED)
         for name in PROGRAMS:
             with self.subTest(name):
                 ran(self.built(name, *SHELL, *CHECKED), *words(name, "sanitizer"))
 
-    def test_the_sanitizer_of_threads_finds_nothing(self):
+    def test_the_sanitizer_of_threads_finds_nothing(self) -> None:
         self.needs("-fsanitize=thread")
         for name in PROGRAMS:
             with self.subTest(name):
@@ -67,7 +67,7 @@ class Programs(ProgramTest):
                     TSAN_OPTIONS="suppressions=%s halt_on_error=1" % NOT_SEEN)
 
     @unittest.skipUnless(shutil.which("valgrind"), "valgrind is not installed: apt-get install valgrind")
-    def test_valgrind_finds_nothing(self):
+    def test_valgrind_finds_nothing(self) -> None:
         for name in PROGRAMS:
             with self.subTest(name):
                 ran("valgrind", "-q", "--leak-check=full", "--error-exitcode=9", "--fair-sched=yes", self.built(name, "-O2", "-g"),
@@ -75,11 +75,11 @@ class Programs(ProgramTest):
 
 
 class Quoted(unittest.TestCase):
-    def test_the_page_quotes_the_example(self):
+    def test_the_page_quotes_the_example(self) -> None:
         self.assertIn(lines_of("tests/c/shared_example.c"), blocks("docs/c.md", "c"))
         self.assertIn(lines_of("tests/c/shared_example.stdout"), blocks("docs/c.md", "text"))
 
-    def test_a_watcher_on_a_thread_of_its_own_takes_twenty_lines(self):
+    def test_a_watcher_on_a_thread_of_its_own_takes_twenty_lines(self) -> None:
         self.assertLessEqual(len(lines_of("tests/c/shared_example.c")), 20)
         python = [example for example in blocks("docs/python.md", "python") if "import threading" in example]
         self.assertTrue(python and all(len(example) <= 20 for example in python))

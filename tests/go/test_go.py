@@ -29,14 +29,14 @@ replace vilgoued => %s
 """ % MODULE
 
 
-def environment(**more):
+def environment(**more: str) -> dict[str, str]:
     folder = os.path.dirname(os.path.abspath(os.environ["VILGOUED_LIB"]))
     flags = {"CGO_CFLAGS": "-g -O2 -I%s -I%s" % (os.path.join(top, "include"), folder), "CGO_LDFLAGS": "-L" + folder}
     return {**os.environ, "CGO_ENABLED": "1", "GOPROXY": "off", "GOFLAGS": "-mod=mod", "GOTOOLCHAIN": "local",
             "GOCACHE": os.path.join(BUILT, "cache"), **flags, **more}
 
 
-def go(*words, folder=MODULE, **more):
+def go(*words: str, folder: str = MODULE, **more: str) -> str:
     """What go prints, which has to succeed."""
     assert GO
     done = subprocess.run([GO, *words], cwd=folder, env=environment(**more), stdin=subprocess.DEVNULL, stdout=subprocess.PIPE,
@@ -48,21 +48,21 @@ def go(*words, folder=MODULE, **more):
 
 @unittest.skipUnless(GO, "there is no go: apt-get install golang-go")
 class Go(unittest.TestCase):
-    def setUp(self):
+    def setUp(self) -> None:
         room = tempfile.TemporaryDirectory()
         self.addCleanup(room.cleanup)
         self.folder = room.name
 
-    def test_its_tests_pass(self):
+    def test_its_tests_pass(self) -> None:
         go("test", "-count=1", "-timeout", "300s", "./...")
 
-    def test_its_tests_pass_under_the_detector_of_races(self):
+    def test_its_tests_pass_under_the_detector_of_races(self) -> None:
         go("test", "-count=1", "-race", "-short", "-timeout", "300s", ".")
 
-    def test_vet_finds_nothing(self):
+    def test_vet_finds_nothing(self) -> None:
         go("vet", "./...")
 
-    def test_gofmt_would_change_nothing(self):
+    def test_gofmt_would_change_nothing(self) -> None:
         gofmt = shutil.which("gofmt", path=os.path.dirname(os.path.realpath(GO or "")) + ":" + os.environ.get("PATH", ""))
         if not gofmt:
             self.skipTest("there is no gofmt")
@@ -70,7 +70,7 @@ class Go(unittest.TestCase):
                                text=True, timeout=LIMIT)
         self.assertEqual((found.returncode, found.stdout, found.stderr), (0, "", ""))
 
-    def test_each_script_has_the_answers_of_the_program(self):
+    def test_each_script_has_the_answers_of_the_program(self) -> None:
         program = os.path.join(self.folder, "lines")
         go("build", "-o", program, "./lines")
         for script in scripts():
@@ -78,7 +78,7 @@ class Go(unittest.TestCase):
                 with self.subTest(script.name), Driven(program, **script.settings) as bucket:
                     self.assertEqual(replay(bucket, script), script.output.decode().splitlines())
 
-    def test_the_examples_of_the_page_print_what_it_says(self):
+    def test_the_examples_of_the_page_print_what_it_says(self) -> None:
         examples, answers = blocks("docs/go.md", "go"), blocks("docs/go.md", "answers")
         self.assertEqual((len(examples) > 0, len(examples)), (True, len(answers)))
         with open(os.path.join(self.folder, "go.mod"), "w", encoding="utf-8") as file:
@@ -88,7 +88,7 @@ class Go(unittest.TestCase):
                 file.write("\n".join(lines) + "\n")
             self.assertEqual(go("run", ".", folder=self.folder).splitlines(), wanted)
 
-    def test_it_links_an_installed_release_and_says_where_there_is_no_library(self):
+    def test_it_links_an_installed_release_and_says_where_there_is_no_library(self) -> None:
         copied, prefix = os.path.join(self.folder, "copied"), os.path.join(self.folder, "prefix")
         for path in "go", "include":
             shutil.copytree(os.path.join(top, path), os.path.join(copied, path))
@@ -101,12 +101,12 @@ class Go(unittest.TestCase):
         with self.assertRaisesRegex(AssertionError, "there is no lib/libvilgoued.a in the checkout: run ./library there, or name an installed"):
             go(*words, folder=os.path.join(copied, "go"), CGO_CFLAGS="", CGO_LDFLAGS="")
 
-    def test_what_calls_take_is_told(self):
+    def test_what_calls_take_is_told(self) -> None:
         print(go("run", "./costs"), end="")
 
     @unittest.skipUnless(os.path.isdir(SOURCES + "/src/github.com/nats-io/nats.go"),
                          "there is no nats.go: apt-get install golang-github-nats-io-go-nats-dev")
-    def test_one_function_sees_the_same_on_this_bucket_and_on_one_of_nats(self):
+    def test_one_function_sees_the_same_on_this_bucket_and_on_one_of_nats(self) -> None:
         # Debian's packages have no modules, so these two are found by their folders.
         sources = os.path.join(self.folder, "src")
         os.makedirs(sources)

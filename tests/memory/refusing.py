@@ -1,6 +1,7 @@
 """Runs a command with one of its requests for memory refused, by refuse.c, which the C compiler of the Rattle kit builds, or
 else cc."""
-import collections, concurrent.futures, os, subprocess, tempfile, unittest
+import concurrent.futures, os, subprocess, tempfile, unittest
+from typing import NamedTuple, Optional, Sequence
 
 from scripts import kit
 
@@ -10,10 +11,10 @@ LONGEST = 120
 
 # A run: the number of the request that was to be refused, whether it was, and how the run ended: its status as that of a
 # process (a signal is a negative number), and what it wrote.
-Run = collections.namedtuple("Run", "at is_refused status out err")
+Run = NamedTuple("Run", [("at", int), ("is_refused", bool), ("status", int), ("out", bytes), ("err", bytes)])
 
 
-def library(folder):
+def library(folder: str) -> str:
     """The path of the library, which is built in this folder. It needs no headers, and finds the C library when it is loaded."""
     built = os.path.join(folder, "refuse.so")
     asked = ["-O1", "-shared", "-fPIC", "-nostdlib", "-o", built, os.path.join(here, "refuse.c")]
@@ -22,13 +23,12 @@ def library(folder):
     return built
 
 
-def ran(command, stdin, environment, longest=None):
+def ran(command: Sequence[str], stdin: str, environment: dict[str, str], longest: Optional[float] = None) -> subprocess.CompletedProcess[bytes]:
     with open(stdin, "rb") as file:
-        how = {"stdin": file, "capture_output": True, "timeout": longest}
-        return subprocess.run(command, env=dict(os.environ, **environment), **how)
+        return subprocess.run(command, env=dict(os.environ, **environment), stdin=file, capture_output=True, timeout=longest)
 
 
-def counted(command, shim, folder, stdin=os.devnull):
+def counted(command: Sequence[str], shim: str, folder: str, stdin: str = os.devnull) -> tuple[int, int]:
     """How a command ends with all memory, and how many requests it makes."""
     log = os.path.join(folder, "counted")
     try:
@@ -39,14 +39,14 @@ def counted(command, shim, folder, stdin=os.devnull):
         return -1, 0
 
 
-def taken(path):
+def taken(path: str) -> bytes:
     with open(path, "rb") as file:
         text = file.read()
     os.remove(path)
     return text
 
 
-def each(command, shim, folder, numbers, stdin=os.devnull):
+def each(command: Sequence[str], shim: str, folder: str, numbers: range, stdin: str = os.devnull) -> list[Run]:
     """The runs with the requests of these numbers refused, a range."""
     log = os.path.join(folder, "log-%d" % numbers.start)
     asked = "%d %d %d" % (numbers.start, numbers.step, numbers.stop - 1)
@@ -69,18 +69,18 @@ MOST = int(os.environ.get("MOST", 20000))
 JOBS = int(os.environ.get("JOBS") or len(os.sched_getaffinity(0)))
 
 
-def step_of(requests):
+def step_of(requests: int) -> int:
     """One in how many requests is refused."""
     return max(1, -(-requests // MOST))
 
 
-def told_of(requests):
+def told_of(requests: int) -> str:
     """What is printed of a sample, and nothing where each request is refused."""
     step = step_of(requests)
     return ", a sample: one in %d" % step if step > 1 else ""
 
 
-def in_turn(pool, command, shim, folder, requests, stdin=os.devnull):
+def in_turn(pool: concurrent.futures.Executor, command: Sequence[str], shim: str, folder: str, requests: int, stdin: str = os.devnull) -> list[Run]:
     """The runs with each of so many requests refused, or with so many of them at most, spread over all."""
     step = step_of(requests)
     firsts = range(1, min(requests, step * JOBS) + 1, step)
@@ -91,15 +91,15 @@ def in_turn(pool, command, shim, folder, requests, stdin=os.devnull):
 class RefusingTest(unittest.TestCase):
     """A test that runs commands with requests refused, several at a time."""
 
-    def setUp(self):
+    def setUp(self) -> None:
         room = tempfile.TemporaryDirectory()
         self.addCleanup(room.cleanup)
         self.folder, self.pool = room.name, concurrent.futures.ThreadPoolExecutor(JOBS)
         self.addCleanup(self.pool.shutdown)
         self.shim = library(self.folder)
 
-    def counted(self, command, stdin=os.devnull):
+    def counted(self, command: Sequence[str], stdin: str = os.devnull) -> tuple[int, int]:
         return counted(command, self.shim, self.folder, stdin)
 
-    def in_turn(self, command, requests, stdin=os.devnull):
+    def in_turn(self, command: Sequence[str], requests: int, stdin: str = os.devnull) -> list[Run]:
         return in_turn(self.pool, command, self.shim, self.folder, requests, stdin)

@@ -13,35 +13,37 @@ Each table of docs/script.md has these columns, and neither page has a block of 
 Of each page, what it names has to exist: the files and headings of its links, the files and folders, calls
 (`Type::call`, `module::call`), edits (`crates/NAME/must-fail`) and other names that stand in it as code."""
 import glob, os, re, shlex, subprocess, tempfile, unittest
-from typing import Any
+from typing import Any, Callable, Iterable, Iterator, Sequence
 
 from scripts import kit
 from tests import program, top
 
 run_pages = ["README.md", "docs/script.md"]
 TRIES = 500
+# What was looked at, and what is wrong with it.
+Found = tuple[str, str]
 # Names that are no edits, nor of this tree.
 OUTSIDE = {"im", "must-fail", "left-right", "delta", "lib/"}
 
 
-def read(path):
+def read(path: str) -> str:
     with open(path, encoding="utf-8") as file:
         return file.read()
 
 
-def right(page, line):
+def right(page: str, line: int) -> Found:
     """What was looked at, and what is wrong with it."""
     return "%s:%d" % (page, line), ""
 
 
-def wrong(page, line, text):
+def wrong(page: str, line: int, text: str) -> Found:
     return "%s:%d" % (page, line), text
 
 
 # What a page consists of.
 
 
-def parts_of(page):
+def parts_of(page: str) -> tuple[list[Any], list[Any], list[Any]]:
     """The blocks of a page, as (line, kind, lines), its tables, as (line, arguments, rows), and its other lines, numbered. A block
     with no end is of the kind "no end"."""
     blocks: list[Any] = []
@@ -78,30 +80,30 @@ def parts_of(page):
     return blocks, tables, texts
 
 
-def codes(cell):
+def codes(cell: str) -> list[str]:
     return [span.replace("\\|", "|") for span in re.findall(r"`([^`]+)`", cell)]
 
 
-def arguments_in(line):
+def arguments_in(line: str) -> list[str]:
     return next((code.split()[1:] for code in codes(line) if code.startswith("./kvbucket ")), [])
 
 
 # What the program has to answer.
 
 
-def run_program(arguments, lines):
+def run_program(arguments: Sequence[str], lines: Sequence[str]) -> list[str]:
     text = "".join(line + "\n" for line in lines)
     done = subprocess.run([program.path, *arguments], input=text.encode(), capture_output=True, timeout=300)
     return (done.stdout + done.stderr).decode().split("\n")[:-1]
 
 
-def run_shell(lines, folder):
+def run_shell(lines: Sequence[str], folder: str) -> list[str]:
     text = "\n".join(lines).replace("./kvbucket", shlex.quote(program.path))
     done = subprocess.run(["bash", "-c", text], stdin=subprocess.DEVNULL, capture_output=True, timeout=300, cwd=folder)
     return (done.stdout + done.stderr).decode().split("\n")[:-1]
 
 
-def compare(page, line, wanted, found):
+def compare(page: str, line: int, wanted: Sequence[str], found: Sequence[str]) -> Found:
     if wanted == found:
         return right(page, line)
     at = next((n for n, (a, b) in enumerate(zip(wanted, found)) if a != b), min(len(wanted), len(found)))
@@ -109,7 +111,7 @@ def compare(page, line, wanted, found):
     return wrong(page, line, "answer %d is %s, and the page says %s" % (at + 1, shown[1], shown[0]))
 
 
-def run_blocks(page, blocks, folder):
+def run_blocks(page: str, blocks: list[Any], folder: str) -> Iterator[Found]:
     for (line, kind, lines), (_, after, answers) in zip(blocks, blocks[1:] + [(0, "", [])]):
         word, *arguments = kind.split() or [""]
         if word == "script" and after not in ("answers", "some-answers"):
@@ -118,7 +120,7 @@ def run_blocks(page, blocks, folder):
             yield wrong(page, line, "a block of a kind that nothing compares: %r" % kind)
         if word not in ("script", "sh") or after not in ("answers", "some-answers"):
             continue
-        run = (lambda: run_program(arguments, lines)) if word == "script" else (lambda: run_shell(lines, folder))
+        run: Callable[[], list[str]] = (lambda: run_program(arguments, lines)) if word == "script" else (lambda: run_shell(lines, folder))
         found = run()
         for _ in range(TRIES if after == "some-answers" else 0):
             if found == answers:
@@ -127,7 +129,7 @@ def run_blocks(page, blocks, folder):
         yield compare(page, line, answers, found)
 
 
-def run_table(page, line, arguments, rows, folder):
+def run_table(page: str, line: int, arguments: Sequence[str], rows: Sequence[Any], folder: str) -> Iterator[Found]:
     head = rows[0][1]
     if "Example" not in head or "Answer" not in head:
         if page == "docs/script.md":
@@ -156,7 +158,7 @@ def run_table(page, line, arguments, rows, folder):
 # What a page may name.
 
 
-def tree():
+def tree() -> tuple[dict[str, str], set[str]]:
     """The texts of the crates, by path, and every word of the repository that a page may name."""
     texts = {}
     for folder, folders, names in os.walk(os.path.join(top, "crates")):
@@ -180,11 +182,11 @@ def tree():
     return texts, words
 
 
-def defines(text, name):
-    return re.search(r"\b(fn|struct|enum|trait|const|type|mod|static|macro)\s+%s\b|^\s+%s\s*[,({=]" % (name, name), text, re.M)
+def defines(text: str, name: str) -> bool:
+    return bool(re.search(r"\b(fn|struct|enum|trait|const|type|mod|static|macro)\s+%s\b|^\s+%s\s*[,({=]" % (name, name), text, re.M))
 
 
-def is_call(first, last, texts):
+def is_call(first: str, last: str, texts: dict[str, str]) -> bool:
     if os.path.isdir(os.path.join(top, "crates", first)):
         own = "crates/%s/src/" % first
         return any(path.startswith(own) and (defines(text, last) or re.search(r"\buse\b[^;]*\b%s\b" % last, text))
@@ -192,17 +194,17 @@ def is_call(first, last, texts):
     if first[0].isupper():
         of_type = r"\b(impl|trait|struct|enum)\b[^;{]*\b%s\b" % first
         return any(path.endswith(".rt") and defines(text, last) and re.search(of_type, text) for path, text in texts.items())
-    in_module = lambda path: "/%s.rt" % first in path or "/%s/" % first in path
+    in_module: Callable[[str], bool] = lambda path: "/%s.rt" % first in path or "/%s/" % first in path
     return any(in_module(path) and defines(text, last) for path, text in texts.items())
 
 
-def is_path(name):
+def is_path(name: str) -> bool:
     name = re.sub(r"\b(NAME|CRATE|FOLDER)\b", "*", name.removeprefix("./").rstrip("/"))
     places = [top, os.path.join(top, "crates", "*")]
     return any(glob.glob(os.path.join(place, name + ending)) for place in places for ending in ("", ".rt", ".antt", ".md"))
 
 
-def is_there(name, texts, words):
+def is_there(name: str, texts: dict[str, str], words: set[str]) -> bool:
     """Whether what stands as code exists, or is of a kind that names nothing of the tree."""
     if name in OUTSIDE:
         return True
@@ -218,12 +220,12 @@ def is_there(name, texts, words):
     return True
 
 
-def headings(page):
+def headings(page: str) -> set[str]:
     lines = [line.lstrip("#").strip() for line in read(page).split("\n") if line.startswith("#")]
     return {re.sub(r"[^\w -]", "", line.lower()).replace(" ", "-") for line in lines}
 
 
-def check_links(page, texts_of_page):
+def check_links(page: str, texts_of_page: Sequence[Any]) -> Iterator[Found]:
     for number, line in texts_of_page:
         for target in re.findall(r"\]\(([^)]+)\)", line):
             if re.match(r"https?://", target):
@@ -238,24 +240,24 @@ def check_links(page, texts_of_page):
                 yield right(page, number)
 
 
-def check_names(page, texts_of_page, texts, words):
+def check_names(page: str, texts_of_page: Sequence[Any], texts: dict[str, str], words: set[str]) -> Iterator[Found]:
     for number, line in texts_of_page:
         for name in codes(line):
             yield right(page, number) if is_there(name, texts, words) else wrong(page, number, "nothing here is named `%s`" % name)
 
 
-def pages():
+def pages() -> list[str]:
     found = (path for pattern in ("*.md", "docs/*.md", "docs/*/*.md") for path in glob.glob(os.path.join(top, pattern)))
     return sorted(os.path.relpath(path, top) for path in found)
 
 
 class Pages(unittest.TestCase):
-    def hold(self, looked_at):
+    def hold(self, looked_at: Iterable[Found]) -> None:
         for place, fault in looked_at:
             with self.subTest(place):
                 self.assertEqual(fault, "")
 
-    def test_what_they_show_is_what_the_program_answers(self):
+    def test_what_they_show_is_what_the_program_answers(self) -> None:
         with tempfile.TemporaryDirectory() as folder:
             for page in run_pages:
                 blocks, tables, _ = parts_of(page)
@@ -263,16 +265,16 @@ class Pages(unittest.TestCase):
                 for line, arguments, rows in tables:
                     self.hold(run_table(page, line, arguments, rows, folder))
 
-    def test_their_links_lead_somewhere(self):
+    def test_their_links_lead_somewhere(self) -> None:
         for page in pages():
             self.hold(check_links(page, parts_of(page)[2]))
 
-    def test_their_blocks_have_ends(self):
+    def test_their_blocks_have_ends(self) -> None:
         for page in pages():
             with self.subTest(page):
                 self.assertEqual([line for line, kind, _ in parts_of(page)[0] if kind == "no end"], [])
 
-    def test_what_they_name_is_there(self):
+    def test_what_they_name_is_there(self) -> None:
         texts, words = tree()
         for page in pages():
             self.hold(check_names(page, parts_of(page)[2], texts, words))

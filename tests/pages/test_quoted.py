@@ -2,6 +2,7 @@
 examples, where they are proved and run: in src, and each block of a proof in proofs. A block may be indented less than in the file.
 Each example file has to be quoted, too, so that none is left without a word of what it shows."""
 import os, unittest
+from typing import Iterator
 
 from tests import top
 from tests.pages.examples import lines_of
@@ -11,7 +12,7 @@ crates = [os.path.join(top, "crates", name) for name in ("kv_run_tests", "kv_buc
 kinds = {"```rust": ".rt", "```antt": ".antt"}
 
 
-def blocks_of(page):
+def blocks_of(page: str) -> tuple[list[tuple[str, str, list[str]]], bool]:
     """Of each block of code: its page and first line's number, the ending of the files that it may be of, and its lines."""
     blocks: list[tuple[str, str, list[str]]] = []
     block = None
@@ -26,11 +27,11 @@ def blocks_of(page):
     return blocks, block is not None
 
 
-def indented(line, by):
+def indented(line: str, by: int) -> str:
     return " " * by + line if line else line
 
 
-def stands_in(block, lines):
+def stands_in(block: list[str], lines: list[str]) -> bool:
     for start in range(len(lines) - len(block) + 1):
         by = len(lines[start]) - len(lines[start].lstrip(" "))
         if [indented(line, by) for line in block] == lines[start:start + len(block)]:
@@ -38,7 +39,7 @@ def stands_in(block, lines):
     return False
 
 
-def files():
+def files() -> Iterator[str]:
     """The files of the crates, code and proofs."""
     for part in (os.path.join(crate, part) for crate in crates for part in ("src", "proofs")):
         for folder, _, names in sorted(os.walk(part)):
@@ -47,32 +48,32 @@ def files():
                     yield os.path.join(folder, name)
 
 
-def is_example(path):
+def is_example(path: str) -> bool:
     return os.path.dirname(path) in [os.path.join(crate, "src", "examples") for crate in crates]
 
 
 class Quoted(unittest.TestCase):
-    def setUp(self):
+    def setUp(self) -> None:
         self.pages = {page: blocks_of(page) for page in pages}
         self.texts = {path: lines_of(path) for path in files()}
 
-    def quotes(self, ending, block):
+    def quotes(self, ending: str, block: list[str]) -> list[str]:
         """The files where a block stands."""
         return [path for path, lines in self.texts.items() if block and path.endswith(ending) and stands_in(block, lines)]
 
-    def test_each_block_stands_in_a_file(self):
+    def test_each_block_stands_in_a_file(self) -> None:
         for blocks, _ in self.pages.values():
             for place, ending, block in blocks:
                 with self.subTest(place):
                     self.assertTrue(self.quotes(ending, block), "this block stands in no file of the crates of examples")
 
-    def test_each_example_is_quoted(self):
+    def test_each_example_is_quoted(self) -> None:
         quoted = {path for blocks, _ in self.pages.values() for _, ending, block in blocks for path in self.quotes(ending, block)}
         for path in filter(is_example, self.texts):
             with self.subTest(os.path.relpath(path, top)):
                 self.assertIn(path, quoted, "it is quoted nowhere")
 
-    def test_each_page_has_whole_blocks(self):
+    def test_each_page_has_whole_blocks(self) -> None:
         for page, (blocks, is_open_at_end) in self.pages.items():
             with self.subTest(page):
                 self.assertTrue(blocks and not is_open_at_end, "no whole block of Rattle, or one with no end")

@@ -2,11 +2,12 @@
 import os
 import subprocess
 import sys
+from typing import Optional
 
 PYTHONS = [sys.executable, "/usr/bin/python3"]
 
 
-def with_modules(*names):
+def with_modules(*names: str) -> Optional[str]:
     """A Python that has these modules, or None."""
     for python in PYTHONS:
         looks = "import importlib.util, sys; sys.exit(not all(map(importlib.util.find_spec, sys.argv[1:])))"

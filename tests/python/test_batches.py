@@ -14,7 +14,7 @@ class Batches(unittest.TestCase):
         self.bucket = Bucket("settings", history=2, value_limit=1 << 20)
         self.addCleanup(self.bucket.close)
 
-    def last(self):
+    def last(self) -> int:
         return self.bucket.status().last
 
     def test_it_is_made_at_the_end_of_its_block(self) -> None:
@@ -116,7 +116,7 @@ class Batches(unittest.TestCase):
     def test_any_thread_gathers(self) -> None:
         batch = self.bucket.batch()
 
-        def gather(thread):
+        def gather(thread: int) -> None:
             for number in range(500):
                 batch.put(f"{thread}.{number}", b"1")
 
@@ -128,10 +128,10 @@ class Batches(unittest.TestCase):
         self.assertEqual((batch.write(), len(self.bucket.keys())), (range(1, 2001), 2000))
 
     def test_nobody_sees_half_of_one(self) -> None:
-        wrong = []
+        wrong: List[Any] = []
         watch = self.bucket.watch(">", updates=True)
 
-        def write(thread):
+        def write(thread: int) -> None:
             for number in range(1000):
                 with self.bucket.batch() as batch:
                     batch["left"] = batch["right"] = f"{thread} {number}"
@@ -144,7 +144,7 @@ class Batches(unittest.TestCase):
                     if (moment.get("left") or [None])[0] != (moment.get("right") or [None])[0]:
                         wrong.append((moment.get("left"), moment.get("right")))
 
-        def follow():
+        def follow() -> None:
             items: Any = iter(watch.follow())
             for left in items:
                 right = next(items)

@@ -2,7 +2,7 @@
 import threading
 import time
 import unittest
-from typing import Any, List, Optional, Tuple
+from typing import Any, Callable, List, Optional, Tuple
 from unittest import mock
 
 from tests.python.buckets import LONG, OfBucket, fresh_bucket, later, server
@@ -74,7 +74,8 @@ class Mirrors(OfBucket):
         self.assertEqual(told, [*((f"app.{number}", b"%d" % number) for number in range(count)), ("app.last", b"")])
 
     def test_its_thread_ends_with_it_or_with_its_bucket(self) -> None:
-        ends = (lambda bucket, mirror: mirror.close(), lambda bucket, mirror: bucket.close(), lambda bucket, mirror: bucket.finish())
+        ends: List[Callable[[Any, Any], object]] = [
+            lambda bucket, mirror: mirror.close(), lambda bucket, mirror: bucket.close(), lambda bucket, mirror: bucket.finish()]
         for end in ends:
             with fresh_bucket() as bucket:
                 mirror, before = bucket.mirror(), set(threading.enumerate())

@@ -7,6 +7,7 @@ import subprocess
 import sys
 import tempfile
 import unittest
+from typing import Any, List, Tuple
 
 from tests import top
 from tests.python.installing import with_modules
@@ -59,9 +60,10 @@ bucket.mirror()["a"] = b"1"
 """
 
 
-def ran(*command, **how):
+def ran(*command: str, **how: Any) -> str:
     """What a command tells that has to succeed."""
-    done = subprocess.run(command, stdin=subprocess.DEVNULL, stdout=subprocess.PIPE, stderr=subprocess.STDOUT, text=True, **how)
+    done: subprocess.CompletedProcess[str] = subprocess.run(
+        command, stdin=subprocess.DEVNULL, stdout=subprocess.PIPE, stderr=subprocess.STDOUT, text=True, **how)
     if done.returncode != 0:
         raise AssertionError("%s: status %d\n%s" % (" ".join(command), done.returncode, done.stdout))
     return done.stdout
@@ -73,7 +75,7 @@ class Folder(unittest.TestCase):
         self.addCleanup(room.cleanup)
         self.folder = room.name
 
-    def file(self, name, text):
+    def file(self, name: str, text: str) -> str:
         path = os.path.join(self.folder, name)
         with open(path, "w", encoding="utf-8") as file:
             file.write(text)
@@ -83,11 +85,12 @@ class Folder(unittest.TestCase):
 class Types(Folder):
     def setUp(self) -> None:
         super().setUp()
-        self.python = with_modules("mypy")
-        if self.python is None:
+        python = with_modules("mypy")
+        if python is None:
             self.skipTest("there is no mypy: apt-get install python3-mypy")
+        self.python = python
 
-    def mypy(self, *paths):
+    def mypy(self, *paths: str) -> Tuple[List[str], str]:
         environment = dict(os.environ, MYPYPATH=os.path.join(top, "python"))
         done = subprocess.run([self.python, "-m", "mypy", "--strict", "--cache-dir", self.folder, *paths], cwd=self.folder,
                               env=environment, capture_output=True, text=True)
@@ -138,13 +141,13 @@ class TheLibrary(Folder):
         super().setUp()
         self.package = shutil.copytree(PACKAGE, os.path.join(self.folder, "python", "vilgoued"), ignore=shutil.ignore_patterns("*.so", "__pycache__"))
 
-    def told(self, **environment):
+    def told(self, **environment: str) -> str:
         """What a bucket says, or why there is none."""
         code = "import vilgoued\ntry:\n    vilgoued.Bucket('a')\n    print(vilgoued._library.path())\nexcept OSError as e:\n    print(e)"
         environment = {**{name: text for name, text in os.environ.items() if name != "VILGOUED_LIB"}, **environment}
         return ran(sys.executable, "-B", "-c", code, cwd=os.path.dirname(self.package), env=environment).rstrip("\n")
 
-    def fake(self, machine):
+    def fake(self, machine: int) -> str:
         """A file that looks like a library for this processor."""
         path = os.path.join(self.folder, "fake.so")
         with open(path, "wb") as file:

@@ -1,13 +1,14 @@
 """The worked scripts and the tests of vilgoued once more, where AddressSanitizer looks at all memory that the library and the module
 have: what lies beside a buffer, or was freed, is neither read nor written."""
 import os, subprocess, sys, unittest
+from typing import Optional
 
 from tests import top
 
 C = os.environ.get("CC", "cc")
 
 
-def sanitizer():
+def sanitizer() -> Optional[str]:
     """The path of the C compiler's AddressSanitizer, or None where it has none."""
     try:
         path = subprocess.run([C, "-print-file-name=libasan.so"], stdin=subprocess.DEVNULL, capture_output=True, text=True).stdout.strip()

@@ -4,7 +4,7 @@ import ctypes
 import pickle
 import threading
 import unittest
-from typing import Any, Tuple
+from typing import Any, Callable, List, Tuple, Union
 
 import vilgoued
 from tests.python.buckets import differs_on_a_server, fresh_bucket, open_bucket, server
@@ -155,7 +155,7 @@ class Watches(unittest.TestCase):
             next(watch)
 
     def test_a_watch_begins_with_what_is_asked_for(self) -> None:
-        def revisions(**options):
+        def revisions(**options: Any) -> List[int]:
             return [0 if entry.marker else entry.revision for entry in self.bucket.watch(">", **options)]
 
         self.assertEqual(revisions(history=True), [1, 2, 3, 0])
@@ -285,7 +285,7 @@ class Refusals(unittest.TestCase):
     def test_each_class_has_the_name_of_its_code(self) -> None:
         room, size = ctypes.create_string_buffer(17), ctypes.c_size_t()
 
-        def name_of(code):
+        def name_of(code: int) -> Union[str, int]:
             done = _library.library().kv_code_name(code, ctypes.addressof(room), len(room), ctypes.addressof(size))
             return room.raw[: size.value].decode() if done == 0 else done
 
@@ -296,12 +296,13 @@ class Refusals(unittest.TestCase):
     def test_they_say_what_is_wrong(self) -> None:
         with fresh_bucket() as bucket:
             bucket["a"] = b"1"
-            for call, text in (
+            faults: List[Tuple[Callable[[], object], str]] = [
                 (lambda: bucket.put("a..b", b""), "a key has 1 to 255"),
                 (lambda: bucket.create("a", b""), "the key has a value"),
                 (lambda: bucket.update("a", b"", last=7), "the key's last revision is 1"),
                 (lambda: bucket.watch("a", history=True, updates=True), "two of history"),
-            ):
+            ]
+            for call, text in faults:
                 with self.assertRaisesRegex(vilgoued.KvError, text):
                     call()
 
@@ -317,7 +318,9 @@ class Refusals(unittest.TestCase):
                 bucket.update("a", b"", last=-1)
             with self.assertRaises(OverflowError):
                 bucket.delete("a", last=1 << 64)
-            for call in (lambda: bucket.update("a", b"", last=1.0), lambda: bucket.get("a", at=1.0), lambda: bucket.watch(">", since=1.5)):
+            calls: List[Callable[[], object]] = [
+                lambda: bucket.update("a", b"", last=1.0), lambda: bucket.get("a", at=1.0), lambda: bucket.watch(">", since=1.5)]
+            for call in calls:
                 with self.assertRaises(TypeError):
                     call()
 

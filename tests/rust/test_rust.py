@@ -22,18 +22,18 @@ OF_DEBIAN = ["--config", 'source.crates-io.replace-with="debian"', "--config", '
 LIMIT = 400
 
 
-def environment(**more):
+def environment(**more: str) -> dict[str, str]:
     library = os.path.join(os.path.dirname(os.path.abspath(os.environ["VILGOUED_LIB"])), "libvilgoued.a")
     return dict(os.environ, VILGOUED_LIB=library, CARGO_TARGET_DIR=TARGET, CARGO_NET_OFFLINE="true", CARGO_TERM_COLOR="never", **more)
 
 
-def unlock(folder):
+def unlock(folder: str) -> None:
     """Takes a folder's Cargo.lock away: another cargo can't read it, or this one that of another."""
     with contextlib.suppress(FileNotFoundError):
         os.unlink(os.path.join(folder, "Cargo.lock"))
 
 
-def cargo(*words, folder=PACKAGE, **more):
+def cargo(*words: str, folder: str = PACKAGE, **more: str) -> str:
     """What cargo prints, which has to succeed."""
     assert CARGO
     unlock(folder)
@@ -47,7 +47,7 @@ def cargo(*words, folder=PACKAGE, **more):
     return done.stdout
 
 
-def has(command):
+def has(command: str) -> bool:
     """Whether cargo has this command."""
     asked = [CARGO or "", command, "--version"]
     return subprocess.run(asked, env=environment(), stdin=subprocess.DEVNULL, capture_output=True, timeout=LIMIT).returncode == 0
@@ -55,12 +55,12 @@ def has(command):
 
 @unittest.skipUnless(CARGO, "there is no cargo: apt-get install cargo")
 class Rust(unittest.TestCase):
-    def test_its_tests_and_examples_pass(self):
+    def test_its_tests_and_examples_pass(self) -> None:
         told = cargo("test", "--offline")
         print("\n".join(line for line in told.splitlines() if line.startswith("test result")))
         self.assertRegex(told, r"Page .*ok", "the examples of the page are not among them")
 
-    def test_each_script_has_the_answers_of_the_program(self):
+    def test_each_script_has_the_answers_of_the_program(self) -> None:
         cargo("build", "--offline", "--examples")
         for script in scripts():
             if not script.is_race:
@@ -68,7 +68,7 @@ class Rust(unittest.TestCase):
                 with self.subTest(script.name), Driven(program, **script.settings) as bucket:
                     self.assertEqual(replay(bucket, script), script.output.decode().splitlines())
 
-    def test_what_is_unsafe_stands_in_one_module_each_with_its_reason(self):
+    def test_what_is_unsafe_stands_in_one_module_each_with_its_reason(self) -> None:
         for path in sorted(glob.glob(os.path.join(PACKAGE, "src", "*.rs"))):
             with open(path, encoding="utf-8") as file, self.subTest(os.path.basename(path)):
                 lines = file.read().splitlines()
@@ -77,20 +77,20 @@ class Rust(unittest.TestCase):
                 for at in unsafe:
                     self.assertRegex("\n".join(lines[max(0, at - 4):at + 1]), "SAFETY: ", "line %d" % (at + 1))
 
-    def test_clippy_finds_nothing(self):
+    def test_clippy_finds_nothing(self) -> None:
         if not has("clippy"):
             self.skipTest("clippy is not installed: apt-get install rust-clippy")
         cargo("clippy", "--offline", "--all-targets", "--", "-D", "warnings")
 
-    def test_rustdoc_finds_nothing(self):
+    def test_rustdoc_finds_nothing(self) -> None:
         cargo("doc", "--offline", "--no-deps", RUSTDOCFLAGS="-D warnings")
 
     @unittest.skipUnless(glob.glob(os.path.join(SOURCES, "tokio-1.*")), "there is no tokio: apt-get install librust-tokio-dev")
-    def test_a_follower_is_awaited_in_tokio(self):
+    def test_a_follower_is_awaited_in_tokio(self) -> None:
         told = cargo("test", "--offline", *OF_DEBIAN, folder=os.path.join(top, "tests", "rust", "tokio"))
         self.assertIn("3 passed; 0 failed", told)
 
-    def test_what_calls_take_is_told(self):
+    def test_what_calls_take_is_told(self) -> None:
         print(cargo("run", "--offline", "--quiet", "--release", "--example", "costs"), end="")
 
 

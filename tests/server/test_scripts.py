@@ -1,6 +1,7 @@
 """The worked scripts on a NATS server: the answers have to be those that ./kvbucket gives, but for the differences that are listed
 here."""
 import os, unittest
+from typing import Any, cast
 
 from tests.replay import replay
 from tests.worked import scripts
@@ -47,16 +48,16 @@ DIFFERS = {
 
 
 class Scripts(unittest.TestCase):
-    def test_each_script_has_the_answers_of_the_program_but_for_what_is_listed(self):
+    def test_each_script_has_the_answers_of_the_program_but_for_what_is_listed(self) -> None:
         for script in scripts():
             if script.name not in LEFT_OUT:
-                with self.subTest(script.name), Bucket(server, "script-" + script.name, **script.settings) as bucket:
+                with self.subTest(script.name), Bucket(server, "script-" + script.name, **cast(Any, script.settings)) as bucket:
                     wanted = script.output.decode().splitlines()
                     for line in DIFFERS.get(script.name, ("", []))[1]:
                         wanted.remove(line)
                     self.assertEqual(replay(bucket, script), wanted)
 
-    def test_what_is_listed_is_there(self):
+    def test_what_is_listed_is_there(self) -> None:
         self.assertLessEqual(set(LEFT_OUT) | set(DIFFERS), {script.name for script in scripts()})
 
 
