@@ -1,4 +1,4 @@
-/* The watchers of vilgoued_shared.h: a follower each, on a thread of its own. All is made of the calls of that header. */
+/* The watchers of vilgoued_shared.h: a follower each, on a thread of its own. Each step is a call of that header. */
 #define _GNU_SOURCE
 #include "vilgoued_shared.h"
 #include <pthread.h>

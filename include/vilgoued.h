@@ -45,8 +45,8 @@ enum {
     KV_NO_SUCH_CODE = 37
 };
 
-/* A text that ends with a zero byte, as the bytes and the size that calls take: kv_put(bucket, KV_TEXT("a"), KV_TEXT("1"),
- * &revision). It is looked at twice. */
+/* A text that ends with a zero byte, as the bytes and the size that calls take: kv_put(&bucket, KV_TEXT("a"),
+ * KV_TEXT("1"), &revision). It is evaluated twice. */
 #define KV_TEXT(text) (const uint8_t *)(text), strlen(text)
 
 /* What a take hands out: nothing is left, the end marker, an entry. */

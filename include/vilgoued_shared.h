@@ -1,5 +1,5 @@
-/* A bucket that threads share: one bucket behind one mutex, with readers, which have a view each, followers, which sleep
- * until there is something for them, and watchers, which are followers on threads of their own.
+/* A bucket that threads share: one bucket behind one mutex, with readers, which have a view each, followers, which
+ * sleep until there is something for them, and watchers, which are followers on threads of their own.
  *
  * This shell is C, and not proved: it is tested, under sanitizers too. Each step that it makes on a bucket, a view or
  * a feed is a call of an export of vilgoued.h, and these are proved.
@@ -24,8 +24,8 @@
 extern "C" {
 #endif
 
-/* The shell's own codes: the system gives no descriptor, or no thread. Those of vilgoued.h are below 64. kv_code_name has
- * no names for these. */
+/* The shell's own codes: the system gives no descriptor, or no thread. Those of vilgoued.h are below 64. kv_code_name
+ * has no names for these. */
 enum { KV_NO_DESCRIPTOR = 64, KV_NO_THREAD = 65 };
 
 /* A time in milliseconds that is never over. */
@@ -189,16 +189,16 @@ uint64_t kv_follower_stop(kv_follower *follower);
  * close. */
 void kv_follower_close(kv_follower *follower);
 
-/* Opens a watcher: a follower, with the refusals of kv_follower_open, and a thread that calls `call` with each item, one
- * after another. It finds the room for the values, and where memory is refused it asks again later. It ends where
- * kv_follower_next would be KV_CLOSED or KV_LAGGED: the last call has an item whose kind is KV_EMPTY. It takes no
- * signals. KV_NO_THREAD where the system gives no thread. Any thread. */
+/* Opens a watcher: a follower, with the refusals of kv_follower_open, and a thread that calls `call` with each item,
+ * one after another. It finds the room for the values, and where memory is refused it asks again a millisecond later.
+ * It ends where kv_follower_next would be KV_CLOSED or KV_LAGGED: the last call has an item whose kind is KV_EMPTY. It
+ * takes no signals. KV_NO_THREAD where the system gives no thread. Any thread. */
 uint64_t kv_watcher_open(kv_shared *shared, const uint8_t *filters, size_t filters_size, const kv_options *options,
                          kv_watched *call, void *with, kv_watcher *watcher);
 
-/* Waits until a watcher has ended and its last call has returned, and frees it: behind kv_shared_finish it has handed out
- * all. Tells why it ended: KV_CLOSED, or KV_LAGGED, behind which another one may be opened. KV_CLOSED where the handle is
- * closed. Not from the function that the watcher calls. */
+/* Waits until a watcher has ended and its last call has returned, and frees it: behind kv_shared_finish it has handed
+ * out all. Tells why it ended: KV_CLOSED, or KV_LAGGED, behind which another one may be opened. KV_CLOSED where the
+ * handle is closed. Not from the function that the watcher calls. */
 uint64_t kv_watcher_join(kv_watcher *watcher);
 
 /* The same, but it ends the watcher first, behind the call that is being made, whatever it has still to hand out. */
