@@ -62,7 +62,7 @@ func refusedAs(t testing.TB, err, wanted error) {
 
 // Some time, after which a test that waits has failed.
 func soon(t testing.TB) context.Context {
-	ctx, cancel := context.WithTimeout(context.Background(), time.Minute)
+	ctx, cancel := context.WithTimeout(context.Background(), 5*time.Minute)
 	t.Cleanup(cancel)
 	return ctx
 }
@@ -73,7 +73,7 @@ func leavesNone(t *testing.T, what func()) {
 	before := runtime.NumGoroutine()
 	what()
 	for tries := 0; runtime.NumGoroutine() > before; tries++ {
-		if tries == 200 {
+		if tries == 60000 {
 			all := make([]byte, 1<<16)
 			t.Fatalf("%d goroutines, and there were %d:\n%s", runtime.NumGoroutine(), before, all[:runtime.Stack(all, true)])
 		}

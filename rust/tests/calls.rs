@@ -149,7 +149,7 @@ fn a_wait_ends_with_its_time_or_with_an_item() {
             std::thread::sleep(Duration::from_millis(20));
             bucket.put("a", "1").unwrap();
         });
-        assert_eq!(shown(follower.next_timeout(Duration::from_secs(60)).unwrap().unwrap()), "a PUT 1 1 Some(\"1\")");
+        assert_eq!(shown(follower.next_timeout(Duration::from_secs(300)).unwrap().unwrap()), "a PUT 1 1 Some(\"1\")");
     });
 }
 

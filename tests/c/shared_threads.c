@@ -9,7 +9,7 @@
 #include <time.h>
 #include <unistd.h>
 
-enum { WRITERS = 4, READERS = 4, FOLLOWERS = 4, KEYS = 64, PATIENCE = 60000 };
+enum { WRITERS = 4, READERS = 4, FOLLOWERS = 4, KEYS = 64, PATIENCE = 300000 };
 enum { EACH = 50000, ROUNDS = 10000, CLOSES = 500 };
 
 static const kv_limits limits = {1, 1048576, 1000000, 4294967295};
@@ -599,7 +599,7 @@ int main(int argc, char **argv) {
     is_looked_on = argc > 1;
     takes_turns = is_looked_on && !strcmp(argv[1], "valgrind");
     /* Whoever waits for ever ends the run. */
-    alarm(300);
+    alarm(600);
     all_at_once();
     batches_are_whole();
     no_wake_up_is_lost();

@@ -410,7 +410,7 @@ static void closed_behind(void) {
 
 int main(void) {
     /* What sleeps for ever ends the run. */
-    alarm(60);
+    alarm(300);
     layout();
     closed();
     opened();

@@ -46,7 +46,7 @@ class Tls(unittest.TestCase):
             watch = bucket.watch(">", updates=True)
             timer = threading.Timer(0.1, bucket.put, ("b", b"2"))
             timer.start()
-            self.assertEqual(cast(Entry, next(watch.follow(20))).key, "b")
+            self.assertEqual(cast(Entry, next(watch.follow(300))).key, "b")
             timer.join()
             for number in range(20):
                 bucket["c"] = b"%d" % number
