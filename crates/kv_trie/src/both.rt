@@ -7,7 +7,7 @@ ghost use Rattle.kv_trie.specs.Put.{IsMapWith, pair_of};
 use crate::put::{NewPair, Pending};
 use crate::trie::Trie;
 use kv_keys::{KvError, Place};
-use std::alloc::Global;
+use std::alloc::{AllocError, Global};
 use std::mem;
 
 /// Something else that is to happen with a change of a map: both do, or neither.
@@ -22,11 +22,10 @@ pub(crate) trait Companion {
     ghost kept: { Self → Self → Type 0 };
 
     /// Lets it happen. It is called at most once, when the change itself can't be refused any more.
-    fn commit(&mut self) -> Result<(), KvError>
+    fn commit(&mut self) -> Result<(), AllocError>
         requires { ready self.old }
         ensures done { OnOk result (done self.old self.new) }
-        ensures kept { OnErr result (kept self.old self.new) }
-        ensures err { IfErr result (λ error. error ≡ OutOfMemory) };
+        ensures kept { OnErr result (kept self.old self.new) };
 }
 
 /// No companion.
@@ -40,7 +39,7 @@ impl Companion for Alone {
 
     ghost kept = { λ old new. Unit {0} };
 
-    fn commit(&mut self) -> Result<(), KvError> {
+    fn commit(&mut self) -> Result<(), AllocError> {
         Ok(())
     }
 }
@@ -63,7 +62,7 @@ impl<K: Place + Drop, V: Drop> Companion for Second<K, V> {
 
     ghost kept = { λ old new. new.trie ≡ old.trie };
 
-    fn commit(&mut self) -> Result<(), KvError> {
+    fn commit(&mut self) -> Result<(), AllocError> {
         self.trie
             .put_with(self.alloc, &mut self.pending, &mut Alone)
     }
@@ -94,5 +93,5 @@ pub fn put_both<K1: Place + Drop, V1: Drop, K2: Place + Drop, V2: Drop>(
     let mut pending = Pending::new(first_pair);
     let put = first.put_with(alloc, &mut pending, &mut companion);
     *second = companion.trie;
-    put
+    Ok(put?)
 }

@@ -1,11 +1,10 @@
 //! One more pair in a node, in place where nobody else has it.
 
-ghost use Rattle.std.specs.Prelude.{◌≡◌, ◌⊎◌, ◌≤◌, ◌<◌, ◌-◌, ◌∷◌, true, IfErr, IfOk, OnErr, OnOk, [], Some, None, is_some};
+ghost use Rattle.std.specs.Prelude.{◌≡◌, ◌⊎◌, ◌≤◌, ◌<◌, ◌-◌, ◌∷◌, true, IfOk, OnErr, OnOk, [], Some, None, is_some};
 ghost use Rattle.std.specs.Arc.{arc_value};
 ghost use Rattle.std.specs.BTreeMap.{is_at};
 ghost use Rattle.std.specs.Map.{lookup};
 ghost use Rattle.std.specs.declared.cmp.Ordering.TheVariants.{Equal};
-ghost use Rattle.kv_keys.specs.declared.error.KvError.TheVariants.{OutOfMemory};
 ghost use Rattle.kv_trie.specs.Put.{pair_of};
 ghost use Rattle.kv_trie.specs.inside.Change.{IsFormWith, AreFormsWith, IsBranchWith};
 ghost use Rattle.kv_trie.specs.inside.Few.{Rises, HasRoom};
@@ -17,7 +16,7 @@ use crate::branch::{Few, Padded, has_room_at, no_children, open, spread, unshare
 use crate::find::index;
 use crate::list::put_in_shared;
 use crate::node::{Node, Pair};
-use kv_keys::{KvError, Place};
+use kv_keys::Place;
 use std::alloc::{AllocError, Global};
 use std::marker::Model;
 use std::mem;
@@ -111,14 +110,13 @@ impl<K: Drop, V: Drop> Pending<K, V> {
         alloc: Global,
         old: &mut Arc<Pair<K, V>>,
         companion: &mut C,
-    ) -> Result<(), KvError>
+    ) -> Result<(), AllocError>
         requires there { self.old.there ≡ true }
         requires ready { C.ready companion.old }
         ensures put { OnOk result (arc_value old.new ≡ self.old.pair) }
         ensures done { OnOk result (C.done companion.old companion.new) }
         ensures unchanged { OnErr result (arc_value old.new ≡ arc_value old.old) }
         ensures kept { OnErr result ((companion.new ≡ companion.old) ⊎ C.kept companion.old companion.new) }
-        ensures err { IfErr result (λ error. error ≡ OutOfMemory) }
     {
         if let Some(NewPair::Owned(pair)) = &mut self.pair {
             if let Some(place) = Arc::get_mut(old) {
@@ -167,14 +165,13 @@ fn list_of_two<K: Place + Drop, V: Drop, C: Companion>(
     old: Arc<Pair<K, V>>,
     pending: &mut Pending<K, V>,
     companion: &mut C,
-) -> Result<Node<K, V>, KvError>
+) -> Result<Node<K, V>, AllocError>
     requires there { pending.old.there ≡ true }
     requires ready { C.ready companion.old }
     ensures pairs { IfOk result (λ node. shape_of node
         ≡ Some (row (put_pair K.cmp pending.old.pair (arc_value old ∷ [])))) }
     ensures done { OnOk result (C.done companion.old companion.new) }
     ensures kept { OnErr result ((companion.new ≡ companion.old) ⊎ C.kept companion.old companion.new) }
-    ensures err { IfErr result (λ error. error ≡ OutOfMemory) }
 {
     let mut list = Arc::new(alloc, vec![in alloc; old]?)?;
     put_in_shared(alloc, &mut list, pending, companion)?;
@@ -190,7 +187,7 @@ fn put_beside<K: Place + Drop, V: Drop, C: Companion>(
     place: u32,
     pending: &mut Pending<K, V>,
     companion: &mut C,
-) -> Result<Node<K, V>, KvError>
+) -> Result<Node<K, V>, AllocError>
     requires levels { left ≤ 7 }
     requires place { place ≡ K.place_of pending.old.pair.0 }
     requires apart { K.cmp pending.old.pair.0 (arc_value old.now).0 ≡ Equal → ⊥ }
@@ -198,8 +195,7 @@ fn put_beside<K: Place + Drop, V: Drop, C: Companion>(
     requires ready { C.ready companion.old }
     ensures form { IfOk result (IsFormWith K.cmp K.place_of left pending.old.pair (arc_value old.now ∷ [])) }
     ensures companion { (OnOk result (C.done companion.old companion.new))
-        × (OnErr result ((companion.new ≡ companion.old) ⊎ C.kept companion.old companion.new))
-        × (IfErr result (λ error. error ≡ OutOfMemory)) }
+        × OnErr result ((companion.new ≡ companion.old) ⊎ C.kept companion.old companion.new) }
 {
     let other = Arc::try_clone(old)?;
     if left == 0 {
@@ -220,7 +216,7 @@ fn put_below<K: Place + Drop, V: Drop, C: Companion>(
     place: u32,
     pending: &mut Pending<K, V>,
     companion: &mut C,
-) -> Result<bool, KvError>
+) -> Result<bool, AllocError>
     requires levels { left ≤ 7 }
     requires some { 0 < left }
     requires forms { AreForms K.cmp K.place_of (left - 1) 0 (child_slots children.old) }
@@ -233,8 +229,7 @@ fn put_below<K: Place + Drop, V: Drop, C: Companion>(
         ≡ is_some (lookup (is_at (K.cmp pending.old.pair.0)) (pairs_in (child_slots children.old)))) }
     ensures unchanged { OnErr result (child_slots children.new ≡ child_slots children.old) }
     ensures companion { (OnOk result (C.done companion.old companion.new))
-        × (OnErr result ((companion.new ≡ companion.old) ⊎ C.kept companion.old companion.new))
-        × (IfErr result (λ error. error ≡ OutOfMemory)) }
+        × OnErr result ((companion.new ≡ companion.old) ⊎ C.kept companion.old companion.new) }
 {
     let at = index(place, left - 1);
     put(
@@ -257,7 +252,7 @@ fn put_in_branch<K: Place + Drop, V: Drop, C: Companion>(
     place: u32,
     pending: &mut Pending<K, V>,
     companion: &mut C,
-) -> Result<bool, KvError>
+) -> Result<bool, AllocError>
     requires levels { left ≤ 7 }
     requires some { 0 < left }
     requires forms { AreForms K.cmp K.place_of (left - 1) 0 (child_slots (arc_value children.old).value) }
@@ -270,8 +265,7 @@ fn put_in_branch<K: Place + Drop, V: Drop, C: Companion>(
         ≡ is_some (lookup (is_at (K.cmp pending.old.pair.0)) (pairs_in (child_slots (arc_value children.old).value)))) }
     ensures unchanged { OnErr result (child_slots (arc_value children.new).value ≡ child_slots (arc_value children.old).value) }
     ensures companion { (OnOk result (C.done companion.old companion.new))
-        × (OnErr result ((companion.new ≡ companion.old) ⊎ C.kept companion.old companion.new))
-        × (IfErr result (λ error. error ≡ OutOfMemory)) }
+        × OnErr result ((companion.new ≡ companion.old) ⊎ C.kept companion.old companion.new) }
 {
     unshare(alloc, children)?;
     let own = Arc::make_mut(children)?;
@@ -288,7 +282,7 @@ fn put_among<K: Place + Drop, V: Drop, C: Companion>(
     place: u32,
     pending: &mut Pending<K, V>,
     companion: &mut C,
-) -> Result<bool, KvError>
+) -> Result<bool, AllocError>
     requires levels { left ≤ 7 }
     requires some { 0 < left }
     requires forms { AreForms K.cmp K.place_of (left - 1) 0 (few_slots few.old) }
@@ -302,8 +296,7 @@ fn put_among<K: Place + Drop, V: Drop, C: Companion>(
         ≡ is_some (lookup (is_at (K.cmp pending.old.pair.0)) (pairs_in (few_slots few.old)))) }
     ensures unchanged { OnErr result (few_slots few.new ≡ few_slots few.old) }
     ensures companion { (OnOk result (C.done companion.old companion.new))
-        × (OnErr result ((companion.new ≡ companion.old) ⊎ C.kept companion.old companion.new))
-        × (IfErr result (λ error. error ≡ OutOfMemory)) }
+        × OnErr result ((companion.new ≡ companion.old) ⊎ C.kept companion.old companion.new) }
 {
     let spot = open(few, index(place, left - 1));
     put(
@@ -325,7 +318,7 @@ fn put_in_few<K: Place + Drop, V: Drop, C: Companion>(
     place: u32,
     pending: &mut Pending<K, V>,
     companion: &mut C,
-) -> Result<bool, KvError>
+) -> Result<bool, AllocError>
     requires levels { left ≤ 7 }
     requires some { 0 < left }
     requires forms { AreForms K.cmp K.place_of (left - 1) 0 (few_slots (arc_value few.old)) }
@@ -340,8 +333,7 @@ fn put_in_few<K: Place + Drop, V: Drop, C: Companion>(
         ≡ is_some (lookup (is_at (K.cmp pending.old.pair.0)) (pairs_in (few_slots (arc_value few.old))))) }
     ensures unchanged { OnErr result (few_slots (arc_value few.new) ≡ few_slots (arc_value few.old)) }
     ensures companion { (OnOk result (C.done companion.old companion.new))
-        × (OnErr result ((companion.new ≡ companion.old) ⊎ C.kept companion.old companion.new))
-        × (IfErr result (λ error. error ≡ OutOfMemory)) }
+        × OnErr result ((companion.new ≡ companion.old) ⊎ C.kept companion.old companion.new) }
 {
     let own = Arc::make_mut(few)?;
     put_among(alloc, own, left, place, pending, companion)
@@ -356,7 +348,7 @@ fn put_widened<K: Place + Drop, V: Drop, C: Companion>(
     place: u32,
     pending: &mut Pending<K, V>,
     companion: &mut C,
-) -> Result<(Node<K, V>, bool), KvError>
+) -> Result<(Node<K, V>, bool), AllocError>
     requires levels { left ≤ 7 }
     requires some { 0 < left }
     requires forms { AreForms K.cmp K.place_of (left - 1) 0 (few_slots (arc_value few.now)) }
@@ -368,8 +360,7 @@ fn put_widened<K: Place + Drop, V: Drop, C: Companion>(
     ensures found { IfOk result (λ new. new.1
         ≡ is_some (lookup (is_at (K.cmp pending.old.pair.0)) (pairs_in (few_slots (arc_value few.now))))) }
     ensures companion { (OnOk result (C.done companion.old companion.new))
-        × (OnErr result ((companion.new ≡ companion.old) ⊎ C.kept companion.old companion.new))
-        × (IfErr result (λ error. error ≡ OutOfMemory)) }
+        × OnErr result ((companion.new ≡ companion.old) ⊎ C.kept companion.old companion.new) }
 {
     let mut branch = widened(alloc, few)?;
     let found = put_in_branch(alloc, &mut branch, left, place, pending, companion)?;
@@ -387,7 +378,7 @@ pub fn put<K: Place + Drop, V: Drop, C: Companion>(
     place: u32,
     pending: &mut Pending<K, V>,
     companion: &mut C,
-) -> Result<bool, KvError>
+) -> Result<bool, AllocError>
     requires levels { left ≤ 7 }
     requires form { IsNode K.cmp K.place_of left (shape_of node.old) }
     requires place { place ≡ K.place_of pending.old.pair.0 }
@@ -400,7 +391,6 @@ pub fn put<K: Place + Drop, V: Drop, C: Companion>(
     ensures done { OnOk result (C.done companion.old companion.new) }
     ensures unchanged { OnErr result (shape_of node.new ≡ shape_of node.old) }
     ensures kept { OnErr result ((companion.new ≡ companion.old) ⊎ C.kept companion.old companion.new) }
-    ensures err { IfErr result (λ error. error ≡ OutOfMemory) }
 {
     match node {
         Node::Empty => {

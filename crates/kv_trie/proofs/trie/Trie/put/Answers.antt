@@ -1,4 +1,4 @@
 use Rattle.kv_trie.proofs.trie.Trie.put.Goals as goal
 
 pub returns-clause-put : goal.returns-clause-put
-returns-clause-put g c = rw c.new-pending.ensures at c.put_with.ensures.put
+returns-clause-put g c = rw c.new-pending.ensures at c.in_ok-put_with.ensures.put
