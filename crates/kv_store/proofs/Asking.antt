@@ -1,13 +1,12 @@
 -- Which keys a list of filters without wildcards asks for, filter by filter.
-use Rattle.std.proofs.Common.{◌≡◌, ℕ, Bool, true, false, cond, ◌||◌, List, [], ◌∷◌, ◌++◌, Option, Some, None, Result, Ok, Err, refl, sym, subst, ap, ◌∙◌}
-use Rattle.std.specs.Prelude.{IfOk, IfSome}
+use Rattle.std.proofs.Common.{◌≡◌, ℕ, Bool, true, false, cond, ◌||◌, List, [], ◌∷◌, ◌++◌, Option, Some, None, refl, sym, subst, ap, ◌∙◌}
+use Rattle.std.specs.Prelude.{IfSome}
 use Rattle.std.specs.declared.alloc.Global.{Global}
 use Rattle.std.specs.declared.vec.Vec.{Vec}
 use Rattle.std.specs.List.{AllByRecursion, IsDistinct, list_any}
 use Rattle.std.specs.Str.{bytes_eq}
 use Rattle.std.proofs.lemmas.List.Folds.{list_any-append}
 use Rattle.std.proofs.lemmas.Slice.Eq.{bytes_eq-Decides}
-use Rattle.kv_keys.specs.declared.error.KvError.{KvError}
 use Rattle.kv_keys.specs.Grammar.{is_key, is_filter, parts}
 use Rattle.kv_keys.specs.Matching.{matches, any_matches}
 use Rattle.kv_keys.proofs.Parts.{parts_one}
@@ -83,7 +82,6 @@ asked_one f ks filter asked = record {
 }
 
 -- what a call tells of the text of a filter it tells of the filter
-pub filter_asks : (r : Result (Option (Vec (List ℕ) Global)) KvError) (text f : List ℕ) → text ≡ f → is_filter f ≡ true → IfOk r (λ o. IfSome o (λ keys. AreAsked (any_matches (parts text)) keys.items)) → IfOk r (λ o. IfSome o (λ keys. AreAsked (matches f) keys.items))
-filter_asks (Err e) text f same filter h = tt
-filter_asks (Ok None) text f same filter h = tt
-filter_asks (Ok (Some keys)) text f same filter h = asked_one f keys.items filter (subst (λ t. AreAsked (any_matches (parts t)) keys.items) same h)
+pub filter_asks : (o : Option (Vec (List ℕ) Global)) (text f : List ℕ) → text ≡ f → is_filter f ≡ true → IfSome o (λ keys. AreAsked (any_matches (parts text)) keys.items) → IfSome o (λ keys. AreAsked (matches f) keys.items)
+filter_asks None text f same filter h = tt
+filter_asks (Some keys) text f same filter h = asked_one f keys.items filter (subst (λ t. AreAsked (any_matches (parts t)) keys.items) same h)

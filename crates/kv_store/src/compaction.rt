@@ -5,7 +5,7 @@ ghost use Rattle.std.specs.List.{IsDistinct};
 ghost use Rattle.std.specs.Map.{keys_of, lookup};
 ghost use Rattle.std.specs.Str.{bytes_eq};
 ghost use Rattle.kv_keys.specs.Outcome.{Refuses};
-ghost use Rattle.kv_keys.specs.declared.error.KvError.TheVariants.{BadFloor, OutOfMemory};
+ghost use Rattle.kv_keys.specs.declared.error.KvError.TheVariants.{BadFloor};
 ghost use Rattle.kv_model.specs.Acts.{Act, Compact, Write as AWrite};
 ghost use Rattle.kv_model.specs.Compaction.{is_bad_floor};
 ghost use Rattle.kv_store.specs.inside.Compacted.{IsCompacted, all_kept, left_of, spared};
@@ -18,7 +18,7 @@ use crate::version::{Inner, Version};
 use kv_keys::{Key, KvError};
 use kv_model::Write;
 use kv_trie::{Trie, Visit, Wants};
-use std::alloc::Global;
+use std::alloc::{AllocError, Global};
 
 impl Version {
     /// Whether the version can't be compacted to the floor: it is 0, above the last revision, or below the floor so
@@ -30,9 +30,8 @@ impl Version {
     }
 
     // The version with what a compaction to the floor leaves.
-    fn compacted(&self, alloc: Global, floor: u64) -> Result<Version, KvError>
-        ensures ok { IfOk result (IsCompacted floor self.now) }
-        ensures err { IfErr result (λ e. e ≡ OutOfMemory) }
+    fn compacted(&self, alloc: Global, floor: u64) -> Result<Version, AllocError>
+        ensures { IfOk result (IsCompacted floor self.now) }
     {
         let inner: &Inner = &self.inner;
         let by_key = uncleared_keys(alloc, &inner.by_key, floor)?;
@@ -99,7 +98,7 @@ fn uncleared_keys(
     alloc: Global,
     by_key: &Trie<Key, KeyHistory>,
     floor: u64,
-) -> Result<Trie<Key, KeyHistory>, KvError>
+) -> Result<Trie<Key, KeyHistory>, AllocError>
     ensures kept { IfOk result (λ left. (key : List ℕ) →
         lookup (λ k. bytes_eq key k) (kept_entries left)
         ≡ spared floor (lookup (λ k. bytes_eq key k) (last_entries by_key.now))
@@ -109,10 +108,9 @@ fn uncleared_keys(
         ≡ spared floor (lookup (λ k. bytes_eq key k) (last_entries by_key.now))
         (lookup (λ k. bytes_eq key k) (last_entries by_key.now))) }
     ensures len { IfOk result (λ left. length (kept_entries left) ≤ length (kept_entries by_key.now)) }
-    ensures err { IfErr result (λ e. e ≡ OutOfMemory) }
 {
     let uncleared = Uncleared { floor };
-    by_key.retain(alloc, &uncleared)
+    by_key.retain(alloc, &uncleared).map_err(|_| AllocError)
 }
 
 // Asks of a write whether it stays where a version is compacted to the floor, and these keys are not cleared.
@@ -140,16 +138,15 @@ fn left_writes(
     by_revision: &Trie<Rev, Write>,
     by_key: &Trie<Key, KeyHistory>,
     floor: u64,
-) -> Result<Trie<Rev, Write>, KvError>
+) -> Result<Trie<Rev, Write>, AllocError>
     ensures written { IfOk result (λ left. (revision : ℕ) → lookup (λ r. revision == r) left ≡
         left_of floor (kept_entries by_key.now) revision (lookup (λ r. revision == r) by_revision.now)) }
     ensures len { IfOk result (λ left. length left ≤ length by_revision.now) }
     ensures revisions { IfOk result (λ left. (last : ℕ) → All (λ (e : ℕ × AWrite). e.0 ≤ last) by_revision.now →
         All (λ (e : ℕ × AWrite). e.0 ≤ last) left) }
-    ensures err { IfErr result (λ e. e ≡ OutOfMemory) }
 {
     let left = Left { by_key, floor };
-    by_revision.retain(alloc, &left)
+    by_revision.retain(alloc, &left).map_err(|_| AllocError)
 }
 
 // Counts revisions.
@@ -159,12 +156,10 @@ struct Count {
 }
 
 impl Visit<Key, KeyHistory> for Count {
-    ghost use Rattle.std.specs.Prelude.{◌≡◌, ◌+◌, ◌<◌, ◌^◌, length, IfErr};
-    ghost use Rattle.kv_keys.specs.declared.error.KvError.TheVariants.{OutOfMemory};
+    ghost use Rattle.std.specs.Prelude.{◌≡◌, ◌+◌, ◌<◌, ◌^◌, length};
 
     ghost shows = { λ old key kept result new.
-        (old.revisions + length kept.revisions < 2 ^ 64 → new.revisions ≡ old.revisions + length kept.revisions)
-        × IfErr result (λ error. error ≡ OutOfMemory) };
+        old.revisions + length kept.revisions < 2 ^ 64 → new.revisions ≡ old.revisions + length kept.revisions };
 
     fn pair(&mut self, _key: &Key, kept: &KeyHistory) -> Result<(), KvError> {
         self.revisions = self.revisions.saturating_add(kept.revisions().len() as u64);
@@ -173,13 +168,12 @@ impl Visit<Key, KeyHistory> for Count {
 }
 
 // How many revisions are kept of all keys.
-fn kept_count(by_key: &Trie<Key, KeyHistory>) -> Result<u64, KvError>
+fn kept_count(by_key: &Trie<Key, KeyHistory>) -> Result<u64, AllocError>
     ensures count { IfOk result (λ count.
         length (all_kept (kept_entries by_key.now)) < 2 ^ 64 → count ≡ length (all_kept (kept_entries by_key.now))) }
     ensures apart { IsDistinct bytes_eq (keys_of (kept_entries by_key.now)) }
-    ensures err { IfErr result (λ e. e ≡ OutOfMemory) }
 {
     let mut count = Count { revisions: 0 };
-    by_key.each(&mut count)?;
+    by_key.each(&mut count).map_err(|_| AllocError)?;
     Ok(count.revisions)
 }

@@ -80,15 +80,14 @@ fn last_found<'t, W: Wanted>(
     alloc: Global,
     by_key: &'t Trie<Key, KeyHistory>,
     wanted: &W,
-) -> Result<Vec<(u64, &'t KeyHistory)>, KvError>
+) -> Result<Vec<(u64, &'t KeyHistory)>, AllocError>
     requires { Ascends (order (slice_cmp nat_cmp) fnv32_of 7) by_key.now }
-    ensures same { IfOk result
+    ensures { IfOk result
         (λ found. IsPermutation (flat_map (last_of_entry (W.wants_key wanted.now)) by_key.now) (lent found.items)) }
-    ensures err { IfErr result (λ error. error ≡ OutOfMemory) }
 {
-    match wanted.literals(alloc)? {
-        Some(keys) => Ok(last_looked_up(alloc, by_key, &keys)?),
-        None => Ok(by_key.numbered(alloc, &Latest { wanted })?),
+    match wanted.literals(alloc).map_err(|_| AllocError)? {
+        Some(keys) => last_looked_up(alloc, by_key, &keys),
+        None => by_key.numbered(alloc, &Latest { wanted }),
     }
 }
 
@@ -97,12 +96,11 @@ fn last_sorted<'t, W: Wanted>(
     alloc: Global,
     by_key: &'t Trie<Key, KeyHistory>,
     wanted: &W,
-) -> Result<Vec<(u64, &'t KeyHistory)>, KvError>
+) -> Result<Vec<(u64, &'t KeyHistory)>, AllocError>
     ensures keys { Ascends (order (slice_cmp nat_cmp) fnv32_of 7) by_key.now }
     ensures same { IfOk result
         (λ found. IsPermutation (flat_map (last_of_entry (W.wants_key wanted.now)) by_key.now) (lent found.items)) }
     ensures sorted { IfOk result (λ found. IsNonDecreasingBy (λ f. f.0) found.items) }
-    ensures err { IfErr result (λ error. error ≡ OutOfMemory) }
 {
     if by_key.len() == 0 {
         return Ok(Vec::new(alloc));
@@ -149,11 +147,10 @@ impl Version {
         &self,
         alloc: Global,
         wanted: &W,
-    ) -> Result<Vec<(u64, &KeyHistory)>, KvError>
-        ensures ok { IfOk result (λ found. (acts : List Act) → StandsFor acts self.now →
+    ) -> Result<Vec<(u64, &KeyHistory)>, AllocError>
+        ensures { IfOk result (λ found. (acts : List Act) → StandsFor acts self.now →
             map (λ f. f.1.now.last) found.items
             ≡ filter (λ w. is_put w.op) (filter (λ w. W.wants_key wanted.now w.key) (latest acts))) }
-        ensures err { IfErr result (λ e. e ≡ OutOfMemory) }
     {
         let mut found = last_sorted(alloc, self.by_key(), wanted)?;
         keep_puts(&mut found);
@@ -198,7 +195,7 @@ impl Version {
             (λ w. W.wants_key wanted.now w.key) (initial self.now.config.history start acts))) }
         ensures err { IfErr result (λ error. error ≡ OutOfMemory) }
     {
-        selected_revisions_of(alloc, self.by_key(), wanted, start)
+        Ok(selected_revisions_of(alloc, self.by_key(), wanted, start)?)
     }
 }
 
@@ -243,8 +240,7 @@ impl<'w, W: Wanted> Visit<Key, KeyHistory> for Gather<'w, W> {
     ghost shows = { λ old key kept result new.
         (new.wanted ≡ old.wanted) × (new.start ≡ old.start)
         × IfOk result
-        (λ _. new.found.items ≡ old.found.items ++ initial_of (W.wants_key old.wanted.now) old.start (key, kept))
-        × IfErr result (λ error. error ≡ OutOfMemory) };
+        (λ _. new.found.items ≡ old.found.items ++ initial_of (W.wants_key old.wanted.now) old.start (key, kept)) };
 
     fn pair(&mut self, key: &Key, kept: &KeyHistory) -> Result<(), KvError> {
         if self.wanted.wants(key) {
@@ -260,17 +256,16 @@ fn walked<W: Wanted>(
     by_key: &Trie<Key, KeyHistory>,
     wanted: &W,
     start: Start,
-) -> Result<Vec<u64>, KvError>
-    ensures same { IfOk result
+) -> Result<Vec<u64>, AllocError>
+    ensures { IfOk result
         (λ found. found.items ≡ flat_map (initial_of (W.wants_key wanted.now) start) by_key.now) }
-    ensures err { IfErr result (λ error. error ≡ OutOfMemory) }
 {
     let mut gather = Gather {
         wanted,
         start,
         found: Vec::new(alloc),
     };
-    by_key.each(&mut gather)?;
+    by_key.each(&mut gather).map_err(|_| AllocError)?;
     Ok(gather.found)
 }
 
@@ -296,14 +291,13 @@ fn found_of<W: Wanted>(
     by_key: &Trie<Key, KeyHistory>,
     wanted: &W,
     start: Start,
-) -> Result<Vec<u64>, KvError>
+) -> Result<Vec<u64>, AllocError>
     requires { Ascends (order (slice_cmp nat_cmp) fnv32_of 7) by_key.now }
-    ensures same { IfOk result
+    ensures { IfOk result
         (λ found. IsPermutation (flat_map (initial_of (W.wants_key wanted.now) start) by_key.now) found.items) }
-    ensures err { IfErr result (λ error. error ≡ OutOfMemory) }
 {
-    match wanted.literals(alloc)? {
-        Some(keys) => Ok(looked_up(alloc, by_key, &keys, start)?),
+    match wanted.literals(alloc).map_err(|_| AllocError)? {
+        Some(keys) => looked_up(alloc, by_key, &keys, start),
         None => walked(alloc, by_key, wanted, start),
     }
 }
@@ -314,12 +308,11 @@ fn selected_revisions_of<W: Wanted>(
     by_key: &Trie<Key, KeyHistory>,
     wanted: &W,
     start: Start,
-) -> Result<Vec<u64>, KvError>
+) -> Result<Vec<u64>, AllocError>
     ensures keys { Ascends (order (slice_cmp nat_cmp) fnv32_of 7) by_key.now }
     ensures same { IfOk result
         (λ found. IsPermutation (flat_map (initial_of (W.wants_key wanted.now) start) by_key.now) found.items) }
     ensures sorted { IfOk result (λ found. IsSorted nat_cmp found.items) }
-    ensures err { IfErr result (λ error. error ≡ OutOfMemory) }
 {
     if by_key.len() == 0 {
         return Ok(Vec::new(alloc));

@@ -48,10 +48,9 @@ struct Older {
 
 impl Older {
     // The version, with the write that it lacks.
-    fn follow(self, alloc: Global) -> Result<Version, KvError>
+    fn follow(self, alloc: Global) -> Result<Version, AllocError>
         requires { IsMadeOf self.made self.version }
-        ensures ok { IfOk result (λ version. HasOneMore self.made.write self.version version) }
-        ensures err { IfErr result (λ e. e ≡ OutOfMemory) }
+        ensures { IfOk result (λ version. HasOneMore self.made.write self.version version) }
     {
         let Older { mut version, made } = self;
         version.follow(alloc, made)?;
@@ -135,7 +134,7 @@ impl Ring {
     }
 
     // The oldest version, with the two writes that it lacks: none where there is none, or somebody else has it too.
-    fn caught_up(&mut self, alloc: Global) -> Result<Option<Version>, KvError>
+    fn caught_up(&mut self, alloc: Global) -> Result<Option<Version>, AllocError>
         ensures same { self.new ≡ self.old }
         ensures alike { IfOk result (λ found. IfSome found (λ version. IsAlike self.old version)) }
     {
@@ -162,10 +161,9 @@ impl Ring {
 
     // A version that is like its own, and that nobody else has. Where the oldest can't be brought there its own is
     // copied.
-    fn spare(&mut self, alloc: Global) -> Result<Version, KvError>
+    fn spare(&mut self, alloc: Global) -> Result<Version, AllocError>
         ensures same { self.new ≡ self.old }
         ensures alike { IfOk result (λ version. IsAlike self.old version) }
-        ensures err { IfErr result (λ e. e ≡ OutOfMemory) }
     {
         match self.caught_up(alloc) {
             Ok(Some(version)) => Ok(version),
@@ -295,14 +293,13 @@ impl Model for Made {
 
 impl Made {
     /// What is made of an accepted write.
-    pub fn new(alloc: Global, accepted: Accepted) -> Result<Made, KvError>
+    pub fn new(alloc: Global, accepted: Accepted) -> Result<Made, AllocError>
         requires { accepted.write.revision < 2 ^ 32 }
-        ensures ok { IfOk result (λ made. made ≡ record {
+        ensures { IfOk result (λ made. made ≡ record {
           write = accepted.write;
           kept = accepted.kept.items;
           values = accepted.values;
         }) }
-        ensures err { IfErr result (λ e. e ≡ OutOfMemory) }
     {
         let values = accepted.values;
         let (of_key, of_revision) = accepted.pairs(alloc)?;
@@ -325,11 +322,10 @@ impl Made {
     }
 
     // Puts it into a version, or changes nothing.
-    fn put_into(self, alloc: Global, version: &mut Version) -> Result<(), KvError>
+    fn put_into(self, alloc: Global, version: &mut Version) -> Result<(), AllocError>
         requires { IsMadeOf self version.old }
         ensures ok { OnOk result (HasOneMore self.write version.old version.new) }
         ensures unchanged { OnErr result (version.new ≡ version.old) }
-        ensures err { IfErr result (λ e. e ≡ OutOfMemory) }
     {
         let Made {
             of_key,
@@ -342,11 +338,10 @@ impl Made {
 
 impl Version {
     /// Adds a write that was made of an equal version, or changes nothing. Neither its key nor its value is copied.
-    pub(crate) fn follow(&mut self, alloc: Global, made: Made) -> Result<(), KvError>
+    pub(crate) fn follow(&mut self, alloc: Global, made: Made) -> Result<(), AllocError>
         requires { IsMadeOf made self.old }
         ensures ok { OnOk result (HasOneMore made.write self.old self.new) }
         ensures unchanged { OnErr result (self.new ≡ self.old) }
-        ensures err { IfErr result (λ e. e ≡ OutOfMemory) }
     {
         made.put_into(alloc, self)
     }

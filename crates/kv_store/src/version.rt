@@ -79,14 +79,13 @@ impl Version {
             floor: 0,
             sealed: false,
         };
-        Version::of(alloc, inner)
+        Ok(Version::of(alloc, inner)?)
     }
 
     // The version that has these parts.
-    pub(crate) fn of(alloc: Global, inner: Inner) -> Result<Version, KvError>
+    pub(crate) fn of(alloc: Global, inner: Inner) -> Result<Version, AllocError>
         requires { IsBounded (stored_of inner) }
-        ensures ok { IfOk result (λ version. version ≡ stored_of inner) }
-        ensures err { IfErr result (λ e. e ≡ OutOfMemory) }
+        ensures { IfOk result (λ version. version ≡ stored_of inner) }
     {
         Ok(Version {
             inner: Arc::new(alloc, inner)?,
@@ -112,9 +111,9 @@ impl Version {
             (λ version. (acts : List Act) → StandsFor acts self.now → StandsFor (acts ++ Seal ∷ []) version) }
         ensures err { IfErr result (λ e. e ≡ OutOfMemory) }
     {
-        let mut inner = self.inner.copy()?;
+        let mut inner = (*self.inner).clone()?;
         inner.sealed = true;
-        Version::of(alloc, inner)
+        Ok(Version::of(alloc, inner)?)
     }
 
     /// The bucket's name.
@@ -278,16 +277,6 @@ impl Inner {
             sealed: self.sealed,
         }
     }
-
-    /// The same, with all nodes of both tries shared.
-    pub fn copy(&self) -> Result<Inner, KvError>
-        ensures ok { IfOk result (λ same. same ≡ self.now) }
-        ensures err { IfErr result (λ e. e ≡ OutOfMemory) }
-    {
-        let by_key = self.by_key.snapshot()?;
-        let by_revision = self.by_revision.snapshot()?;
-        Ok(self.with(by_key, by_revision, self.values, self.floor))
-    }
 }
 
 /// The copy shares all nodes of both tries.
@@ -295,9 +284,8 @@ impl Clone for Inner {
     ghost is_clone = { λ inner copy. copy ≡ inner };
 
     fn clone(&self) -> Result<Inner, AllocError> {
-        match self.copy() {
-            Ok(same) => Ok(same),
-            Err(_) => Err(AllocError),
-        }
+        let by_key = self.by_key.snapshot().map_err(|_| AllocError)?;
+        let by_revision = self.by_revision.snapshot().map_err(|_| AllocError)?;
+        Ok(self.with(by_key, by_revision, self.values, self.floor))
     }
 }

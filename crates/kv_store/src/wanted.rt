@@ -35,7 +35,7 @@ impl Wanted for Filter {
     }
 
     fn literals(&self, alloc: Global) -> Result<Option<Vec<Key>>, KvError> {
-        literals(alloc, self.as_str())
+        Ok(literals(alloc, self.as_str())?)
     }
 }
 
@@ -47,19 +47,18 @@ impl Wanted for Filters {
     }
 
     fn literals(&self, alloc: Global) -> Result<Option<Vec<Key>>, KvError> {
-        literals(alloc, self.as_str())
+        Ok(literals(alloc, self.as_str())?)
     }
 }
 
 // The filter as a key, where it is one. One with a wildcard takes no memory.
-fn literal(alloc: Global, filter: &str) -> Result<Option<Key>, KvError>
-    ensures ok { IfOk result (λ key. IfSome key (λ key. (key ≡ filter.now) × IsTrue (is_key filter.now))) }
-    ensures err { IfErr result (λ error. error ≡ OutOfMemory) }
+fn literal(alloc: Global, filter: &str) -> Result<Option<Key>, AllocError>
+    ensures { IfOk result (λ key. IfSome key (λ key. (key ≡ filter.now) × IsTrue (is_key filter.now))) }
 {
     match Key::parse(alloc, filter) {
         Ok(key) => Ok(Some(key)),
         Err(KvError::BadKey) => Ok(None),
-        Err(error) => Err(error),
+        Err(_) => Err(AllocError),
     }
 }
 
@@ -75,9 +74,8 @@ fn add_once(keys: &mut Vec<Key>, key: Key) -> Result<(), AllocError>
 }
 
 // The keys that a list of filters asks for, each once, where no filter of it has a wildcard.
-fn literals(alloc: Global, filters: &str) -> Result<Option<Vec<Key>>, KvError>
-    ensures asked { IfOk result (λ keys. IfSome keys (λ keys. AreAsked (any_matches (parts filters.now)) keys.items)) }
-    ensures err { IfErr result (λ error. error ≡ OutOfMemory) }
+fn literals(alloc: Global, filters: &str) -> Result<Option<Vec<Key>>, AllocError>
+    ensures { IfOk result (λ keys. IfSome keys (λ keys. AreAsked (any_matches (parts filters.now)) keys.items)) }
 {
     let mut keys = Vec::new(alloc);
     for filter in filters.split(',') {

@@ -7,7 +7,6 @@ ghost use Rattle.std.specs.Map.{lookup};
 ghost use Rattle.std.specs.Str.{bytes_eq};
 ghost use Rattle.kv_keys.specs.Grammar.{is_key};
 ghost use Rattle.kv_keys.specs.Outcome.{Refuses};
-ghost use Rattle.kv_keys.specs.declared.error.KvError.TheVariants.{OutOfMemory};
 ghost use Rattle.kv_model.specs.Acceptance.{accept, next_write};
 ghost use Rattle.kv_model.specs.Acts.{Act, Wrote, Write as AWrite, writes_of};
 ghost use Rattle.kv_model.specs.Requests.{asked, write_for};
@@ -26,7 +25,7 @@ use crate::version::{Inner, Version};
 use kv_keys::{Key, KvError};
 use kv_model::{BatchRefused, Request, Write};
 use kv_trie::{NewPair, put_both};
-use std::alloc::Global;
+use std::alloc::{AllocError, Global};
 use std::sync::Arc;
 
 /// A write that is accepted, the revisions that are kept of its key with it, and how many entries there are then.
@@ -42,19 +41,18 @@ impl Accepted {
     pub(crate) fn pairs(
         self,
         alloc: Global,
-    ) -> Result<((Key, KeyHistory), Arc<(Rev, Write)>), KvError>
+    ) -> Result<((Key, KeyHistory), Arc<(Rev, Write)>), AllocError>
         requires { self.write.revision < 2 ^ 32 }
         ensures key { IfOk result (λ r. r.0.0 ≡ self.write.key) }
         ensures kept { IfOk result (λ r. r.0.1 ≡ record { revisions = self.kept.items; last = self.write }) }
         ensures revision { IfOk result (λ r. arc_value r.1 ≡ (self.write.revision, self.write)) }
-        ensures err { IfErr result (λ e. e ≡ OutOfMemory) }
     {
         let Accepted {
             write,
             kept,
             values: _,
         } = self;
-        let key = write.key().copy(alloc)?;
+        let key = write.key().copy(alloc).map_err(|_| AllocError)?;
         let number = Rev::new(write.revision() as u32);
         let of_revision = Arc::new(alloc, (number, write))?;
         let last = Arc::try_clone(&of_revision)?;
@@ -93,7 +91,7 @@ impl Version {
     }
 
     // Adds the write that is accepted, or changes nothing.
-    pub(crate) fn add(&mut self, alloc: Global, accepted: Accepted) -> Result<(), KvError>
+    pub(crate) fn add(&mut self, alloc: Global, accepted: Accepted) -> Result<(), AllocError>
         requires room { self.old.last < self.old.config.revision_limit }
         requires small { accepted.write.revision < 2 ^ 32 }
         requires revision { accepted.write.revision ≡ self.old.last + 1 }
@@ -101,7 +99,6 @@ impl Version {
         requires values { accepted.values ≡ values_after accepted.write self.old }
         ensures ok { OnOk result (HasOneMore accepted.write self.old self.new) }
         ensures unchanged { OnErr result (self.new ≡ self.old) }
-        ensures err { IfErr result (λ e. e ≡ OutOfMemory) }
     {
         let values = accepted.values;
         let (of_key, of_revision) = accepted.pairs(alloc)?;
@@ -115,7 +112,7 @@ impl Version {
         of_key: NewPair<Key, KeyHistory>,
         of_revision: Arc<(Rev, Write)>,
         values: u64,
-    ) -> Result<(), KvError>
+    ) -> Result<(), AllocError>
         requires room { self.old.last < self.old.config.revision_limit }
         requires number { (arc_value of_revision).0 ≡ (arc_value of_revision).1.revision }
         requires revision { (arc_value of_revision).1.revision ≡ self.old.last + 1 }
@@ -125,7 +122,6 @@ impl Version {
         requires values { values ≡ values_after (arc_value of_revision).1 self.old }
         ensures ok { OnOk result (HasOneMore (arc_value of_revision).1 self.old self.new) }
         ensures unchanged { OnErr result (self.new ≡ self.old) }
-        ensures err { IfErr result (λ e. e ≡ OutOfMemory) }
     {
         let inner = Arc::make_mut(&mut self.inner)?;
         put_pairs(alloc, inner, of_key, of_revision, values)
@@ -133,11 +129,10 @@ impl Version {
 
     // An equal version, whose parts nobody else has: they are changed where they lie. A snapshot would add an owner to
     // parts that all readers count on, and take it off again as soon as its own are copied.
-    pub(crate) fn with_own_inner(&self, alloc: Global) -> Result<Version, KvError>
-        ensures ok { IfOk result (λ version. version ≡ self.now) }
-        ensures err { IfErr result (λ e. e ≡ OutOfMemory) }
+    pub(crate) fn with_own_inner(&self, alloc: Global) -> Result<Version, AllocError>
+        ensures { IfOk result (λ version. version ≡ self.now) }
     {
-        let inner = self.inner.copy()?;
+        let inner = (*self.inner).clone()?;
         Version::of(alloc, inner)
     }
 
@@ -257,7 +252,7 @@ fn put_pairs(
     of_key: NewPair<Key, KeyHistory>,
     of_revision: Arc<(Rev, Write)>,
     values: u64,
-) -> Result<(), KvError>
+) -> Result<(), AllocError>
     requires keys { length inner.old.by_key < 2 ^ 32 - 1 }
     requires writes { length inner.old.by_revision < 2 ^ 32 - 1 }
     requires number { (arc_value of_revision).0 ≡ (arc_value of_revision).1.revision }
@@ -276,7 +271,6 @@ fn put_pairs(
       values = values;
     }) }
     ensures unchanged { OnErr result (inner.new ≡ inner.old) }
-    ensures err { IfErr result (λ e. e ≡ OutOfMemory) }
 {
     let revision = of_revision.1.revision();
     put_both(
@@ -285,7 +279,8 @@ fn put_pairs(
         of_key,
         &mut inner.by_revision,
         NewPair::Shared(of_revision),
-    )?;
+    )
+    .map_err(|_| AllocError)?;
     inner.last = revision;
     inner.values = values;
     Ok(())

@@ -15,7 +15,7 @@ returns-clause-ok c =
     let old : Stored = c.self.inside.version in
     let next : Stored = c.follow.new.self in
     let w : Write = c.in_ok-accepted.accepted.write in
-    let same : c.in_ok-share.field-0.write ≡ w = ap (λ (m : Made). m.write) (c.in_ok-share.ensures ∙ c.in_ok-made.ensures.ok) in
+    let same : c.in_ok-share.field-0.write ≡ w = ap (λ (m : Made). m.write) (c.in_ok-share.ensures ∙ c.in_ok-made.ensures) in
     let more : HasOneMore w c.in_ok-version.version next = subst (λ (v : Write). HasOneMore v c.in_ok-version.version next) same c.in_ok-follow.ensures.ok in
     let alike : IsAlike old c.in_ok-version.version = subst (λ (v : Stored). IsAlike v c.in_ok-version.version) (sym c.self.view_is) c.in_ok-version.ensures.alike in
     subst (λ (v : Stored). (acts : List Act) → StandsFor acts v → (w : Write) × ((accept v.config (asked c.args.request.now) acts ≡ Ok w) × StandsFor (acts ++ Wrote w ∷ []) next))

@@ -5,8 +5,8 @@ use Rattle.kv_store.specs.inside.Compacted.{IsCompacted}
 use Rattle.kv_store.specs.inside.Fields.{stored_of}
 use Rattle.kv_store.proofs.version.Version.compacted.Goals as goal
 
-pub returns-clause-ok : goal.returns-clause-ok
-returns-clause-ok c =
+pub returns : goal.returns
+returns c =
     let left : IsCompacted c.args.floor c.args.self.now (stored_of c.with.result) =
     rw (c.with.ensures, c.deref-inner.ensures, ← c.self.view_is) (record {
       config = refl;
@@ -21,7 +21,7 @@ returns-clause-ok c =
     }) in
     IfOk-weaker c.of.result (λ (v : Stored). v ≡ stored_of c.with.result) (IsCompacted c.args.floor c.args.self.now)
     (λ v e. subst (IsCompacted c.args.floor c.args.self.now) (sym e) left)
-    c.of.ensures.ok
+    c.of.ensures
 
 pub of-requires : goal.of-requires
 of-requires c = search rules

@@ -12,4 +12,4 @@ returns-clause-ok c = λ acts stands.
     c.in_ok-keys_in.ensures
     ∙ ap (map (λ f. f.1.now.last.key)) c.deref.ensures.value
     ∙ read_through (λ w. w.key) c.in_ok-puts.puts.items
-    ∙ ap (map (λ (w : Write). w.key)) (c.in_ok-puts.ensures.ok acts stands ∙ filter-filter (λ w. is_put w.op) (λ w. matches c.args.filter.now w.key) (latest acts))
+    ∙ ap (map (λ (w : Write). w.key)) (c.in_ok-puts.ensures acts stands ∙ filter-filter (λ w. is_put w.op) (λ w. matches c.args.filter.now w.key) (latest acts))

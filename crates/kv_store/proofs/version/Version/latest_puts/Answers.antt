@@ -5,8 +5,8 @@ use Rattle.kv_model.specs.Acts.{is_put}
 use Rattle.kv_store.proofs.Latest.{lasts_are_latest, puts_among}
 use Rattle.kv_store.proofs.version.Version.latest_puts.Goals as goal
 
-pub returns-clause-ok : goal.returns-clause-ok
-returns-clause-ok g c = λ acts stands.
+pub returns : goal.returns
+returns g c = λ acts stands.
     let found = c.in_ok-found.found.items in
     ap (map (λ f. f.1.now.last)) c.keep_puts.ensures
     ∙ puts_among (λ w. is_put w.op) found

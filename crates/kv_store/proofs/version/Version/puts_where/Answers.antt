@@ -9,4 +9,4 @@ returns-clause-ok g c = λ acts stands.
     c.in_ok-revisions_in.ensures
     ∙ ap (map (λ f. f.1.now.last.revision)) c.deref.ensures.value
     ∙ read_through (λ w. w.revision) c.in_ok-puts.puts.items
-    ∙ ap revisions (c.in_ok-puts.ensures.ok acts stands)
+    ∙ ap revisions (c.in_ok-puts.ensures acts stands)
