@@ -1,8 +1,7 @@
 //! What a watch owes at its beginning.
 
-ghost use Rattle.std.specs.Prelude.{◌≡◌, false, List, filter, reverse, IfOk, IfErr};
+ghost use Rattle.std.specs.Prelude.{◌≡◌, false, List, filter, reverse, IfOk};
 ghost use Rattle.std.specs.Option.{option_map_or};
-ghost use Rattle.kv_keys.specs.declared.error.KvError.TheVariants.{OutOfMemory};
 ghost use Rattle.kv_model.specs.Acts.{Act, is_put};
 ghost use Rattle.kv_model.specs.Retained.{revisions};
 ghost use Rattle.kv_model.specs.Given.{all_shown, ending, initial, item_revisions, matching};
@@ -10,10 +9,10 @@ ghost use Rattle.kv_store.specs.Standing.{StandsFor};
 ghost use Rattle.kv_watch.specs.Following.{marker_if};
 ghost use Rattle.kv_watch.specs.inside.Showing.{is_put_at};
 
-use kv_keys::{Filters, KvError};
+use kv_keys::Filters;
 use kv_model::{Options, Start};
 use kv_store::Version;
-use std::alloc::Global;
+use std::alloc::{AllocError, Global};
 
 /// The revisions of the entries that a watch begins with, the first one last. It looks at each key once, and where
 /// deletes are ignored at each write that is found.
@@ -22,12 +21,11 @@ pub(crate) fn owed_at_opening(
     base: &Version,
     filters: &Filters,
     options: Options,
-) -> Result<Vec<u64>, KvError>
-    ensures ok { IfOk result (λ owed. (acts : List Act) → StandsFor acts base.now →
+) -> Result<Vec<u64>, AllocError>
+    ensures { IfOk result (λ owed. (acts : List Act) → StandsFor acts base.now →
         reverse owed.items
         ≡ item_revisions (all_shown options (matching filters.now
         (initial base.now.config.history options.start acts)))) }
-    ensures err { IfErr result (λ e. e ≡ OutOfMemory) }
 {
     let mut owed = shown_revisions(alloc, base, filters, options)?;
     owed.reverse();
@@ -52,12 +50,11 @@ fn shown_revisions(
     base: &Version,
     filters: &Filters,
     options: Options,
-) -> Result<Vec<u64>, KvError>
-    ensures ok { IfOk result (λ found. (acts : List Act) → StandsFor acts base.now →
+) -> Result<Vec<u64>, AllocError>
+    ensures { IfOk result (λ found. (acts : List Act) → StandsFor acts base.now →
         found.items
         ≡ item_revisions (all_shown options (matching filters.now
         (initial base.now.config.history options.start acts)))) }
-    ensures err { IfErr result (λ e. e ≡ OutOfMemory) }
 {
     if options.ignore_deletes {
         initial_puts(alloc, base, filters, options.start)
@@ -72,14 +69,14 @@ fn initial_revisions(
     base: &Version,
     filters: &Filters,
     start: Start,
-) -> Result<Vec<u64>, KvError>
-    ensures ok { IfOk result (λ found. (acts : List Act) → StandsFor acts base.now →
+) -> Result<Vec<u64>, AllocError>
+    ensures { IfOk result (λ found. (acts : List Act) → StandsFor acts base.now →
         found.items ≡ revisions (matching filters.now (initial base.now.config.history start acts))) }
-    ensures err { IfErr result (λ e. e ≡ OutOfMemory) }
 {
     match start {
         Start::Latest | Start::History | Start::From(_) => {
-            base.revisions_where(alloc, filters, start)
+            let found = base.revisions_where(alloc, filters, start);
+            found.map_err(|_| AllocError)
         }
         Start::Updates => Ok(Vec::new(alloc)),
     }
@@ -92,14 +89,13 @@ fn initial_puts(
     base: &Version,
     filters: &Filters,
     start: Start,
-) -> Result<Vec<u64>, KvError>
-    ensures ok { IfOk result (λ found. (acts : List Act) → StandsFor acts base.now →
+) -> Result<Vec<u64>, AllocError>
+    ensures { IfOk result (λ found. (acts : List Act) → StandsFor acts base.now →
         found.items ≡ revisions (filter (λ w. is_put w.op)
         (matching filters.now (initial base.now.config.history start acts)))) }
-    ensures err { IfErr result (λ e. e ≡ OutOfMemory) }
 {
     match start {
-        Start::Latest => base.puts_where(alloc, filters),
+        Start::Latest => base.puts_where(alloc, filters).map_err(|_| AllocError),
         Start::History | Start::Updates | Start::From(_) => {
             let mut found = initial_revisions(alloc, base, filters, start)?;
             drop_markers(base, &mut found);

@@ -2,5 +2,5 @@ use Rattle.std.proofs.Common.{reverse, ap, ◌∙◌}
 use Rattle.std.proofs.lemmas.List.{reverse-reverse}
 use Rattle.kv_watch.proofs.opening.owed_at_opening.Goals as goal
 
-pub returns-clause-ok : goal.returns-clause-ok
-returns-clause-ok c = λ acts s. ap reverse c.reverse.ensures.items ∙ reverse-reverse c.in_ok-owed.owed.items ∙ c.in_ok-owed.ensures.ok acts s
+pub returns : goal.returns
+returns c = λ acts s. ap reverse c.reverse.ensures.items ∙ reverse-reverse c.in_ok-owed.owed.items ∙ c.in_ok-owed.ensures acts s
