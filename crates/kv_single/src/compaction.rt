@@ -3,7 +3,6 @@
 ghost use Rattle.std.specs.Prelude.{◌≡◌, ◌<◌, ◌≤◌, if◌then◌else◌, ℕ, Some, Ok, Err, IfErr, IfOk, OnErr, OnOk, is_some, length, nat_lt};
 ghost use Rattle.kv_keys.specs.Outcome.{Refuses};
 ghost use Rattle.kv_keys.specs.declared.error.KvError.{KvError as AnError};
-ghost use Rattle.kv_keys.specs.declared.error.KvError.TheVariants.{OutOfMemory};
 ghost use Rattle.kv_model.specs.Acts.{writes_of};
 ghost use Rattle.kv_model.specs.declared.call.Call.TheVariants.{Compact};
 ghost use Rattle.kv_model.specs.Answers.{Compacted};
@@ -16,6 +15,7 @@ ghost use Rattle.kv_single.specs.inside.Behind.{behind_at, lesser};
 use crate::bucket::{Bucket, index_of};
 use crate::reply::{Reply, refusal};
 use kv_keys::KvError;
+use std::alloc::AllocError;
 
 fn lesser(least: Option<u64>, number: u64) -> u64
     ensures { result ≡ lesser least number }
@@ -41,9 +41,8 @@ impl Bucket {
         Ok(())
     }
 
-    pub(crate) fn compact_reply(&mut self, floor: u64) -> Result<Reply, KvError>
+    pub(crate) fn compact_reply(&mut self, floor: u64) -> Result<Reply, AllocError>
         ensures ok { IfOk result (λ reply. IsStep self.old (Compact floor) (answer_of reply) self.new) }
-        ensures err { IfErr result (λ e. e ≡ OutOfMemory) }
         ensures unchanged { OnErr result (self.new ≡ self.old) }
     {
         match self.compact(floor) {

@@ -1,6 +1,6 @@
 //! What a bucket answers: copies of what a version shows.
 
-ghost use Rattle.std.specs.Prelude.{◌≡◌, IfErr, IfOk, false, map};
+ghost use Rattle.std.specs.Prelude.{◌≡◌, IfErr, IfOk, OnErr, false, map};
 ghost use Rattle.std.specs.Option.{option_copied, option_map};
 ghost use Rattle.kv_keys.specs.declared.error.KvError.TheVariants.{OutOfMemory};
 ghost use Rattle.kv_model.specs.further.Events.{event_answered};
@@ -16,7 +16,7 @@ use crate::bucket::Bucket;
 use kv_keys::{Filter, Key, KvError};
 use kv_model::{Event, Op, Stopped, Write};
 use kv_watch::{Shown, Taken};
-use std::alloc::Global;
+use std::alloc::{AllocError, Global};
 use std::marker::Model;
 
 /// What a bucket answers.
@@ -67,12 +67,12 @@ impl Reply {
 }
 
 /// The reply to a call that was refused. Want of memory is no reply.
-pub(crate) fn refusal(error: KvError) -> Result<Reply, KvError>
+pub(crate) fn refusal(error: KvError) -> Result<Reply, AllocError>
     ensures ok { IfOk result (λ reply. (reply ≡ Reply.Refused error) × (error ≡ OutOfMemory → ⊥)) }
-    ensures err { IfErr result (λ e. (e ≡ OutOfMemory) × (error ≡ OutOfMemory)) }
+    ensures err { OnErr result (error ≡ OutOfMemory) }
 {
     if error == KvError::OutOfMemory {
-        return Err(error);
+        return Err(AllocError);
     }
     Ok(Reply::Refused(error))
 }
@@ -129,9 +129,8 @@ impl Seen {
     }
 }
 
-fn copy_value(alloc: Global, value: Option<&[u8]>) -> Result<Option<Vec<u8>>, KvError>
-    ensures ok { IfOk result (λ copy. option_map (λ v. v.items) copy ≡ option_copied value.entry) }
-    ensures err { IfErr result (λ e. e ≡ OutOfMemory) }
+fn copy_value(alloc: Global, value: Option<&[u8]>) -> Result<Option<Vec<u8>>, AllocError>
+    ensures { IfOk result (λ copy. option_map (λ v. v.items) copy ≡ option_copied value.entry) }
 {
     match value {
         Some(value) => Ok(Some(Vec::from_slice(alloc, value)?)),
@@ -140,10 +139,9 @@ fn copy_value(alloc: Global, value: Option<&[u8]>) -> Result<Option<Vec<u8>>, Kv
 }
 
 impl Bucket {
-    pub(crate) fn get_reply(&self, key: &Key) -> Result<Reply, KvError>
-        ensures ok { IfOk result
+    pub(crate) fn get_reply(&self, key: &Key) -> Result<Reply, AllocError>
+        ensures { IfOk result
             (λ reply. (state : State) → Represents state self.now → answer_of reply ≡ answer_to state (Get key.now)) }
-        ensures err { IfErr result (λ e. e ≡ OutOfMemory) }
     {
         match self.version.get(key) {
             Ok(write) => entry_reply(self.alloc, write),
@@ -151,11 +149,10 @@ impl Bucket {
         }
     }
 
-    pub(crate) fn get_at_reply(&self, key: &Key, revision: u64) -> Result<Reply, KvError>
-        ensures ok { IfOk result
+    pub(crate) fn get_at_reply(&self, key: &Key, revision: u64) -> Result<Reply, AllocError>
+        ensures { IfOk result
             (λ reply. (state : State) → Represents state self.now →
             answer_of reply ≡ answer_to state (GetAt key.now revision)) }
-        ensures err { IfErr result (λ e. e ≡ OutOfMemory) }
     {
         match self.version.get_at(key, revision) {
             Ok(write) => entry_reply(self.alloc, write),
@@ -163,11 +160,10 @@ impl Bucket {
         }
     }
 
-    pub(crate) fn history_reply(&self, key: &Key) -> Result<Reply, KvError>
-        ensures ok { IfOk result
+    pub(crate) fn history_reply(&self, key: &Key) -> Result<Reply, AllocError>
+        ensures { IfOk result
             (λ reply. (state : State) → Represents state self.now →
             answer_of reply ≡ answer_to state (History key.now)) }
-        ensures err { IfErr result (λ e. e ≡ OutOfMemory) }
     {
         match self.version.history(self.alloc, key) {
             Ok(writes) => entries_reply(self.alloc, &writes),
@@ -175,13 +171,15 @@ impl Bucket {
         }
     }
 
-    pub(crate) fn keys_reply(&self, filter: &Filter) -> Result<Reply, KvError>
-        ensures ok { IfOk result
+    pub(crate) fn keys_reply(&self, filter: &Filter) -> Result<Reply, AllocError>
+        ensures { IfOk result
             (λ reply. (state : State) → Represents state self.now →
             answer_of reply ≡ answer_to state (Keys filter.now)) }
-        ensures err { IfErr result (λ e. e ≡ OutOfMemory) }
     {
-        let keys = self.version.keys(self.alloc, filter)?;
+        let keys = self
+            .version
+            .keys(self.alloc, filter)
+            .map_err(|_| AllocError)?;
         let copies = copy_keys(self.alloc, &keys)?;
         Ok(Reply::Keys(copies))
     }
@@ -196,10 +194,9 @@ impl Bucket {
     }
 
     /// What a take will be answered. Nothing moves yet.
-    pub(crate) fn peek_reply(&self, number: u64) -> Result<Reply, KvError>
-        ensures ok { IfOk result
+    pub(crate) fn peek_reply(&self, number: u64) -> Result<Reply, AllocError>
+        ensures { IfOk result
             (λ reply. (state : State) → Represents state self.now → answer_of reply ≡ answer_to state (Take number)) }
-        ensures err { IfErr result (λ e. e ≡ OutOfMemory) }
     {
         match self.peek(number) {
             Ok(taken) => taken_reply(self.alloc, &taken),
@@ -208,50 +205,48 @@ impl Bucket {
     }
 }
 
-fn entry_reply(alloc: Global, write: &Write) -> Result<Reply, KvError>
-    ensures ok { IfOk result (λ reply. answer_of reply ≡ AnsweredEntry (read_entry write.now)) }
-    ensures err { IfErr result (λ e. e ≡ OutOfMemory) }
+fn entry_reply(alloc: Global, write: &Write) -> Result<Reply, AllocError>
+    ensures { IfOk result (λ reply. answer_of reply ≡ AnsweredEntry (read_entry write.now)) }
 {
-    let seen = Seen::of_write(alloc, write)?;
+    let seen = Seen::of_write(alloc, write).map_err(|_| AllocError)?;
     Ok(Reply::Entry(seen))
 }
 
-fn entries_reply(alloc: Global, writes: &[&Write]) -> Result<Reply, KvError>
-    ensures ok { IfOk result (λ reply. answer_of reply ≡ Entries (map read_entry (map (λ w. w.now) writes.now))) }
-    ensures err { IfErr result (λ e. e ≡ OutOfMemory) }
+fn entries_reply(alloc: Global, writes: &[&Write]) -> Result<Reply, AllocError>
+    ensures { IfOk result (λ reply. answer_of reply ≡ Entries (map read_entry (map (λ w. w.now) writes.now))) }
 {
     let copies = copy_writes(alloc, writes)?;
     Ok(Reply::Entries(copies))
 }
 
-fn copy_writes(alloc: Global, writes: &[&Write]) -> Result<Vec<Seen>, KvError>
-    ensures ok { IfOk result (λ copies. copies.items ≡ map read_entry (map (λ w. w.now) writes.now)) }
-    ensures err { IfErr result (λ e. e ≡ OutOfMemory) }
+fn copy_writes(alloc: Global, writes: &[&Write]) -> Result<Vec<Seen>, AllocError>
+    ensures { IfOk result (λ copies. copies.items ≡ map read_entry (map (λ w. w.now) writes.now)) }
 {
     let mut copies = Vec::new(alloc);
     for write in writes {
-        copies.push(Seen::of_write(alloc, write)?)?;
+        copies.push(Seen::of_write(alloc, write).map_err(|_| AllocError)?)?;
     }
     Ok(copies)
 }
 
-fn copy_keys(alloc: Global, keys: &[&Key]) -> Result<Vec<Key>, KvError>
-    ensures ok { IfOk result (λ copies. copies.items ≡ map (λ k. k.now) keys.now) }
-    ensures err { IfErr result (λ e. e ≡ OutOfMemory) }
+fn copy_keys(alloc: Global, keys: &[&Key]) -> Result<Vec<Key>, AllocError>
+    ensures { IfOk result (λ copies. copies.items ≡ map (λ k. k.now) keys.now) }
 {
     let mut copies = Vec::new(alloc);
     for key in keys {
-        copies.push(key.copy(alloc)?)?;
+        copies.push(key.copy(alloc).map_err(|_| AllocError)?)?;
     }
     Ok(copies)
 }
 
-fn taken_reply(alloc: Global, taken: &Taken<'_>) -> Result<Reply, KvError>
-    ensures ok { IfOk result (λ reply. answer_of reply ≡ answer_item (item_taken taken.now)) }
-    ensures err { IfErr result (λ e. e ≡ OutOfMemory) }
+fn taken_reply(alloc: Global, taken: &Taken<'_>) -> Result<Reply, AllocError>
+    ensures { IfOk result (λ reply. answer_of reply ≡ answer_item (item_taken taken.now)) }
 {
     match taken {
-        Taken::Entry(shown) => Ok(Reply::Entry(Seen::of_shown(alloc, shown)?)),
+        Taken::Entry(shown) => {
+            let seen = Seen::of_shown(alloc, shown).map_err(|_| AllocError)?;
+            Ok(Reply::Entry(seen))
+        }
         Taken::Marker => Ok(Reply::Marker),
         Taken::Empty => Ok(Reply::Empty),
     }

@@ -14,6 +14,7 @@ use crate::bucket::Bucket;
 use crate::reply::{Reply, refusal};
 use kv_keys::{Filters, KvError};
 use kv_model::{Call, Options, Request};
+use std::alloc::AllocError;
 
 impl Bucket {
     /// Does all that is asked, in order, and adds one reply for each call; a refused call has its refusal as the reply.
@@ -44,9 +45,8 @@ impl Bucket {
     }
 
     /// Does one call, and answers it. Only want of memory is no reply, and then nothing has changed.
-    fn answer(&mut self, call: &Call) -> Result<Reply, KvError>
+    fn answer(&mut self, call: &Call) -> Result<Reply, AllocError>
         ensures ok { IfOk result (λ reply. IsStep self.old call.now (answer_of reply) self.new) }
-        ensures err { IfErr result (λ e. e ≡ OutOfMemory) }
         ensures unchanged { OnErr result (self.new ≡ self.old) }
     {
         match call {
@@ -64,9 +64,8 @@ impl Bucket {
         }
     }
 
-    fn write_reply(&mut self, request: &Request) -> Result<Reply, KvError>
+    fn write_reply(&mut self, request: &Request) -> Result<Reply, AllocError>
         ensures ok { IfOk result (λ reply. IsStep self.old (Write request.now) (answer_of reply) self.new) }
-        ensures err { IfErr result (λ e. e ≡ OutOfMemory) }
         ensures unchanged { OnErr result (self.new ≡ self.old) }
     {
         match self.write(request) {
@@ -75,18 +74,16 @@ impl Bucket {
         }
     }
 
-    fn seal_reply(&mut self) -> Result<Reply, KvError>
+    fn seal_reply(&mut self) -> Result<Reply, AllocError>
         ensures ok { IfOk result (λ reply. IsStep self.old Seal (answer_of reply) self.new) }
-        ensures err { IfErr result (λ e. e ≡ OutOfMemory) }
         ensures unchanged { OnErr result (self.new ≡ self.old) }
     {
-        self.seal()?;
+        self.seal().map_err(|_| AllocError)?;
         Ok(Reply::Sealed)
     }
 
-    fn watch_reply(&mut self, filters: &Filters, options: Options) -> Result<Reply, KvError>
+    fn watch_reply(&mut self, filters: &Filters, options: Options) -> Result<Reply, AllocError>
         ensures ok { IfOk result (λ reply. IsStep self.old (Watch filters.now options) (answer_of reply) self.new) }
-        ensures err { IfErr result (λ e. e ≡ OutOfMemory) }
         ensures unchanged { OnErr result (self.new ≡ self.old) }
     {
         match self.watch(filters, options) {
@@ -95,9 +92,8 @@ impl Bucket {
         }
     }
 
-    fn take_reply(&mut self, number: u64) -> Result<Reply, KvError>
+    fn take_reply(&mut self, number: u64) -> Result<Reply, AllocError>
         ensures ok { IfOk result (λ reply. IsStep self.old (Take number) (answer_of reply) self.new) }
-        ensures err { IfErr result (λ e. e ≡ OutOfMemory) }
         ensures unchanged { OnErr result (self.new ≡ self.old) }
     {
         let reply = self.peek_reply(number)?;
@@ -105,9 +101,8 @@ impl Bucket {
         Ok(reply)
     }
 
-    fn stop_reply(&mut self, number: u64) -> Result<Reply, KvError>
+    fn stop_reply(&mut self, number: u64) -> Result<Reply, AllocError>
         ensures ok { IfOk result (λ reply. IsStep self.old (Stop number) (answer_of reply) self.new) }
-        ensures err { IfErr result (λ e. e ≡ OutOfMemory) }
         ensures unchanged { OnErr result (self.new ≡ self.old) }
     {
         match self.stop(number) {
