@@ -1,6 +1,6 @@
 """Reads a journal file by the words of docs/journal.md alone."""
 import collections, struct
-from typing import Any, Optional
+from typing import Any, Iterator, Optional
 
 MAGIC = b"vilgoued\x01"
 SEARCH, LONGEST = 2_097_152, 1_048_845
@@ -32,25 +32,43 @@ def frame_at(data: bytes, seed: int, at: int, until: Optional[int] = None) -> Op
     return payload if whole else None
 
 
-def entry(payload: bytes) -> tuple[Any, ...]:
-    """What an entry tells: the number of loose bytes before it, its kind, and what follows from that."""
-    loose, kind = struct.unpack_from(">IB", payload)
-    rest = payload[5:]
+def parts(data: bytes) -> Iterator[bytes]:
+    """The records that stand one behind the other, each behind its length."""
+    at = 0
+    while at < len(data):
+        length, = struct.unpack_from(">I", data, at)
+        yield data[at + 4:at + 4 + length]
+        at += 4 + length
+
+
+def record(data: bytes) -> tuple[Any, ...]:
+    """What a record tells: its kind, and what follows from that."""
+    kind, rest = data[0], data[1:]
     if kind in (1, 2, 3):
         key, value = rest[1:1 + rest[0]], rest[1 + rest[0]:]
-        return loose, {1: "put", 2: "delete", 3: "purge"}[kind], key.decode("ascii"), value
+        return {1: "put", 2: "delete", 3: "purge"}[kind], key.decode("ascii"), value
     if kind == 4:
-        return loose, "seal"
-    return loose, {5: "compact", 9: "closed"}[kind], struct.unpack(">Q", rest)[0]
+        return "seal",
+    if kind == 10:
+        return "batch", [record(part) for part in parts(rest)]
+    return {5: "compact", 9: "closed"}[kind], struct.unpack(">Q", rest)[0]
+
+
+def entry(payload: bytes) -> tuple[Any, ...]:
+    """What an entry tells: the number of loose bytes before it, and its record."""
+    loose, = struct.unpack_from(">I", payload)
+    return loose, *record(payload[4:])
 
 
 def shows_damage(data: bytes, seed: int, bad: int) -> bool:
     """Whether a whole frame behind the bad place says that this place was on the disk."""
-    for at in range(bad + 1, min(len(data), bad + SEARCH)):
-        payload = frame_at(data, seed, at, at + LONGEST)
-        if payload and len(payload) >= 4 and struct.unpack_from(">I", payload)[0] < at - bad:
-            return True
-    return False
+    def says_so(at: int, until: Optional[int] = None) -> bool:
+        payload = frame_at(data, seed, at, until)
+        return payload is not None and len(payload) >= 4 and struct.unpack_from(">I", payload)[0] < at - bad
+
+    if len(data) >= bad + 4 and says_so(bad + 8 + struct.unpack_from(">I", data, bad)[0]):
+        return True
+    return any(says_so(at, at + LONGEST) for at in range(bad + 1, min(len(data), bad + SEARCH)))
 
 
 def read(data: bytes) -> Journal:

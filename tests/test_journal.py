@@ -1,5 +1,5 @@
 """Journal files: the reader of tests/journal.py against the sample that the tests of the crates write and read."""
-import ast, os, re, unittest
+import ast, os, re, struct, unittest
 
 from tests import journal
 
@@ -45,6 +45,11 @@ class TestJournal(unittest.TestCase):
             read = journal.read(turned(data, place))
             whole = sum(end <= place for end in ENDS)
             self.assertEqual((read.entries, read.damaged), (ENTRIES[:whole - 1], place < 218))
+
+    def test_a_batch_is_its_records(self) -> None:
+        records = (b"\1\10app.port80", b"\3\10app.host", b"\4")
+        payload = struct.pack(">IB", 7, 10) + b"".join(struct.pack(">I", len(record)) + record for record in records)
+        self.assertEqual(journal.entry(payload), (7, "batch", [("put", "app.port", b"80"), ("purge", "app.host", b""), ("seal",)]))
 
     def test_other_bytes_are_no_journal(self) -> None:
         data = sample()

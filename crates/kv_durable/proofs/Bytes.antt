@@ -1,5 +1,5 @@
 -- The bytes of a file, by its entries.
-use Rattle.std.proofs.Common.{◌≡◌, ℕ, ◌+◌, ◌^◌, ◌<◌, List, [], ◌∷◌, ◌++◌, length, sym, ap, ◌∙◌, subst, append_assoc, append-nil, length-append}
+use Rattle.std.proofs.Common.{◌≡◌, ℕ, ◌^◌, ◌<◌, List, [], ◌∷◌, ◌++◌, length, sym, ap, ◌∙◌, subst, append_assoc, append-nil, length-append}
 use Rattle.std.proofs.lemmas.List.{map-append, append_cancel_left}
 use Rattle.kv_frames.specs.Frames.{frame, frames, place_after, BeginsWhole, Splits}
 use Rattle.kv_frames.proofs.Reading.{frames-append, place_is}

@@ -11,3 +11,5 @@ pub mod Finding
 pub mod Changed
 pub mod Ended
 pub mod Framed
+pub mod Batched
+pub mod Whole

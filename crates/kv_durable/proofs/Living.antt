@@ -1,5 +1,5 @@
 -- Lives of a durable bucket.
-use Rattle.std.proofs.Common.{◌≡◌, ◌⊎◌, ℕ, ◌+◌, Bool, List, [], ◌∷◌, ◌++◌, refl, sym, ap, ◌∙◌, subst, inl, inr, append_assoc, append-nil}
+use Rattle.std.proofs.Common.{◌≡◌, ◌⊎◌, ℕ, Bool, List, [], ◌∷◌, ◌++◌, refl, sym, ap, ◌∙◌, subst, inl, inr, append_assoc, append-nil}
 use Rattle.kv_file.specs.File.{MayLeave}
 use Rattle.kv_frames.specs.Frames.{ArePayloads}
 use Rattle.kv_model.specs.Acts.{Act, IsPrefix}
@@ -18,7 +18,7 @@ use Rattle.kv_durable.specs.declared.durable.Durable.{Durable}
 use Rattle.kv_durable.proofs.Adding.{lawful_append}
 use Rattle.kv_durable.proofs.Crashing.{after_a_crash, beginning_acts}
 
-prefix_on : (xs ys zs : List Entry) → IsPrefix xs ys → IsPrefix ys zs → IsPrefix xs zs
+pub prefix_on : (xs ys zs : List Entry) → IsPrefix xs ys → IsPrefix ys zs → IsPrefix xs zs
 prefix_on xs ys zs one two = (one.0 ++ two.0, sym (append_assoc xs one.0 two.0) ∙ ap (λ (ws : List Entry). ws ++ two.0) one.1 ∙ two.1)
 
 front_payloads : (xs ys : List Entry) → ArePayloads (payloads_of (xs ++ ys)) → ArePayloads (payloads_of xs)
@@ -48,6 +48,7 @@ module _ {F : Type 0} (has : F → List ℕ → List ℕ → Type 0) (usable : F
           represents = again.at.represents;
           all_kept = acts.0;
           no_other = acts.1;
+          whole = (found.0, ap acts_of found.2);
         })
         | inr forged ↦ inr forged
       ]

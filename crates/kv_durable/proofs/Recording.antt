@@ -12,7 +12,7 @@ use Rattle.kv_model.specs.Configuration.{Configuration}
 use Rattle.kv_model.specs.State.{State}
 use Rattle.kv_single.specs.Held.{Represents}
 use Rattle.kv_journal.specs.Entries.{AreLawful, Entry, acts_of, payloads_of}
-use Rattle.kv_journal.specs.Records.{Content, did}
+use Rattle.kv_journal.specs.Records.{Content, did, did_all}
 use Rattle.kv_journal.proofs.Going.{acts_of-append}
 use Rattle.kv_durable.specs.Durables.{IsHanded, IsRecorded}
 use Rattle.kv_durable.specs.Files.{file_of, frames_behind}
@@ -94,6 +94,21 @@ module _ {F : Type 0} (has : F → List ℕ → List ℕ → Type 0) (usable : F
         payloads = subst (λ (cs : List Content). ArePayloads (payloads_of (told_next old.journal cs))) back (frame.payload, tt);
         config = config;
         acts = acts ∙ ap (λ (cs : List Content). state.acts ++ acts_of (told_next old.journal cs)) back;
+        represents = represents;
+      }
+
+  -- several acts at once
+  pub told_all : (later : State → State) (told : State → List Content) (old new : Durable F) (bytes : List ℕ) (state : State) (acts : List Act) → told state ≡ did_all acts ∷ [] → IsFrameOf old.journal (did_all acts) bytes
+      → (later state).config ≡ state.config → (later state).acts ≡ state.acts ++ acts → Represents (later state) new.bucket → IsTold later told old new bytes state
+  told_all later told old new bytes state acts is frame config on represents =
+      let back : did_all acts ∷ [] ≡ told state = sym is in
+      let lawful = subst (λ (c : Configuration). IsLawful c (state.acts ++ acts)) (represents.config ∙ config) (subst (IsLawful new.bucket.version.config) on represents.version.lawful) in
+      record {
+        are = subst (λ (cs : List Content). bytes ≡ frames old.journal.framing.seed old.journal.appender.place (payloads_of (told_next old.journal cs))) back frame.are;
+        lawful = subst (λ (cs : List Content). AreLawful state.config state.acts (told_next old.journal cs)) back ((omega (arith, few_loose old.journal), lawful_behind state.config [] state.acts acts lawful), tt);
+        payloads = subst (λ (cs : List Content). ArePayloads (payloads_of (told_next old.journal cs))) back (frame.payload, tt);
+        config = config;
+        acts = on ∙ ap (λ (xs : List Act). state.acts ++ xs) (sym (append-nil acts)) ∙ ap (λ (cs : List Content). state.acts ++ acts_of (told_next old.journal cs)) back;
         represents = represents;
       }
 

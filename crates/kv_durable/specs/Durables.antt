@@ -1,5 +1,5 @@
 -- What a durable bucket is at, and what a call makes of it.
-use Rattle.std.specs.Prelude.{◌≡◌, ℕ, Bool, List, [], ◌∷◌, ◌++◌, Result, Ok, Err, ⊤}
+use Rattle.std.specs.Prelude.{◌≡◌, ℕ, Bool, List, [], ◌∷◌, ◌++◌, Result, Ok, Err, map, ⊤}
 use Rattle.kv_file.specs.Adding.{Adds}
 use Rattle.kv_file.specs.declared.appender.Sync.TheVariants.{Each}
 use Rattle.kv_model.specs.Acts.{Act, Wrote, Write}
@@ -12,7 +12,7 @@ use Rattle.kv_store.specs.Stored.{Stored}
 use Rattle.kv_model.specs.State.{State}
 use Rattle.kv_single.specs.Held.{Bucketed, Represents}
 use Rattle.kv_journal.specs.Entries.{Entry, acts_of}
-use Rattle.kv_journal.specs.Records.{Content}
+use Rattle.kv_journal.specs.Records.{Content, did_all}
 use Rattle.kv_durable.specs.Journals.{IsLeft, Keeps, told_next}
 use Rattle.kv_durable.specs.declared.durable.Durable.{Durable}
 use Rattle.kv_durable.specs.declared.error.DurableError.{DurableError}
@@ -33,6 +33,11 @@ pub record IsAt {F : Type 0} (has : F → List ℕ → List ℕ → Type 0) (usa
 abbrev pub act_of : {E : Type 0} → Result Write E → List Act
 act_of (Ok w) = Wrote w ∷ []
 act_of (Err error) = []
+
+-- what a batch tells, if it is accepted: its writes, at once
+abbrev pub batch_of : {E : Type 0} → Result (List Write) E → List Content
+batch_of (Ok ws) = did_all (map Wrote ws) ∷ []
+batch_of (Err error) = []
 
 -- A call has added to the file what it was accepted as: behind what is loose, or it is loose alone, or all is on the disk, as
 -- it is where each write is synced. The bucket is at the state behind the call, and at these entries.

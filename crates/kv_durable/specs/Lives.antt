@@ -1,5 +1,5 @@
 -- A life of a durable bucket, the crash that ends it, and the next life.
-use Rattle.std.specs.Prelude.{◌≡◌, ℕ, Bool, List, [], ◌∷◌, ◌++◌}
+use Rattle.std.specs.Prelude.{◌≡◌, ◌⊎◌, ℕ, Bool, List, [], ◌∷◌, ◌++◌, take}
 use Rattle.kv_model.specs.Acts.{Act, IsPrefix}
 use Rattle.kv_model.specs.Configuration.{Configuration}
 use Rattle.kv_model.specs.State.{State}
@@ -25,8 +25,14 @@ lived [] state = state
 lived (later ∷ more) state = lived more (later state)
 
 -- A bucket has come back: it represents a state with no watch, whose acts begin with all those of the first entries, and are a
--- beginning of those of all.
+-- beginning of those of all: they are those of a beginning of the entries, so of a batch all are there or none.
 pub record ComesBack {F : Type 0} (config : Configuration) (kept maybe : List Entry) (acts : List Act) (durable : Durable F) : Type 0 where
   pub represents : Represents (state_of config acts) durable.bucket
   pub all_kept : IsPrefix (acts_of kept) acts
   pub no_other : IsPrefix acts (acts_of (kept ++ maybe))
+  pub whole : (k : ℕ) × (acts ≡ acts_of (kept ++ take k maybe))
+
+-- of acts that were told at once all have come back, or none: the acts are a beginning of those before, or begin with those
+-- behind
+abbrev pub IsAllOrNone : (before behind acts : List Act) → Type 0
+IsAllOrNone before behind acts = IsPrefix acts before ⊎ IsPrefix behind acts

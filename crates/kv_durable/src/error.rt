@@ -5,6 +5,7 @@ ghost use Rattle.kv_durable.specs.Refusals.{durable_code, durable_name};
 
 use kv_file::{FileFault, OpenFault};
 use kv_keys::KvError;
+use kv_model::BatchRefused;
 use std::alloc::AllocError;
 use thiserror::Error;
 
@@ -102,5 +103,38 @@ impl From<OpenFault> for DurableError {
             OpenFault::Busy => DurableError::FileBusy,
             OpenFault::Failed => DurableError::FileFault,
         }
+    }
+}
+
+/// Why none of several requests was done, that were asked for in one step: one of them is refused, or the file has failed.
+#[derive(Clone, Copy, Debug, PartialEq, Eq, Error)]
+pub enum BatchError {
+    /// The rules refuse one of them, or memory does. The file was not touched.
+    #[error("{0}")]
+    Refused(BatchRefused),
+    /// As `DurableError::FileFault`.
+    #[error("FileFault")]
+    FileFault,
+}
+
+impl From<BatchRefused> for BatchError {
+    ghost use Rattle.std.specs.Prelude.{◌≡◌};
+    ghost use Rattle.kv_durable.specs.declared.error.BatchError.TheVariants.{Refused};
+
+    ghost from_gives = { λ from e. e ≡ Refused from };
+
+    fn from(refused: BatchRefused) -> BatchError {
+        BatchError::Refused(refused)
+    }
+}
+
+impl From<FileFault> for BatchError {
+    ghost use Rattle.std.specs.Prelude.{◌≡◌};
+    ghost use Rattle.kv_durable.specs.declared.error.BatchError.TheVariants.{FileFault};
+
+    ghost from_gives = { λ _ e. e ≡ FileFault };
+
+    fn from(_error: FileFault) -> BatchError {
+        BatchError::FileFault
     }
 }

@@ -2,18 +2,22 @@
 //! goes on with (`recover`), and over bytes between two lists of entries (`IsBetween`), which each call leaves, whether it was
 //! answered or the file failed, and at each moment before.
 
-ghost use Rattle.std.specs.Prelude.{◌≡◌, ◌⊎◌, ◌<◌, ◌^◌, ◌++◌, [], ℕ, List};
+ghost use Rattle.std.specs.Prelude.{◌≡◌, ◌⊎◌, ◌<◌, ◌^◌, ◌++◌, ◌∷◌, [], ℕ, List, Ok, map};
 ghost use Rattle.kv_file.specs.File.{MayLeave};
 ghost use Rattle.kv_frames.specs.Frames.{ArePayloads};
-ghost use Rattle.kv_model.specs.Acts.{IsPrefix};
+ghost use Rattle.kv_model.specs.Acts.{IsPrefix, Wrote, Write};
+ghost use Rattle.kv_model.specs.Batches.{accept_all, after_all, after_batch};
 ghost use Rattle.kv_model.specs.Configuration.{Configuration, IsLegal};
 ghost use Rattle.kv_journal.specs.Entries.{AreLawful, Entry, acts_of, payloads_of};
+ghost use Rattle.kv_model.specs.Requests.{asked};
 ghost use Rattle.kv_model.specs.State.{State, empty};
+ghost use Rattle.kv_model.specs.declared.request.Request.{Request};
 ghost use Rattle.kv_single.specs.Held.{Represents};
-ghost use Rattle.kv_journal.specs.Records.{Content};
-ghost use Rattle.kv_durable.specs.Durables.{IsAt, IsRecorded};
+ghost use Rattle.kv_journal.specs.Records.{Content, did_all};
+ghost use Rattle.kv_durable.specs.Durables.{IsAt, IsRecorded, batch_of};
 ghost use Rattle.kv_durable.specs.Files.{HasForgery, IsBeginning, IsBetween, Reads};
-ghost use Rattle.kv_durable.specs.Lives.{ComesBack, GoesOn, Lives, lived};
+ghost use Rattle.kv_durable.specs.Journals.{told_next};
+ghost use Rattle.kv_durable.specs.Lives.{ComesBack, GoesOn, IsAllOrNone, Lives, lived};
 ghost use Rattle.kv_durable.specs.Openings.{IsNew, IsReopened};
 ghost use Rattle.kv_durable.specs.declared.durable.Durable.{Durable};
 
@@ -85,7 +89,33 @@ pub fn a_life_and_the_next<F: JournalFile>()
         ⊎ HasForgery last.journal.framing.seed (lived calls (empty config)).config kept (loose ++ told) left) }
 {}
 
-/// Each call that is answered goes on: one that was recorded, as a write, a seal and a compaction; a sync; and one that
+/// Of a batch all writes come back, or none. It was answered, other calls behind it too, and then came the crash; or the crash
+/// came in its call, which may have handed over a beginning of what it tells.
+pub fn a_batch_comes_back_whole<F: JournalFile>()
+    ensures answered { (requests : List Request) (ws : List Write) (calls : List (State → State)) (old new last second : Durable F)
+        (state : State) (kept loose : List Entry) (dropped : ℕ) →
+        IsAt F.has F.usable state kept loose old → accept_all state.config (map asked requests) state.acts ≡ Ok ws →
+        IsRecorded F.has F.usable (λ s. after_batch s (accept_all s.config (map asked requests) s.acts))
+        (λ s. batch_of (accept_all s.config (map asked requests) s.acts)) old new →
+        Lives F.has F.usable calls new last →
+        (k : List Entry) × (l : List Entry) × IsAt F.has F.usable (lived calls (after_batch state (Ok ws))) k l last
+        × ((told entries : List Entry) (disk more left rest : List ℕ) →
+        AreLawful (lived calls (after_batch state (Ok ws))).config (lived calls (after_batch state (Ok ws))).acts told →
+        IsBetween last.journal.framing.seed (lived calls (after_batch state (Ok ws))).config k (l ++ told) disk more → MayLeave disk more left →
+        IsReopened F.has F.usable (lived calls (after_batch state (Ok ws))).config left entries rest second dropped →
+        IsAllOrNone state.acts (after_all state.acts ws) (acts_of entries)
+        ⊎ HasForgery last.journal.framing.seed (lived calls (after_batch state (Ok ws))).config k (l ++ told) left) }
+    ensures cut_off { (ws : List Write) (state : State) (kept loose entries : List Entry) (first second : Durable F) (dropped : ℕ)
+        (disk more left rest : List ℕ) →
+        IsAt F.has F.usable state kept loose first →
+        AreLawful state.config state.acts (told_next first.journal (did_all (map Wrote ws) ∷ [])) →
+        IsBetween first.journal.framing.seed state.config kept (loose ++ told_next first.journal (did_all (map Wrote ws) ∷ [])) disk more →
+        MayLeave disk more left → IsReopened F.has F.usable state.config left entries rest second dropped →
+        IsAllOrNone state.acts (after_all state.acts ws) (acts_of entries)
+        ⊎ HasForgery first.journal.framing.seed state.config kept (loose ++ told_next first.journal (did_all (map Wrote ws) ∷ [])) left }
+{}
+
+/// Each call that is answered goes on: one that was recorded, as a write, a batch, a seal and a compaction; a sync; and one that
 /// leaves the acts and the journal as they are, as those of watches, and what was refused.
 pub fn each_call_goes_on<F: JournalFile>()
     ensures recorded { (later : State → State) (told : State → List Content) (old new : Durable F) →

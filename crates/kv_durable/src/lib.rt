@@ -1,6 +1,7 @@
 //! What joins a bucket and its file: the version that a file stands for, and what a crash leaves of it.
 #![tactic(auto)]
 
+mod batch;
 mod changing;
 mod durable;
 mod ending;
@@ -15,7 +16,7 @@ mod watching;
 mod writing;
 
 pub use durable::{Durable, NotDone};
-pub use error::DurableError;
+pub use error::{BatchError, DurableError};
 pub use journal::Journal;
 pub use kv_file::{JournalFile, OpenFault, Sync, SystemFile};
 pub use opening::Opened;

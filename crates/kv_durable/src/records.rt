@@ -1,16 +1,16 @@
 //! The frames of what is told next.
 
-ghost use Rattle.std.specs.Prelude.{◌≡◌, ◌<◌, ◌^◌, ◌∷◌, [], ℕ, length, IfOk};
+ghost use Rattle.std.specs.Prelude.{◌≡◌, ◌<◌, ◌^◌, ◌∷◌, [], ℕ, List, length, map, IfOk};
 ghost use Rattle.kv_frames.specs.Frames.{ArePayloads, frames};
 ghost use Rattle.kv_journal.specs.Entries.{payloads_of};
-ghost use Rattle.kv_journal.specs.Records.{closed, did};
-ghost use Rattle.kv_model.specs.Acts.{Compact, Seal, Wrote};
+ghost use Rattle.kv_journal.specs.Records.{act_records, asked_records, closed, did, did_all};
+ghost use Rattle.kv_model.specs.Acts.{Act, Compact, Seal, Wrote};
 ghost use Rattle.kv_model.specs.Requests.{asked, value_of, write_for};
 ghost use Rattle.kv_durable.specs.Journals.{IsFrameOf};
 
 use crate::journal::Journal;
 use kv_file::JournalFile;
-use kv_journal::{encode_closed, encode_compaction, encode_request, encode_seal};
+use kv_journal::{encode_batch, encode_closed, encode_compaction, encode_request, encode_seal};
 use kv_model::Request;
 use std::alloc::{AllocError, Global};
 
@@ -27,6 +27,20 @@ impl<F: JournalFile> Journal<F> {
         ensures short { IfOk result (λ v. length v.items < 2 ^ 33) }
     {
         let payload = encode_request(alloc, self.loose_ahead(), request)?;
+        self.frame_of(alloc, &payload)
+    }
+
+    /// The frame of a batch of accepted requests that is added next.
+    pub(crate) fn frame_of_batch(
+        &self,
+        alloc: Global,
+        requests: &[Request],
+    ) -> Result<Vec<u8>, AllocError>
+        ensures is { IfOk result (λ v. (acts : List Act) → act_records acts ≡ asked_records (map asked requests.now) →
+            IsFrameOf self.now (did_all acts) v.items) }
+        ensures short { IfOk result (λ v. length v.items < 2 ^ 33) }
+    {
+        let payload = encode_batch(alloc, self.loose_ahead(), requests)?;
         self.frame_of(alloc, &payload)
     }
 

@@ -1,7 +1,7 @@
 //! Tests of durable buckets over a file in memory.
 
 use crate::equal::equal;
-use kv_durable::{Durable, DurableError, Opened, Sync};
+use kv_durable::{BatchError, Durable, DurableError, Opened, Sync};
 use kv_file::{JournalFile, MemoryFile, Torn};
 use kv_keys::KvError;
 use kv_model::{Config, Request};
@@ -11,12 +11,12 @@ use std::alloc::{AllocError, Global};
 use std::process::Abort;
 use std::test::Fail;
 
-type Bucket = Durable<MemoryFile>;
+pub(crate) type Bucket = Durable<MemoryFile>;
 
 const SEED: u64 = 0x0123_4567_89AB_CDEF;
 
 // How many steps there are.
-const STEPS: usize = 8;
+const STEPS: usize = 9;
 
 fn config(alloc: Global) -> Result<Config, KvError> {
     let mut config = Config::named(alloc, "settings")?;
@@ -24,27 +24,48 @@ fn config(alloc: Global) -> Result<Config, KvError> {
     Ok(config)
 }
 
-fn opened(alloc: Global, file: MemoryFile, sync: Sync) -> Result<Opened<MemoryFile>, DurableError> {
+pub(crate) fn opened(
+    alloc: Global,
+    file: MemoryFile,
+    sync: Sync,
+) -> Result<Opened<MemoryFile>, DurableError> {
     match Durable::open(alloc, &config(alloc)?, file, SEED, sync) {
         Ok(opened) => Ok(opened),
         Err(refused) => Err(refused.error),
     }
 }
 
-fn reopened(alloc: Global, bytes: &[u8]) -> Result<Opened<MemoryFile>, DurableError> {
+pub(crate) fn reopened(alloc: Global, bytes: &[u8]) -> Result<Opened<MemoryFile>, DurableError> {
     let bytes = Vec::from_slice(alloc, bytes)?;
     opened(alloc, MemoryFile::new(alloc, bytes), Sync::Each)
 }
 
-fn create(alloc: Global, key: &str, value: &str) -> Result<Request, KvError> {
+pub(crate) fn create(alloc: Global, key: &str, value: &str) -> Result<Request, KvError> {
     match put(alloc, key, value)? {
         Request::Put { key, value } => Ok(Request::Create { key, value }),
         request => Ok(request),
     }
 }
 
+// Why a batch was not done, without its place.
+pub(crate) fn without_place(error: BatchError) -> DurableError {
+    match error {
+        BatchError::Refused(refused) => DurableError::Refused(refused.error),
+        BatchError::FileFault => DurableError::FileFault,
+    }
+}
+
+// Two puts in one step.
+pub(crate) fn put_both(alloc: Global, bucket: &mut Bucket) -> Result<u64, DurableError> {
+    let both = [
+        put(alloc, "app.port", "443")?,
+        create(alloc, "app.user", "kv")?,
+    ];
+    bucket.write_all(&both).map_err(without_place)
+}
+
 // Makes the step of this number.
-fn step(alloc: Global, bucket: &mut Bucket, number: usize) -> Result<(), DurableError> {
+pub(crate) fn step(alloc: Global, bucket: &mut Bucket, number: usize) -> Result<(), DurableError> {
     match number {
         0 => bucket.write(&put(alloc, "app.port", "80")?)?,
         1 => bucket.write(&create(alloc, "app.host", "kv")?)?,
@@ -56,6 +77,7 @@ fn step(alloc: Global, bucket: &mut Bucket, number: usize) -> Result<(), Durable
             3
         }
         6 => bucket.write(&put(alloc, "app.name", "durable")?)?,
+        7 => put_both(alloc, bucket)?,
         _ => {
             bucket.seal()?;
             0
@@ -76,7 +98,7 @@ fn is_same(first: &Version, second: &Version) -> bool {
     true
 }
 
-fn empty(alloc: Global) -> MemoryFile {
+pub(crate) fn empty(alloc: Global) -> MemoryFile {
     MemoryFile::new(alloc, Vec::new(alloc))
 }
 
@@ -335,7 +357,10 @@ fn what_was_answered_is_there(rt: HostRuntime) -> Result<(), Fail> {
 }
 
 // The file has failed. Where memory is refused before that shows, all is done once more.
-fn is_fault(rt: &impl Abort, answer: Result<(), DurableError>) -> Result<(), DurableError> {
+pub(crate) fn is_fault(
+    rt: &impl Abort,
+    answer: Result<(), DurableError>,
+) -> Result<(), DurableError> {
     let no_memory = Err(DurableError::Refused(KvError::OutOfMemory));
     if answer == no_memory {
         return answer;

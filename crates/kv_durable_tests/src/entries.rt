@@ -4,8 +4,8 @@ use crate::equal::equal;
 use crate::sample::{FRAMES, HEADER, SEED};
 use kv_frames::Framing;
 use kv_journal::{
-    BeginningError, Begun, ReplayError, Replayed, begin, encode_closed, encode_compaction,
-    encode_request, encode_seal, push_beginning, replay, shows_damage,
+    BeginningError, Begun, ReplayError, Replayed, begin, encode_batch, encode_closed,
+    encode_compaction, encode_request, encode_seal, push_beginning, replay, shows_damage,
 };
 use kv_keys::{Key, KvError};
 use kv_model::{Config, Request, Status};
@@ -311,5 +311,22 @@ fn an_entry_of_no_lawful_act_is_refused_with_its_place(rt: HostRuntime) -> Resul
     match an_entry_of_no_lawful_act_is_refused_with_its_place_once(&rt, rt.alloc()) {
         Ok(()) => Ok(()),
         Err(_) => Ok(an_entry_of_no_lawful_act_is_refused_with_its_place_once(&rt, rt.alloc())?),
+    }
+}
+
+// A batch of a put and a purge, seven bytes loose before it.
+const BATCH: &[u8] = b"\0\0\0\x07\x0a\0\0\0\x0c\x01\x08app.port80\0\0\0\x0a\x03\x08app.host";
+
+fn a_batch_is_its_records_once(rt: &impl Abort, alloc: Global) -> Result<(), KvError> {
+    let batch = [put(alloc, "app.port", b"80")?, purge(alloc, "app.host")?];
+    equal(rt, encode_batch(alloc, 7, &batch)?.as_slice(), BATCH);
+    Ok(())
+}
+
+#[test]
+fn a_batch_is_its_records(rt: HostRuntime) -> Result<(), Fail> {
+    match a_batch_is_its_records_once(&rt, rt.alloc()) {
+        Ok(()) => Ok(()),
+        Err(_) => Ok(a_batch_is_its_records_once(&rt, rt.alloc())?),
     }
 }

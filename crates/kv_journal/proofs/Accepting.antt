@@ -1,5 +1,5 @@
 -- A request that asks nothing of what was written before is accepted where any with a value of this length is.
-use Rattle.std.proofs.Common.{◌≡◌, ℕ, ◌+◌, Bool, true, false, cond, List, [], length, Option, None, Result, Ok, Err, refl, sym, ap, ◌∙◌, subst}
+use Rattle.std.proofs.Common.{◌≡◌, ℕ, ◌+◌, Bool, true, false, cond, List, [], ◌∷◌, length, Option, None, Result, Ok, Err, refl, sym, ap, ◌∙◌, subst}
 use Rattle.std.specs.Prelude.{nat_lt}
 use Rattle.std.proofs.lemmas.Bool.{true≢false}
 use Rattle.kv_keys.specs.declared.error.KvError.{KvError}
@@ -9,7 +9,7 @@ use Rattle.kv_model.specs.Acts.{Act, Wrote, Seal, Compact, Write, writes_of, is_
 use Rattle.kv_model.specs.Configuration.{Configuration}
 use Rattle.kv_model.specs.Requests.{Asked, put, create, update, delete, purge, op_of, value_of, write_for}
 use Rattle.kv_model.proofs.Numbered.{accepted_is_next}
-use Rattle.kv_journal.specs.Records.{Content, did, closed, IsRecordable, IsRecordableAct}
+use Rattle.kv_journal.specs.Records.{Content, did, did_all, closed, act_records, record_of, IsRecordable, IsRecordableAct}
 use Rattle.kv_journal.specs.Entries.{IsLawfulContent}
 use Rattle.kv_journal.specs.Says.{IsPlain}
 
@@ -56,9 +56,10 @@ accepted_is_recordable config acts (Wrote w) h =
 accepted_is_recordable config acts Seal h = tt
 accepted_is_recordable config acts (Compact floor) h = tt
 
-pub lawful_is_recordable : (config : Configuration) (acts : List Act) (content : Content) → IsLawfulContent config acts content → IsRecordable content
-lawful_is_recordable config acts (did act) h = accepted_is_recordable config acts act h
-lawful_is_recordable config acts (closed last) h = tt
+pub lawful_is_recordable : (config : Configuration) (acts : List Act) (bytes : List ℕ) (content : Content) → ((rest : List ℕ) → bytes ≡ 10 ∷ rest → ⊥) → record_of content ≡ bytes → IsLawfulContent config acts content → IsRecordable content
+lawful_is_recordable config acts bytes (did act) single e h = accepted_is_recordable config acts act h
+lawful_is_recordable config acts bytes (did_all all) single e h = single (act_records all) (sym e)
+lawful_is_recordable config acts bytes (closed last) single e h = tt
 
 -- the write that is accepted is the one that is asked for, at the next revision
 pub next_is : (config : Configuration) (a : Asked) (acts : List Act) (w : Write) (last : ℕ) → last ≡ length (writes_of acts) → accept config a acts ≡ Ok w → w ≡ write_for a (last + 1)

@@ -4,3 +4,5 @@ pub mod Accepting
 pub mod Redone
 pub mod Going
 pub mod Front
+pub mod Together
+pub mod Parts

@@ -14,7 +14,7 @@ use Rattle.kv_model.specs.declared.write.Op.{Op}
 use Rattle.kv_model.proofs.Numbered.{accepted_is_next}
 use Rattle.kv_store.specs.Standing.{StandsFor}
 use Rattle.kv_store.specs.Stored.{Stored}
-use Rattle.kv_journal.specs.Records.{Content, did, closed, kind_of, act_record, record_of}
+use Rattle.kv_journal.specs.Records.{Content, did, did_all, closed, kind_of, act_record, record_of}
 use Rattle.kv_journal.specs.Entries.{Entry, payload_of, IsLawfulContent, IsLawfulEntry}
 use Rattle.kv_journal.specs.Says.{Says, SaysWrite}
 use Rattle.kv_journal.specs.declared.decode.Record.{Record}
@@ -63,6 +63,9 @@ is_accepted old new act same on acts stands =
 only_act : (config : Configuration) (bytes : List ℕ) (acts : List Act) (act : Act) → first bytes < 9 → ((other : Act) → act_record other ≡ bytes → IsAccepted config acts other → other ≡ act)
     → (other : Content) → record_of other ≡ bytes → IsLawfulContent config acts other → other ≡ did act
 only_act config bytes acts act low only (did other) e h = ap did (only other e h)
+only_act config bytes acts act low only (did_all others) e h =
+    let d : 10 ≡ first bytes = ap first e in
+    absurd (omega (arith, d, low))
 only_act config bytes acts act low only (closed last) e h =
     let d : 9 ≡ first bytes = ap first e in
     absurd (omega (arith, d, low))
@@ -70,6 +73,9 @@ only_act config bytes acts act low only (closed last) e h =
 no_act : (config : Configuration) (bytes : List ℕ) (acts : List Act) → first bytes < 9 → ((other : Act) → act_record other ≡ bytes → IsAccepted config acts other → ⊥)
     → (other : Content) → record_of other ≡ bytes → IsLawfulContent config acts other → ⊥
 no_act config bytes acts low none (did other) e h = none other e h
+no_act config bytes acts low none (did_all others) e h =
+    let d : 10 ≡ first bytes = ap first e in
+    omega (arith, d, low)
 no_act config bytes acts low none (closed last) e h =
     let d : 9 ≡ first bytes = ap first e in
     omega (arith, d, low)
@@ -182,6 +188,9 @@ only_end config bytes last few says acts (did Seal) e writes late count h =
     absurd (omega (arith, d))
 only_end config bytes last few says acts (did (Compact floor)) e writes late count h =
     let d : 5 ≡ 9 = ap first (e ∙ says) in
+    absurd (omega (arith, d))
+only_end config bytes last few says acts (did_all others) e writes late count h =
+    let d : 10 ≡ 9 = ap first (e ∙ says) in
     absurd (omega (arith, d))
 only_end config bytes last few says acts (closed n) e writes late count h =
     let within : n < 2 ^ 64 = omega (arith, h, count, late) in

@@ -7,7 +7,7 @@ use Rattle.kv_model.specs.Acts.{Wrote, Seal, Compact, is_put}
 use Rattle.kv_model.specs.declared.write.Op.{Op}
 use Rattle.kv_model.specs.declared.write.Op.TheVariants.{Put, Delete, Purge}
 use Rattle.kv_frames.proofs.Fronts.{sides}
-use Rattle.kv_journal.specs.Records.{Content, did, closed, kind_of, write_record, record_of, IsRecordable}
+use Rattle.kv_journal.specs.Records.{Content, did, did_all, closed, kind_of, write_record, record_of, IsRecordable}
 
 -- the first byte
 abbrev first : List ℕ → ℕ
@@ -49,24 +49,28 @@ pub nothing_said : (content : Content) → IsRecordable content → record_of co
 nothing_said (did (Wrote w)) is e = absurd cc
 nothing_said (did Seal) is e = absurd cc
 nothing_said (did (Compact floor)) is e = absurd cc
+nothing_said (did_all acts) is e = absurd is
 nothing_said (closed last) is e = absurd cc
 
 pub no_seal : (rest : List ℕ) → rest ≢ [] → (content : Content) → IsRecordable content → record_of content ≡ 4 ∷ rest → ⊥
 no_seal rest some (did (Wrote w)) is e = omega (arith, kind_low w.op, ap first e)
 no_seal rest some (did Seal) is e = some (sym (ap behind e))
 no_seal rest some (did (Compact floor)) is e = let d : 5 ≡ 4 = ap first e in omega (arith, d)
+no_seal rest some (did_all acts) is e = absurd is
 no_seal rest some (closed last) is e = let d : 9 ≡ 4 = ap first e in omega (arith, d)
 
 pub no_compaction : (rest : List ℕ) → ((floor : ℕ) → rest ≢ to_be_bytes w64 floor) → (content : Content) → IsRecordable content → record_of content ≡ 5 ∷ rest → ⊥
 no_compaction rest none (did (Wrote w)) is e = omega (arith, kind_low w.op, ap first e)
 no_compaction rest none (did Seal) is e = let d : 4 ≡ 5 = ap first e in omega (arith, d)
 no_compaction rest none (did (Compact floor)) is e = none floor (sym (ap behind e))
+no_compaction rest none (did_all acts) is e = absurd is
 no_compaction rest none (closed last) is e = let d : 9 ≡ 5 = ap first e in omega (arith, d)
 
 pub no_end : (rest : List ℕ) → ((last : ℕ) → rest ≢ to_be_bytes w64 last) → (content : Content) → IsRecordable content → record_of content ≡ 9 ∷ rest → ⊥
 no_end rest none (did (Wrote w)) is e = omega (arith, kind_low w.op, ap first e)
 no_end rest none (did Seal) is e = let d : 4 ≡ 9 = ap first e in omega (arith, d)
 no_end rest none (did (Compact floor)) is e = let d : 5 ≡ 9 = ap first e in omega (arith, d)
+no_end rest none (did_all acts) is e = absurd is
 no_end rest none (closed last) is e = none last (sym (ap behind e))
 
 abbrev pub NoWrite : ℕ → List ℕ → Type 0
@@ -76,6 +80,7 @@ pub no_write : (kind : ℕ) (rest : List ℕ) → kind ≢ 4 → kind ≢ 5 → 
 no_write kind rest not4 not5 not9 none (did (Wrote w)) is e = none w.op w.key w.value (ap first e) (sym (ap behind e)) is.0 is.1
 no_write kind rest not4 not5 not9 none (did Seal) is e = not4 (sym (ap first e))
 no_write kind rest not4 not5 not9 none (did (Compact floor)) is e = not5 (sym (ap first e))
+no_write kind rest not4 not5 not9 none (did_all acts) is e = absurd is
 no_write kind rest not4 not5 not9 none (closed last) is e = not9 (sym (ap first e))
 
 -- a write that is too short for its key

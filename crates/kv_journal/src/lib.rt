@@ -12,5 +12,5 @@ mod replaying;
 pub use beginning::{BeginningError, Begun, begin, push_beginning};
 pub use damage::shows_damage;
 pub use decode::Record;
-pub use encode::{encode_closed, encode_compaction, encode_request, encode_seal};
+pub use encode::{encode_batch, encode_closed, encode_compaction, encode_request, encode_seal};
 pub use replaying::{ReplayError, Replayed, replay};

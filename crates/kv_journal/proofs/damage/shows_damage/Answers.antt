@@ -1,17 +1,20 @@
-use Rattle.std.proofs.Common.{◌≡◌, ℕ, subst, inl, inr, arith}
-use Rattle.std.proofs.lemmas.Bool.{cases_lt}
-use Rattle.kv_journal.specs.Damage.{IsOnDiskBy}
+use Rattle.std.proofs.Common.{inl, inr, refl}
+use Rattle.kv_journal.specs.Damage.{told_end}
 use Rattle.kv_journal.proofs.damage.shows_damage.Goals as goal
 
-pub loop-n-preserved : goal.loop-n-preserved
-loop-n-preserved c = λ k some below payload rest on.
-    elim (cases_lt k c.loop-n.n) [
-      | inl before ↦ c.loop-n.invariant k some before payload rest on
-      | inr not_before ↦
-          let same : k ≡ c.loop-n.n = omega (arith, not_before, below) in
-          c.is_on_disk_by.ensures.no c.if-is_on_disk_by.false payload rest
-          (subst (λ (j : ℕ). IsOnDiskBy c.args.framing.now.seed c.args.at c.args.bytes.now j payload rest) same on)
-    ]
+pub returns-then-is_shown_next-clause-yes : goal.returns-then-is_shown_next-clause-yes
+returns-then-is_shown_next-clause-yes c = λ _.
+    let next = c.is_shown_next.ensures.yes c.if-is_shown_next.true in
+    (told_end c.args.bytes.now, next.0, next.1, record { shown = inr (refl, next.2) })
+
+pub returns-clause-yes : goal.returns-clause-yes
+returns-clause-yes c = λ e.
+    let near = c.is_shown_near.ensures.yes e in
+    (near.0, near.1, near.2, record { shown = inl near.3 })
 
 pub returns-clause-no : goal.returns-clause-no
-returns-clause-no c = λ _ has. c.loop-n.invariant has.0 has.3.behind (omega (arith, has.3.near, has.3.within, c.loop-n-test.false)) has.1 has.2 has.3
+returns-clause-no c = λ e shows.
+    elim shows.3.shown [
+      | inl near ↦ c.is_shown_near.ensures.no e shows.0 shows.1 shows.2 near
+      | inr next ↦ c.is_shown_next.ensures.no c.if-is_shown_next.false shows.1 shows.2 next.1
+    ]

@@ -1,6 +1,0 @@
-use Rattle.std.proofs.Common.{ℕ, ◌<◌, List}
-use Rattle.kv_journal.specs.Damage.{IsOnDiskBy}
-use Rattle.kv_journal.proofs.damage.shows_damage.Given as goal
-
-abbrev pub invariant-loop-n : goal.invariant-loop-n
-invariant-loop-n l = (k : ℕ) → 0 < k → k < l.n → (payload rest : List ℕ) → IsOnDiskBy l.framing.seed l.at l.bytes k payload rest → ⊥
