@@ -3,7 +3,7 @@
 kv_bench and kvbucket, within five minutes, and Rust's own crates by the program of peers/, where that can be built (scripts/peers.py),
 in two more. It writes into the folder (docs/bench where none is given) the figures as figures.tsv, a page of tables as README.md,
 charts where matplotlib is there (scripts/charts.py), and where no folder is given the table of the repository's README.md
-(scripts/compared.py). It tells on standard error what it is doing. tests/test_bench.py looks at whether that works."""
+(scripts/compared.py). It tells on standard error what it is doing. tests/bench looks at whether that works."""
 import collections, datetime, os, platform, random, subprocess, sys, time
 from typing import Any, Callable, Iterable, Iterator, NamedTuple, Optional, Sequence
 

@@ -1,10 +1,10 @@
-"""Devices that fail: a full disk at the writer, a closed pipe, and input that can't be read."""
+"""Where the writer fails: a full disk, and a closed pipe."""
 import os, unittest
 
 from tests.program import RunsTest
 
 
-class Devices(RunsTest):
+class FullDisk(RunsTest):
     def test_a_full_disk_is_a_write_fault(self) -> None:
         with open("/dev/full", "wb") as full:
             self.check("help to a full disk", ["--help"], 1, faults="kvbucket: WriteFault\n", standard_output=full)
@@ -16,12 +16,6 @@ class Devices(RunsTest):
         os.close(reading)
         self.addCleanup(os.close, writing)
         self.check("a closed pipe", [], 1, faults="kvbucket: WriteFault\n", standard_output=writing, input=b"put a -\n")
-
-    def test_input_that_can_not_be_read_is_a_read_fault(self) -> None:
-        folder = os.open(".", os.O_RDONLY)
-        self.addCleanup(os.close, folder)
-        self.check("input that can't be read", [], 1, faults="kvbucket: ReadFault\n", standard_input=folder)
-        self.check("a race over input that can't be read", ["--race", "2"], 1, faults="kvbucket: ReadFault\n", standard_input=folder)
 
 
 if __name__ == "__main__":
