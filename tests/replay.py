@@ -1,18 +1,17 @@
 """Runs the lines of a script (docs/script.md) on a bucket of Python, over the library for C or a NATS server, and writes the answers as
 ./kvbucket does. So it can be seen what another bucket answers to the same lines. It has no race."""
 import base64, json, re
-from typing import Any, Callable, Optional
+from typing import Any, Callable, Optional, Union
 
 from vilgoued import BadFilter, Entry, KeyNotFound, KvError, NoSuchWatch
 
 from tests.worked import Script
 
 NUMBER = r"(\d{1,20})"
-VALUE = r"(-|(?:[A-Za-z0-9+/]{4})*(?:[A-Za-z0-9+/]{4}|[A-Za-z0-9+/]{3}=|[A-Za-z0-9+/]{2}==))"
 COMMANDS = {
-    "put": r"put ([^ ]+) " + VALUE,
-    "create": r"create ([^ ]+) " + VALUE,
-    "update": r"update ([^ ]+) %s %s" % (NUMBER, VALUE),
+    "put": r"put ([^ ]+) (.*)",
+    "create": r"create ([^ ]+) (.*)",
+    "update": r"update ([^ ]+) %s (.*)" % NUMBER,
     "delete": r"delete ([^ ]+)(?: %s)?" % NUMBER,
     "purge": r"purge ([^ ]+)(?: %s)?" % NUMBER,
     "get": r"get ([^ ]+)(?: %s)?" % NUMBER,
@@ -45,12 +44,32 @@ def number(text: str) -> int:
     return int(text)
 
 
-def value(text: str) -> bytes:
-    """The bytes that the base64 of a line stands for."""
-    data = b"" if text == "-" else base64.b64decode(text)
-    if text != "-" and base64.b64encode(data).decode() != text:
-        raise BadCommand()
-    return data
+class Base64:
+    """Values as the base64 of their bytes, `-` for none."""
+
+    FORM = re.compile("(?:[A-Za-z0-9+/]{4})*(?:[A-Za-z0-9+/]{4}|[A-Za-z0-9+/]{3}=|[A-Za-z0-9+/]{2}==)")
+
+    def read(self, text: str) -> bytes:
+        data = b"" if text == "-" else base64.b64decode(text) if self.FORM.fullmatch(text) else None
+        if data is None or text != "-" and self.shown(data) != text:
+            raise BadCommand()
+        return data
+
+    def shown(self, data: bytes) -> str:
+        return base64.b64encode(data).decode()
+
+
+class Text:
+    """Values as their text."""
+
+    def read(self, text: str) -> bytes:
+        return text.encode("latin-1")
+
+    def shown(self, data: bytes) -> str:
+        return data.decode()
+
+
+Form = Union[Base64, Text]
 
 
 def words_of(line: str) -> tuple[str, tuple[Any, ...]]:
@@ -62,12 +81,12 @@ def words_of(line: str) -> tuple[str, tuple[Any, ...]]:
     return name, words.groups()
 
 
-def write(to: Any, name: str, key: str, *words: Any) -> Any:
-    """Asks a bucket or a batch for a write."""
+def write(to: Any, form: Form, name: str, key: str, *words: Any) -> Any:
+    """Asks a bucket or a batch for a write, whose value is of this form."""
     if name == "update":
-        return to.update(key, value(words[1]), last=number(words[0]))
+        return to.update(key, form.read(words[1]), last=number(words[0]))
     if name in ("put", "create"):
-        return getattr(to, name)(key, value(words[0]))
+        return getattr(to, name)(key, form.read(words[0]))
     return getattr(to, name)(key, last=None if words[0] is None else number(words[0]))
 
 
@@ -78,18 +97,17 @@ def refused(refusal: KvError) -> Told:
     return it if refusal.at is None else {**it, "at": refusal.at + 1}
 
 
-def shown(entry: Entry) -> Told:
-    """An entry as an answer shows it."""
-    it = {"key": entry.key, "op": entry.op, "revision": entry.revision, "size": entry.size}
-    return it if entry.value is None else {**it, "value": base64.b64encode(entry.value).decode()}
+def written(told: Told) -> str:
+    """An answer as its line."""
+    return json.dumps(told, separators=(",", ":"), sort_keys=True, ensure_ascii=False)
 
 
 class Gathered:
     """The lines of a batch, as far as they were read. The first that is no write, or has no key, refuses it, before what the bucket
     refuses; the lines behind it belong to the batch all the same."""
 
-    def __init__(self, batch: Any, size: int) -> None:
-        self.batch, self.size = batch, size
+    def __init__(self, batch: Any, form: Form, size: int) -> None:
+        self.batch, self.form, self.size = batch, form, size
         self.read = 0
         self.refusal: Optional[KvError] = None
 
@@ -99,7 +117,7 @@ class Gathered:
                 name, words = words_of(line)
                 if name not in WRITES:
                     raise BadCommand()
-                write(self.batch, name, *words)
+                write(self.batch, self.form, name, *words)
             except KvError as refusal:
                 self.refuse(refusal)
         self.read += 1
@@ -118,8 +136,8 @@ class Gathered:
 class Session:
     """A bucket, the watches that its script opened, and the batch whose lines it is at."""
 
-    def __init__(self, bucket: Any, name: str) -> None:
-        self.bucket, self.name = bucket, name
+    def __init__(self, bucket: Any, name: str, form: Form) -> None:
+        self.bucket, self.name, self.form = bucket, name, form
         self.watches: dict[int, Any] = {}
         self.gathered: Any = None
 
@@ -136,17 +154,17 @@ class Session:
             told = asked(*words)
         except KvError as refusal:
             told = refused(refusal)
-        return [json.dumps(it, separators=(",", ":"), sort_keys=True) for it in (told if isinstance(told, list) else [told])]
+        return [written(it) for it in (told if isinstance(told, list) else [told])]
 
     def told(self, line: str) -> Any:
         if self.gathered is not None:
             self.gathered.add(line)
             return self.written_if_whole()
         name, words = words_of(line)
-        return {"revision": write(self.bucket, name, *words)} if name in WRITES else getattr(self, name)(*words)
+        return {"revision": write(self.bucket, self.form, name, *words)} if name in WRITES else getattr(self, name)(*words)
 
     def batch(self, size: str) -> Any:
-        self.gathered = Gathered(self.bucket.batch(), number(size))
+        self.gathered = Gathered(self.bucket.batch(), self.form, number(size))
         return self.written_if_whole()
 
     def written_if_whole(self) -> Any:
@@ -156,18 +174,23 @@ class Session:
         gathered, self.gathered = self.gathered, None
         return gathered.written()
 
+    def shown(self, entry: Entry) -> Told:
+        """An entry as an answer shows it."""
+        it = {"key": entry.key, "op": entry.op, "revision": entry.revision, "size": entry.size}
+        return it if entry.value is None else {**it, "value": self.form.shown(entry.value)}
+
     def get(self, key: str, at: Optional[str]) -> Told:
         found = self.bucket.get(key, at=None if at is None else number(at))
         if found is None:
             raise KeyNotFound()
         return {"key": key, "op": "PUT", "revision": found.revision, "size": len(found.value),
-                "value": base64.b64encode(found.value).decode()}
+                "value": self.form.shown(found.value)}
 
     def history(self, key: str) -> Told:
         entries = self.bucket.history(key)
         if not entries:
             raise KeyNotFound()
-        return {"entries": [shown(entry) for entry in entries]}
+        return {"entries": [self.shown(entry) for entry in entries]}
 
     def keys(self, filter: str) -> Told:
         if "," in filter:
@@ -196,7 +219,7 @@ class Session:
         watch, items = self.open_watch(text), []
         for _ in range(number(count)):
             item = next(watch, None)
-            items.append({"empty": True} if item is None else {"marker": True} if item.marker else shown(item))
+            items.append({"empty": True} if item is None else {"marker": True} if item.marker else self.shown(item))
             if item is None:
                 break
         return [{**it, "watch": watch.number} for it in items]
@@ -226,6 +249,6 @@ class Session:
 
 def replay(bucket: Any, script: Script) -> list[str]:
     """The answers of a bucket to a script (worked.py), line by line."""
-    session = Session(bucket, "kv")
+    session = Session(bucket, script.bucket, Text() if script.is_text else Base64())
     answers = [answer for line, _ in script.steps for answer in session.answers(line.decode("latin-1").removesuffix("\r"))]
     return answers + session.at_end()

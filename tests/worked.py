@@ -7,8 +7,9 @@
     {"code":13,"error":"NoSuchWatch"}
 
 The first line is there where the program has arguments. A line of the script stands behind `> `, and the lines that answer it follow,
-each as it is; a race answers when it has read all of its lines. A byte of a script that is no printable character of ASCII, and a
-backslash, is written as `\\xNN`. Each line of a script ends with a line feed, a carriage return before that is written as `\\x0d`."""
+each as it is; a race answers when it has read all of its lines. A byte of a script that is no printable character of ASCII, a
+backslash, and a space at the end of a line is written as `\\xNN`. Each line of a script ends with a line feed, a carriage return
+before that is written as `\\x0d`."""
 import os, re
 from typing import Iterator, NamedTuple
 
@@ -34,13 +35,28 @@ class Script(NamedTuple):
         return b"".join(answer + b"\n" for _, answers in self.steps for answer in answers)
 
     @property
+    def options(self) -> dict[str, str]:
+        """What the arguments set, such as {"history": "2", "text": ""}."""
+        options = re.findall(r"--([\w-]+)(?:[= ](?!--)(\S+))?", " ".join(self.arguments))
+        return {name.replace("-", "_"): value for name, value in options}
+
+    @property
     def is_race(self) -> bool:
-        return "--race" in self.arguments
+        return "race" in self.options
+
+    @property
+    def is_text(self) -> bool:
+        """Whether values stand in it as text, and not in base64."""
+        return "text" in self.options
+
+    @property
+    def bucket(self) -> str:
+        return self.options.get("bucket", "kv")
 
     @property
     def settings(self) -> dict[str, int]:
-        """The arguments as those of a bucket in Python, such as history=2."""
-        return {name.removeprefix("--").replace("-", "_"): int(value) for name, value in zip(self.arguments[::2], self.arguments[1::2])}
+        """The limits and the history as arguments of a bucket in Python, such as history=2."""
+        return {name: int(value) for name, value in self.options.items() if name not in ("bucket", "text", "race")}
 
 
 def unescaped(text: bytes) -> bytes:

@@ -17,7 +17,7 @@ class Charts(unittest.TestCase):
     text: str
 
     @classmethod
-    def setUpClass(cls):
+    def setUpClass(cls) -> None:
         cls.figures = measured.everything()
         cls.groups = {it.group for it in cls.figures}
         with tempfile.TemporaryDirectory() as folder:

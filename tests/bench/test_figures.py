@@ -2,16 +2,17 @@
 import subprocess, unittest
 
 from scripts import bench
+from scripts.figures import Figure
 from tests.bench import measured
 from tests.bench.measured import BENCH, SMALLEST
 
 
 class Figures(unittest.TestCase):
-    def are_in_order(self, figures):
+    def are_in_order(self, figures: list[Figure]) -> None:
         self.assertTrue(figures)
         self.assertTrue(all(it.least <= it.median <= it.most for it in figures))
 
-    def are_of(self, figures, group):
+    def are_of(self, figures: list[Figure], group: str) -> None:
         self.are_in_order(figures)
         self.assertEqual({(it.keys, it.group) for it in figures}, {(SMALLEST, group)})
 
