@@ -4,7 +4,7 @@ use Rattle.std.proofs.lemmas.List.{map-append, append_cancel_left}
 use Rattle.kv_frames.specs.Frames.{frame, frames, place_after, BeginsWhole, Splits}
 use Rattle.kv_frames.proofs.Reading.{frames-append, place_is}
 use Rattle.kv_model.specs.Configuration.{Configuration}
-use Rattle.kv_journal.specs.Beginning.{beginning, configuration_payload, header}
+use Rattle.kv_journal.specs.Header.{beginning, configuration_payload, header}
 use Rattle.kv_journal.specs.Entries.{Entry, payload_of, payloads_of, AreLawful}
 use Rattle.kv_journal.proofs.Front.{one_header}
 use Rattle.kv_durable.specs.Files.{Reads, file_of, frames_behind}

@@ -8,7 +8,7 @@ use Rattle.kv_frames.proofs.Reading.{one_reading as frames_once}
 use Rattle.kv_frames.proofs.Tails.{written_or_foreign}
 use Rattle.kv_model.specs.Acts.{IsPrefix}
 use Rattle.kv_model.specs.Configuration.{Configuration, IsLegal}
-use Rattle.kv_journal.specs.Beginning.{beginning}
+use Rattle.kv_journal.specs.Header.{beginning}
 use Rattle.kv_journal.specs.Entries.{Entry, payload_of, payloads_of, acts_of, AreLawful}
 use Rattle.kv_journal.proofs.Going.{acts_of-append}
 use Rattle.kv_durable.specs.Files.{HasForgery, IsBeginning, IsBetween, Reads, file_of}

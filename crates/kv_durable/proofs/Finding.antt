@@ -13,7 +13,7 @@ use Rattle.kv_model.specs.Configuration.{Configuration, IsLegal, configure, has_
 use Rattle.kv_model.specs.State.{empty}
 use Rattle.kv_store.specs.Stored.{Stored}
 use Rattle.kv_single.specs.Held.{Bucketed, Represents}
-use Rattle.kv_journal.specs.Beginning.{beginning}
+use Rattle.kv_journal.specs.Header.{beginning}
 use Rattle.kv_journal.specs.Damage.{ShowsDamage}
 use Rattle.kv_journal.specs.Entries.{Entry, acts_of}
 use Rattle.kv_durable.specs.Durables.{IsAt, state_of}
@@ -21,7 +21,7 @@ use Rattle.kv_durable.specs.Files.{Reads, file_of}
 use Rattle.kv_durable.specs.Journals.{CanFollow, Keeps}
 use Rattle.kv_durable.specs.Openings.{IsFound, IsNew, IsReopened, LeavesBytes}
 use Rattle.kv_durable.specs.declared.durable.Durable.{Durable}
-use Rattle.kv_durable.specs.declared.opening.Found.{Found}
+use Rattle.kv_durable.specs.declared.open.Found.{Found}
 use Rattle.kv_durable.specs.declared.error.DurableError.{DurableError}
 
 -- a legal configuration is not refused

@@ -1,7 +1,7 @@
 pub mod Once
 pub mod Bytes
 pub mod Crashing
-pub mod Recovery
+pub mod Readings
 pub mod Adding
 pub mod Recording
 pub mod Living

@@ -4,7 +4,7 @@ use Rattle.kv_frames.specs.Frames.{ArePayloads, BeginsWhole, frames}
 use Rattle.kv_frames.specs.Reading.{HasForeign}
 use Rattle.kv_model.specs.Acts.{IsPrefix}
 use Rattle.kv_model.specs.Configuration.{Configuration}
-use Rattle.kv_journal.specs.Beginning.{beginning}
+use Rattle.kv_journal.specs.Header.{beginning}
 use Rattle.kv_journal.specs.Entries.{AreLawful, Entry, payloads_of}
 
 -- a file of this seed and configuration with these entries

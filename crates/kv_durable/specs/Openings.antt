@@ -2,13 +2,13 @@
 use Rattle.std.specs.Prelude.{◌≡◌, ◌⊎◌, ℕ, Bool, List, [], ◌++◌, length, take}
 use Rattle.kv_model.specs.Configuration.{Configuration}
 use Rattle.kv_model.specs.State.{empty}
-use Rattle.kv_journal.specs.Beginning.{beginning}
+use Rattle.kv_journal.specs.Header.{beginning}
 use Rattle.kv_journal.specs.Entries.{Entry, acts_of}
 use Rattle.kv_single.specs.Held.{Represents}
 use Rattle.kv_durable.specs.Durables.{IsAt, state_of}
 use Rattle.kv_durable.specs.Files.{Reads, file_of}
 use Rattle.kv_durable.specs.declared.durable.Durable.{Durable}
-use Rattle.kv_durable.specs.declared.opening.Found.{Found}
+use Rattle.kv_durable.specs.declared.open.Found.{Found}
 
 -- A file with these bytes was opened: they are read as these entries and a rest, which was cut off. The bucket is at the state
 -- of their acts, with no watch, and at these entries, all of them on the disk.

@@ -14,9 +14,9 @@ ghost use Rattle.kv_durable.specs.Durables.{IsHanded, IsRecorded, batch_of};
 ghost use Rattle.kv_durable.specs.Journals.{IsFrameOf, is_stopped};
 ghost use Rattle.kv_durable.specs.declared.error.BatchError.TheVariants.{FileFault, Refused};
 
+use crate::acceptance::Prepared;
 use crate::durable::Durable;
 use crate::error::BatchError;
-use crate::keeping::Prepared;
 use kv_file::JournalFile;
 use kv_keys::KvError;
 use kv_model::{BatchRefused, Request};

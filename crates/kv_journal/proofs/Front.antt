@@ -7,7 +7,7 @@ use Rattle.std.proofs.lemmas.Bool.{and_parts, leb-true}
 use Rattle.kv_frames.specs.Frames.{IsPayload, BeginsWhole, frame}
 use Rattle.kv_keys.specs.Grammar.{is_name, is_name_character, has_one_to}
 use Rattle.kv_model.specs.Configuration.{Configuration, IsLegal}
-use Rattle.kv_journal.specs.Beginning.{BeginsWith, header, magic, beginning, configuration_payload}
+use Rattle.kv_journal.specs.Header.{BeginsWith, header, magic, beginning, configuration_payload}
 use Rattle.kv_journal.proofs.Saying.{same_number}
 
 -- a name has at most 64 bytes

@@ -3,5 +3,5 @@ pub mod Entries
 pub mod Says
 pub mod Replays
 pub mod Damage
-pub mod Beginning
+pub mod Header
 pub mod inside

@@ -5,8 +5,8 @@ use Rattle.kv_model.specs.Acts.{Act}
 use Rattle.kv_store.specs.Standing.{StandsFor}
 use Rattle.kv_store.specs.Stored.{Stored}
 use Rattle.kv_journal.specs.Entries.{Entry, payloads_of}
-use Rattle.kv_journal.specs.declared.replaying.ReplayError.{ReplayError}
-use Rattle.kv_journal.specs.declared.replaying.ReplayError.TheVariants as errors
+use Rattle.kv_journal.specs.declared.replays.ReplayError.{ReplayError}
+use Rattle.kv_journal.specs.declared.replays.ReplayError.TheVariants as errors
 
 -- the second version has all that the first one has, and these acts behind it
 pub record Extends (old : Stored) (acts : List Act) (new : Stored) : Type 0 where

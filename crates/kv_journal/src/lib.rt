@@ -1,16 +1,16 @@
 //! The journal of a bucket: what its file begins with, the entries that stand in it, and the version that they stand for.
 #![tactic(auto)]
 
-mod beginning;
 mod damage;
 mod decode;
 mod encode;
+mod entry;
+mod header;
 mod loose;
-mod redoing;
-mod replaying;
+mod replays;
 
-pub use beginning::{BeginningError, Begun, begin, push_beginning};
 pub use damage::shows_damage;
 pub use decode::Record;
 pub use encode::{encode_batch, encode_closed, encode_compaction, encode_request, encode_seal};
-pub use replaying::{ReplayError, Replayed, replay};
+pub use header::{BeginningError, Begun, begin, push_beginning};
+pub use replays::{ReplayError, Replayed, replay};

@@ -1,0 +1,127 @@
+//! The version that the bytes of a file stand for.
+
+ghost use Rattle.std.specs.Prelude.{◌≡◌, ◌≢◌, ◌+◌, ◌<◌, ◌≤◌, ◌^◌, [], ℕ, List, drop, length, IfErr, IfOk, IsErrOf};
+ghost use Rattle.kv_frames.specs.Frames.{Splits, place_after};
+ghost use Rattle.kv_keys.specs.Outcome.{Refuses};
+ghost use Rattle.kv_keys.specs.declared.error.KvError.{KvError as AnError};
+ghost use Rattle.kv_keys.specs.declared.error.KvError.TheVariants.{OutOfMemory};
+ghost use Rattle.kv_journal.specs.Header.{BeginsWith, beginning, configuration_payload};
+ghost use Rattle.kv_journal.specs.Damage.{ShowsDamage};
+ghost use Rattle.kv_journal.specs.Entries.{AreLawful, Entry, acts_of, payloads_of};
+ghost use Rattle.kv_model.specs.Configuration.{configure};
+ghost use Rattle.kv_store.specs.Standing.{StandsFor};
+ghost use Rattle.kv_durable.specs.Files.{Reads, file_of};
+ghost use Rattle.kv_durable.specs.Refusals.{IsDamaged};
+ghost use Rattle.kv_durable.specs.declared.error.DurableError.TheVariants.{FileBusy, FileFault, OtherBucket, Refused};
+
+use crate::error::DurableError;
+use kv_frames::Framing;
+use kv_journal::{BeginningError, Begun, ReplayError, Replayed, begin, replay, shows_damage};
+use kv_keys::KvError;
+use kv_model::Config;
+use kv_store::Version;
+use std::alloc::Global;
+
+/// What the bytes of a file stand for.
+#[derive(Drop)]
+pub struct Recovered {
+    /// The version of all acts that stand in the file.
+    pub version: Version,
+    /// How its frames are written.
+    pub framing: Framing,
+    /// Where its last whole frame ends.
+    pub place: u64,
+    /// How many bytes stand behind that.
+    pub dropped: u64,
+}
+
+// What the bytes begin with.
+fn begun_of(alloc: Global, bytes: &[u8], config: &Config) -> Result<Begun, DurableError>
+    requires { length bytes.now < 2 ^ 63 }
+    ensures ok { IfOk result (λ b. (rest : List ℕ)
+        × BeginsWith bytes.now b.framing.seed (configuration_payload config.now) rest
+        × (b.place ≡ length (beginning b.framing.seed config.now))) }
+    ensures other { IsErrOf result OtherBucket → (seed : ℕ) × (payload : List ℕ) × (rest : List ℕ)
+        × BeginsWith bytes.now seed payload rest × (payload ≢ configuration_payload config.now) }
+    ensures damaged { IfErr result (λ e. IsDamaged e → (seed : ℕ) (payload rest : List ℕ) →
+        BeginsWith bytes.now seed payload rest → ⊥) }
+    ensures err { IfErr result (λ e. (e ≢ FileFault) × (e ≢ FileBusy) × ((x : AnError) → e ≡ Refused x → x ≡ OutOfMemory)) }
+{
+    match begin(alloc, bytes, config) {
+        Ok(begun) => Ok(begun),
+        Err(BeginningError::OutOfMemory) => Err(DurableError::Refused(KvError::OutOfMemory)),
+        Err(BeginningError::NoJournal) => Err(DurableError::FileDamaged { at: 0 }),
+        Err(BeginningError::OtherBucket) => Err(DurableError::OtherBucket),
+    }
+}
+
+// What stands behind this place.
+fn behind(bytes: &[u8], place: u64) -> &[u8]
+    requires { place ≤ length bytes.now }
+    ensures { result.now ≡ drop place bytes.now }
+{
+    &bytes[place as usize..]
+}
+
+// The version that the frames behind the beginning stand for.
+fn replayed_of(
+    alloc: Global,
+    empty: Version,
+    begun: &Begun,
+    bytes: &[u8],
+) -> Result<Replayed, DurableError>
+    requires stands { StandsFor [] empty }
+    requires few { begun.now.place + length bytes.now < 2 ^ 64 }
+    ensures ok { IfOk result (λ r. (entries : List Entry) × (rest : List ℕ)
+        × Splits begun.now.framing.seed begun.now.place bytes.now (payloads_of entries) rest
+        × (r.version.config ≡ empty.config) × StandsFor (acts_of entries) r.version × AreLawful empty.config [] entries
+        × (r.place ≡ place_after begun.now.place (payloads_of entries))) }
+    ensures damaged { IfErr result (λ e. IsDamaged e → (entries : List Entry) (rest : List ℕ) →
+        AreLawful empty.config [] entries →
+        Splits begun.now.framing.seed begun.now.place bytes.now (payloads_of entries) rest → ⊥) }
+    ensures err { IfErr result (λ e. (e ≢ FileFault) × (e ≢ FileBusy) × (e ≢ OtherBucket) × ((x : AnError) → e ≡ Refused x → x ≡ OutOfMemory)) }
+{
+    match replay(alloc, empty, &begun.framing, begun.place, bytes) {
+        Ok(replayed) => Ok(replayed),
+        Err(ReplayError::OutOfMemory) => Err(DurableError::Refused(KvError::OutOfMemory)),
+        Err(ReplayError::Damaged { at }) => Err(DurableError::FileDamaged { at }),
+    }
+}
+
+/// The version that the bytes of a file stand for, where they are those of a bucket with this configuration. What stands
+/// behind the last whole frame is a torn end, as far as the bytes can tell; where they tell that it was damaged after it had
+/// come onto the disk, it is refused with its place, and so are bytes that begin no journal, and an entry that cannot stand
+/// behind those before it. It reads the bytes once, and makes each act again.
+pub fn recover(alloc: Global, config: &Config, bytes: &[u8]) -> Result<Recovered, DurableError>
+    requires { length bytes.now < 2 ^ 63 }
+    ensures ok { IfOk result (λ r. (entries : List Entry) × (rest : List ℕ) × Reads config.now bytes.now r.framing.seed entries rest
+        × (r.version.config ≡ config.now) × StandsFor (acts_of entries) r.version
+        × (r.place ≡ length (file_of r.framing.seed config.now entries)) × (r.dropped ≡ length rest)) }
+    ensures torn { IfOk result (λ r. (seed : ℕ) (entries : List Entry) (rest : List ℕ) →
+        Reads config.now bytes.now seed entries rest →
+        ShowsDamage seed (length (file_of seed config.now entries)) rest → ⊥) }
+    ensures damaged { IfErr result (λ e. IsDamaged e → (seed : ℕ) (entries : List Entry) (rest : List ℕ) →
+        Reads config.now bytes.now seed entries rest →
+        ShowsDamage seed (length (file_of seed config.now entries)) rest) }
+    ensures other { IsErrOf result OtherBucket → (seed : ℕ) × (payload : List ℕ) × (rest : List ℕ)
+        × BeginsWith bytes.now seed payload rest × (payload ≢ configuration_payload config.now) }
+    ensures refused { IfErr result (λ e. (x : AnError) → e ≡ Refused x → Refuses x (configure config.now)) }
+    ensures no_fault { IfErr result (λ e. (e ≢ FileFault) × (e ≢ FileBusy)) }
+{
+    let empty = Version::empty(alloc, config)?;
+    let begun = begun_of(alloc, bytes, config)?;
+    let entries = behind(bytes, begun.place);
+    let replayed = replayed_of(alloc, empty, &begun, entries)?;
+    let place = replayed.place;
+    let rest = behind(bytes, place);
+    if shows_damage(&begun.framing, place, rest) {
+        return Err(DurableError::FileDamaged { at: place });
+    }
+    let dropped = rest.len() as u64;
+    Ok(Recovered {
+        version: replayed.version,
+        framing: begun.framing,
+        place,
+        dropped,
+    })
+}

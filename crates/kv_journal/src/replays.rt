@@ -1,0 +1,66 @@
+//! The version that a file stands for.
+
+ghost use Rattle.std.specs.Prelude.{◌≡◌, ◌+◌, ◌<◌, ◌^◌, ℕ, List, length, IfErr, IfOk};
+ghost use Rattle.kv_frames.specs.Frames.{Splits, place_after};
+ghost use Rattle.kv_model.specs.Acts.{Act};
+ghost use Rattle.kv_store.specs.Standing.{StandsFor};
+ghost use Rattle.kv_journal.specs.Entries.{AreLawful, Entry, acts_of, payloads_of};
+ghost use Rattle.kv_journal.specs.Replays.{Extends, IsDamaged, TellsWhere};
+
+use crate::entry::redo;
+use kv_frames::Framing;
+use kv_store::Version;
+use std::alloc::Global;
+
+/// Why the entries of a file were refused.
+#[derive(Clone, Copy, Debug, PartialEq, Eq)]
+pub enum ReplayError {
+    /// A request for memory was refused.
+    OutOfMemory,
+    /// The frame at this place has its right checksum, and tells nothing that can stand behind the entries before it.
+    Damaged { at: u64 },
+}
+
+/// The version that a file stands for, and where its last whole frame ends.
+#[derive(Drop)]
+pub struct Replayed {
+    pub version: Version,
+    pub place: u64,
+}
+
+/// Does again, from this version on, what the entries tell whose frames stand in the bytes, up to the first frame that is
+/// not whole. The first begins at this place of the file.
+pub fn replay(
+    alloc: Global,
+    version: Version,
+    framing: &Framing,
+    at: u64,
+    bytes: &[u8],
+) -> Result<Replayed, ReplayError>
+    requires { at + length bytes.now < 2 ^ 64 }
+    // The bytes are the frames of these entries, and of no others, and the version goes on by just their acts.
+    ensures ok { IfOk result (λ r. (entries : List Entry) × (rest : List ℕ)
+        × Splits framing.now.seed at bytes.now (payloads_of entries) rest
+        × Extends version (acts_of entries) r.version
+        × ((before : List Act) → StandsFor before version → AreLawful version.config before entries)
+        × (r.place ≡ place_after at (payloads_of entries))) }
+    // A file of entries that could be added is not refused as damaged.
+    ensures damaged { IfErr result (λ e. IsDamaged e → (before : List Act) (entries : List Entry) (rest : List ℕ) →
+        StandsFor before version → AreLawful version.config before entries →
+        Splits framing.now.seed at bytes.now (payloads_of entries) rest → ⊥) }
+    ensures place { IfErr result (λ e. TellsWhere framing.now.seed at bytes.now e) }
+{
+    let mut version = version;
+    let mut place = at;
+    let mut rest = bytes;
+    while let Some((payload, after)) = framing.frame_at(place, rest) {
+        match redo(alloc, &mut version, payload) {
+            Ok(true) => {}
+            Ok(false) => return Err(ReplayError::Damaged { at: place }),
+            Err(_) => return Err(ReplayError::OutOfMemory),
+        }
+        place += 8 + payload.len() as u64;
+        rest = after;
+    }
+    Ok(Replayed { version, place })
+}
