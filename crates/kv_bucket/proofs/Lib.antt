@@ -1,6 +1,7 @@
 pub mod Feeds
 pub mod Follow
 pub mod Keeping
+pub mod Numbers
 pub mod Going
 pub mod Histories
 pub mod Once

@@ -18,6 +18,7 @@ use Rattle.kv_bucket.specs.contracts.progress.Progress as Progress
 use Rattle.kv_bucket.specs.contracts.publisher.Publisher as Publisher
 use Rattle.kv_bucket.specs.contracts.reader.Reader as Reader
 use Rattle.kv_bucket.specs.contracts.receipt.Receipt as Receipt
+use Rattle.kv_bucket.specs.contracts.threaded.Seat as Seat
 use Rattle.kv_publish.proofs.prefix.Prefix.TheSendSync as prefix
 use Rattle.left_right.proofs.reader.Reader.TheSendSync as slot
 use Rattle.kv_single.specs.contracts.bucket.Bucket as Bucket
@@ -63,3 +64,6 @@ module _ (N : RattleType) (g : live_name.Ghosts N.Denot) (s : IsSend N) (y : IsS
 
   pub live_sync : IsSync (Live.the_row N g)
   live_sync = let k = keeper_send in let b = notifier_sync N g s y in search (sendable, crosses) depth 20
+
+  pub seat_send : IsSend (Seat.the_row N g)
+  seat_send = let r = reader_send in search (sendable, crosses) depth 20

@@ -5,4 +5,5 @@ pub mod Keeping
 pub mod Known
 pub mod Owed
 pub mod Receipts
+pub mod Serving
 pub mod inside

@@ -13,6 +13,7 @@ mod publisher;
 mod reader;
 mod receipt;
 mod serve;
+mod threaded;
 
 pub use batch::BatchReceipt;
 pub use cached::Cached;
@@ -28,3 +29,4 @@ pub use live::{Live, Opened};
 pub use reader::Reader;
 pub use receipt::{Mark, Receipt};
 pub use serve::Service;
+pub use threaded::ThreadedService;

@@ -16,8 +16,9 @@ use std::alloc::Global;
 use std::marker::Brand;
 use std::sync::Wait;
 
-/// What runs on a bucket of its own, by `Live::serve`. `R` is the runtime, bounded by what the service does with it:
-/// `Threads + Wait + Sync` where it starts threads.
+/// What runs on a bucket of its own, by `Live::serve`, on the thread that calls: it may write, read and watch. Of threads
+/// of its own see `ThreadedService`. `R` is the runtime, bounded by what the service does with it: `Wait` where it writes
+/// or sleeps.
 pub trait Service<R>: Drop {
     /// What it answers in the end.
     type Answer;
@@ -27,21 +28,15 @@ pub trait Service<R>: Drop {
     ghost answers: { Self → Configuration → ℕ → Self.Answer → Type 0 } = { λ service config readers answer. Unit {0} };
 
     /// Runs on a bucket that was just opened, under a name that nothing else has: neither the bucket nor a reader, a
-    /// feed or a receipt of it can get out. The readers, 1 to 32, have seen nothing, and there is nothing to see. Call
-    /// `finish` for the threads that sleep in a wait, before they are joined.
-    fn run<N: LiveName + Send + Sync>(
-        self,
-        rt: &R,
-        live: &Live<N>,
-        readers: Vec<Reader<N>>,
-    ) -> Self::Answer
+    /// feed or a receipt of it can get out. The readers, 1 to 32, have seen nothing, and there is nothing to see.
+    fn run<N: LiveName>(self, rt: &R, live: &Live<N>, readers: Vec<Reader<N>>) -> Self::Answer
         requires count { (0 < length readers.items) × (length readers.items ≤ 32) }
         requires fresh { All (λ reader. (reader.seen ≡ []) × (reader.told ≡ [])) readers.items }
         ensures { answers self N.opening.config (length readers.items) result };
 }
 
 // Runs the service on the opening, under its name.
-fn serve_on<N: LiveName + Send + Sync, R: Wait, S: Service<R>>(
+fn serve_on<N: LiveName, R: Wait, S: Service<R>>(
     rt: &R,
     opened: Opened,
     service: S,

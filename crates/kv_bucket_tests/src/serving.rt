@@ -1,12 +1,14 @@
-//! A bucket for as long as a service runs: the readers that this is handed, and what is refused.
+//! A bucket for as long as a service runs: the readers that this is handed, its leader and followers, and what is
+//! refused.
 
 ghost use Rattle.std.specs.Prelude.{◌≡◌, IfOk};
 
 use crate::equal::equal;
-use kv_bucket::{Config, KvError, Live, LiveName, Reader, Service};
+use kv_bucket::{Config, Key, KvError, Live, LiveName, Reader, Request, Service, ThreadedService};
 use std::alloc::Global;
 use std::sync::Wait;
 use std::test::Fail;
+use std::thread::Threads;
 
 // Answers how many readers it was handed.
 #[derive(Drop)]
@@ -17,12 +19,7 @@ impl<R> Service<R> for CountReaders {
 
     ghost answers = { λ service config readers answer. answer ≡ readers };
 
-    fn run<N: LiveName + Send + Sync>(
-        self,
-        _rt: &R,
-        _live: &Live<N>,
-        readers: Vec<Reader<N>>,
-    ) -> usize {
+    fn run<N: LiveName>(self, _rt: &R, _live: &Live<N>, readers: Vec<Reader<N>>) -> usize {
         readers.len()
     }
 }
@@ -50,6 +47,77 @@ fn a_service_has_all_its_readers(rt: HostRuntime) -> Result<(), Fail> {
     for (history, readers, wanted) in SERVICES {
         let found = match handed(&rt, rt.alloc(), *history, *readers) {
             Err(KvError::OutOfMemory) => handed(&rt, rt.alloc(), *history, *readers),
+            found => found,
+        };
+        equal(&rt, found, *wanted);
+    }
+    Ok(())
+}
+
+// The leader writes. Each follower waits for that, and answers its number and the revision that it saw.
+#[derive(Drop)]
+struct WriteAndSee {
+    alloc: Global,
+}
+
+impl<R: Wait> ThreadedService<R> for WriteAndSee {
+    type Answer = Result<u64, KvError>;
+
+    type Followed = Result<(usize, u64), KvError>;
+
+    ghost follows = { λ service config number answer. IfOk answer (λ a. a.0 ≡ number) };
+
+    fn lead<N: LiveName>(&self, rt: &R, live: &Live<N>) -> Result<u64, KvError> {
+        let key = Key::parse(self.alloc, "app.port")?;
+        let value = Vec::new(self.alloc);
+        live.write(rt, &Request::Put { key, value })
+    }
+
+    fn follow<N: LiveName>(
+        &self,
+        rt: &R,
+        number: usize,
+        _live: &Live<N>,
+        mut reader: Reader<N>,
+    ) -> Result<(usize, u64), KvError> {
+        match reader.wait_for(rt, 1)? {
+            Some(version) => Ok((number, version.revision())),
+            None => Ok((number, 0)),
+        }
+    }
+}
+
+// How many followers in a row saw the write, each under its own number.
+fn in_a_row(followed: Vec<Result<(usize, u64), KvError>>) -> Result<usize, KvError> {
+    let mut count = 0_usize;
+    for answer in followed {
+        if answer? != (count, 1) {
+            break;
+        }
+        count = count.saturating_add(1);
+    }
+    Ok(count)
+}
+
+fn followed<R: Threads + Wait + Sync>(
+    rt: &R,
+    alloc: Global,
+    history: u64,
+    readers: usize,
+) -> Result<usize, KvError> {
+    let mut config = Config::named(alloc, "settings")?;
+    config.history = history;
+    let service = WriteAndSee { alloc };
+    let (led, followed) = Live::serve_threaded(rt, alloc, &config, readers, &service)?;
+    led?;
+    in_a_row(followed)
+}
+
+#[test]
+fn each_reader_has_a_follower_that_sees_what_the_leader_wrote(rt: HostRuntime) -> Result<(), Fail> {
+    for (history, readers, wanted) in SERVICES {
+        let found = match followed(&rt, rt.alloc(), *history, *readers) {
+            Err(KvError::OutOfMemory) => followed(&rt, rt.alloc(), *history, *readers),
             found => found,
         };
         equal(&rt, found, *wanted);

@@ -1,15 +1,12 @@
 //! Many clients of one reader: each has a cursor of its own, and all of them are served from the versions that the
 //! reader shows.
 
-ghost use Rattle.std.specs.Prelude.{◌≡◌};
-
 use super::*;
 use kv_bucket::{
-    Config, Filters, Key, KvError, Live, LiveName, Opened, Options, Reader, Request, Start, Taken,
+    Config, Filters, Key, KvError, Live, LiveName, Options, Reader, Request, Service, Start, Taken,
     Version,
 };
 use kv_watch::Cursor;
-use std::marker::Brand;
 use std::sync::Wait;
 
 const UPDATES: Options = Options {
@@ -74,30 +71,30 @@ fn one_write_for_all<N: LiveName, R: Wait>(
     Ok(markers.saturating_add(serve_all(&mut clients, &now)))
 }
 
-fn with_one_reader<N: LiveName, R: Wait>(
-    rt: &R,
+#[derive(Drop)]
+struct HundredClients {
     alloc: Global,
-    live: &Live<N>,
-    mut readers: Vec<Reader<N>>,
-) -> Result<u64, KvError> {
-    match readers.pop() {
-        Some(mut reader) => one_write_for_all(rt, alloc, live, &mut reader),
-        None => Err(KvError::NoReader),
+}
+
+impl<R: Wait> Service<R> for HundredClients {
+    type Answer = Result<u64, KvError>;
+
+    fn run<N: LiveName>(
+        self,
+        rt: &R,
+        live: &Live<N>,
+        mut readers: Vec<Reader<N>>,
+    ) -> Result<u64, KvError> {
+        match readers.pop() {
+            Some(mut reader) => one_write_for_all(rt, self.alloc, live, &mut reader),
+            None => Err(KvError::NoReader),
+        }
     }
 }
 
-fn served<N: LiveName, R: Wait>(rt: &R, alloc: Global, opened: Opened) -> Result<u64, KvError>
-    requires { opened.opening ≡ N.opening }
-{
-    let (live, readers) = opened.live::<N, R>(rt)?;
-    let done = with_one_reader(rt, alloc, &live, readers);
-    live.close(rt);
-    done
-}
-
 fn hundred_clients<R: Wait>(rt: &R, alloc: Global) -> Result<u64, KvError> {
-    let opened = Live::open(alloc, &Config::named(alloc, "settings")?, 1)?;
-    served::<Brand, R>(rt, alloc, opened)
+    let config = Config::named(alloc, "settings")?;
+    Live::serve(rt, alloc, &config, 1, HundredClients { alloc })?
 }
 
 #[test]

@@ -1,14 +1,11 @@
 //! A service that compacts: where its bucket is full, as far as the watches under the lock allow. A feed that was too
 //! slow for that begins anew.
 
-ghost use Rattle.std.specs.Prelude.{◌≡◌};
-
 use super::*;
 use kv_bucket::{
-    Config, Feed, Filters, Key, KvError, Live, LiveName, Opened, Options, Reader, Request, Start,
+    Config, Feed, Filters, Key, KvError, Live, LiveName, Options, Reader, Request, Service, Start,
     Taken,
 };
-use std::marker::Brand;
 use std::sync::Wait;
 
 const LATEST: Options = Options {
@@ -89,50 +86,42 @@ fn five_writes_of_three<N: LiveName, R: Wait + Abort>(
     rt: &R,
     alloc: Global,
     live: &Live<N>,
-    filters: &Filters,
     reader: Reader<N>,
 ) -> Result<(), KvError> {
-    let feed = watch(reader, filters)?;
+    let filters = Filters::parse(alloc, "app.>")?;
+    let feed = watch(reader, &filters)?;
     write_some(rt, alloc, live, 5)?;
 
-    let mut feed = go_on(feed, filters)?;
+    let mut feed = go_on(feed, &filters)?;
     hands_out_the_last(rt, &mut feed);
     Ok(())
 }
 
-fn with_a_reader<N: LiveName, R: Wait + Abort>(
-    rt: &R,
+#[derive(Drop)]
+struct Compacts {
     alloc: Global,
-    live: &Live<N>,
-    filters: &Filters,
-    mut readers: Vec<Reader<N>>,
-) -> Result<(), KvError> {
-    match readers.pop() {
-        Some(reader) => five_writes_of_three(rt, alloc, live, filters, reader),
-        None => Err(KvError::NoReader),
+}
+
+impl<R: Wait + Abort> Service<R> for Compacts {
+    type Answer = Result<(), KvError>;
+
+    fn run<N: LiveName>(
+        self,
+        rt: &R,
+        live: &Live<N>,
+        mut readers: Vec<Reader<N>>,
+    ) -> Result<(), KvError> {
+        match readers.pop() {
+            Some(reader) => five_writes_of_three(rt, self.alloc, live, reader),
+            None => Err(KvError::NoReader),
+        }
     }
 }
 
-fn served<N: LiveName, R: Wait + Abort>(
-    rt: &R,
-    alloc: Global,
-    filters: &Filters,
-    opened: Opened,
-) -> Result<(), KvError>
-    requires { opened.opening ≡ N.opening }
-{
-    let (live, readers) = opened.live::<N, R>(rt)?;
-    let done = with_a_reader(rt, alloc, &live, filters, readers);
-    live.close(rt);
-    done
-}
-
 fn compacted<R: Wait + Abort>(rt: &R, alloc: Global) -> Result<(), KvError> {
-    let filters = Filters::parse(alloc, "app.>")?;
     let mut config = Config::named(alloc, "settings")?;
     config.write_limit = 3;
-    let opened = Live::open(alloc, &config, 1)?;
-    served::<Brand, R>(rt, alloc, &filters, opened)
+    Live::serve(rt, alloc, &config, 1, Compacts { alloc })?
 }
 
 #[test]

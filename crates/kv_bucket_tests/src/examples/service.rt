@@ -1,20 +1,10 @@
-//! A service: a writer, two followers that sleep in `next`, and a clean end: `finish`, the followers' end, `close`.
+//! A service: a writer, two followers that sleep in `next`, and a clean end.
 
-ghost use Rattle.std.specs.Prelude.{◌≡◌};
-
-use super::threads::{feeds, write_three};
+use super::threads::{feed_of, write_three};
 use super::*;
-use kv_bucket::{Config, Feed, KvError, Live, LiveName, Opened, Taken};
-use std::marker::Brand;
+use kv_bucket::{Config, Feed, Filters, KvError, Live, LiveName, Reader, Taken, ThreadedService};
 use std::sync::Wait;
-use std::thread::{Threads, join};
-
-// Writes, and tells the followers that this was all.
-fn serve<N: LiveName, R: Wait>(rt: &R, alloc: Global, live: &Live<N>) -> Result<u64, KvError> {
-    let done = write_three(rt, alloc, live);
-    live.finish();
-    done
-}
+use std::thread::Threads;
 
 // Takes all, to the end, and sleeps where there is nothing yet.
 fn take_all<N: LiveName, R: Wait>(rt: &R, feed: &mut Feed<N>) -> Result<u64, KvError> {
@@ -28,55 +18,58 @@ fn take_all<N: LiveName, R: Wait>(rt: &R, feed: &mut Feed<N>) -> Result<u64, KvE
     unreachable!()
 }
 
-fn follow<N: LiveName, R: Wait>(rt: &R, mut feed: Feed<N>) -> Result<u64, KvError> {
-    take_all(rt, &mut feed)
-}
-
-fn serve_one<N: LiveName + Send + Sync, R: Threads + Wait + Sync>(
-    rt: &R,
+#[derive(Drop)]
+struct Settings {
     alloc: Global,
-    live: &Live<N>,
-    feed: Feed<N>,
-) -> Result<u64, KvError> {
-    let (followed, served) = join(rt, || follow(rt, feed), || serve(rt, alloc, live));
-    served?;
-    followed
 }
 
-fn serve_both<N: LiveName + Send + Sync, R: Threads + Wait + Sync>(
-    rt: &R,
-    alloc: Global,
-    live: &Live<N>,
-    one: Feed<N>,
-    two: Feed<N>,
-) -> Result<(u64, u64), KvError> {
-    let (followed, served) = join(rt, || follow(rt, one), || serve_one(rt, alloc, live, two));
-    Ok((followed?, served?))
+impl<R: Wait> ThreadedService<R> for Settings {
+    type Answer = Result<u64, KvError>;
+
+    type Followed = Result<u64, KvError>;
+
+    // Writes.
+    fn lead<N: LiveName>(&self, rt: &R, live: &Live<N>) -> Result<u64, KvError> {
+        write_three(rt, self.alloc, live)
+    }
+
+    // Follows, and answers how many items it was handed.
+    fn follow<N: LiveName>(
+        &self,
+        rt: &R,
+        _number: usize,
+        _live: &Live<N>,
+        reader: Reader<N>,
+    ) -> Result<u64, KvError> {
+        let filters = Filters::parse(self.alloc, "app.>")?;
+        let mut feed = feed_of(reader, &filters)?;
+        take_all(rt, &mut feed)
+    }
 }
 
-fn opened_and_served<N: LiveName + Send + Sync, R: Threads + Wait + Sync>(
-    rt: &R,
-    alloc: Global,
-    opened: Opened,
-) -> Result<(u64, u64), KvError>
-    requires { opened.opening ≡ N.opening }
-{
-    let (live, mut readers) = opened.live::<N, R>(rt)?;
-    let done = match feeds(alloc, &mut readers) {
-        Ok((one, two)) => serve_both(rt, alloc, &live, one, two),
-        Err(refusal) => Err(refusal),
-    };
-    live.close(rt);
-    done
+// How many items both followers were handed.
+fn service<R: Threads + Wait + Sync>(rt: &R, alloc: Global) -> Result<u64, KvError> {
+    let config = Config::named(alloc, "settings")?;
+    let settings = Settings { alloc };
+    let (written, followed) = Live::serve_threaded(rt, alloc, &config, 2, &settings)?;
+    written?;
+    total(followed)
 }
 
-fn service<R: Threads + Wait + Sync>(rt: &R, alloc: Global) -> Result<(u64, u64), KvError> {
-    let opened = Live::open(alloc, &Config::named(alloc, "settings")?, 2)?;
-    opened_and_served::<Brand, R>(rt, alloc, opened)
+fn total(followed: Vec<Result<u64, KvError>>) -> Result<u64, KvError> {
+    let mut total = 0_u64;
+    for handed in followed {
+        total = total.saturating_add(handed?);
+    }
+    Ok(total)
 }
 
 #[test]
 fn a_service_with_two_followers(rt: HostRuntime) -> Result<(), Fail> {
-    assert_eq!(rt; service(&rt, rt.alloc())?, (3, 3));
+    let handed = match service(&rt, rt.alloc()) {
+        Err(KvError::OutOfMemory) => service(&rt, rt.alloc())?,
+        done => done?,
+    };
+    assert_eq!(rt; handed, 6);
     Ok(())
 }

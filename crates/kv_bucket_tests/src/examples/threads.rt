@@ -89,19 +89,14 @@ fn feed<N: LiveName>(alloc: Global, readers: &mut Vec<Reader<N>>) -> Result<Feed
     }
 }
 
-fn feed_of<N: LiveName>(reader: Reader<N>, filters: &Filters) -> Result<Feed<N>, KvError> {
+pub(crate) fn feed_of<N: LiveName>(
+    reader: Reader<N>,
+    filters: &Filters,
+) -> Result<Feed<N>, KvError> {
     match reader.watch_from_empty(filters, LATEST) {
         Ok(feed) => Ok(feed),
         Err((_, refusal)) => Err(refusal),
     }
-}
-
-pub(crate) fn feeds<N: LiveName>(
-    alloc: Global,
-    readers: &mut Vec<Reader<N>>,
-) -> Result<(Feed<N>, Feed<N>), KvError> {
-    let one = feed(alloc, readers)?;
-    Ok((one, feed(alloc, readers)?))
 }
 
 fn shared_by_two<N: LiveName + Send + Sync, R: Threads + Wait + Sync>(
