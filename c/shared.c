@@ -452,11 +452,11 @@ uint64_t kv_shared_history(kv_shared *shared, const uint8_t *key, size_t key_siz
                  : leave(shared, core, kv_history(&core->bucket, key, key_size, index, room, room_size, item, count));
 }
 
-uint64_t kv_shared_keys(kv_shared *shared, const uint8_t *filter, size_t filter_size, uint8_t *room, size_t room_size,
+uint64_t kv_shared_keys(kv_shared *shared, const uint8_t *filters, size_t filters_size, uint8_t *room, size_t room_size,
                         size_t *size, size_t *count) {
     struct core *core = enter(shared);
     return !core ? KV_CLOSED
-                 : leave(shared, core, kv_keys(&core->bucket, filter, filter_size, room, room_size, size, count));
+                 : leave(shared, core, kv_keys(&core->bucket, filters, filters_size, room, room_size, size, count));
 }
 
 uint64_t kv_shared_get_status(kv_shared *shared, kv_status *status) {
@@ -584,11 +584,11 @@ uint64_t kv_reader_history(kv_reader *handle, const uint8_t *key, size_t key_siz
     return view ? kv_view_history(view, key, key_size, index, room, room_size, item, count) : code;
 }
 
-uint64_t kv_reader_keys(kv_reader *handle, const uint8_t *filter, size_t filter_size, uint8_t *room, size_t room_size,
+uint64_t kv_reader_keys(kv_reader *handle, const uint8_t *filters, size_t filters_size, uint8_t *room, size_t room_size,
                         size_t *size, size_t *count) {
     uint64_t code;
     kv_view *view = refreshed(handle, &code);
-    return view ? kv_view_keys(view, filter, filter_size, room, room_size, size, count) : code;
+    return view ? kv_view_keys(view, filters, filters_size, room, room_size, size, count) : code;
 }
 
 uint64_t kv_reader_get_status(kv_reader *handle, kv_status *status) {

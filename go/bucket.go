@@ -143,9 +143,10 @@ func (b *Bucket) Keys(opts ...WatchOpt) ([]string, error) {
 	return b.KeysMatching(AllKeys)
 }
 
-// KeysMatching are those that a filter matches. ErrBadFilter.
-func (b *Bucket) KeysMatching(filter string) ([]string, error) {
-	return b.keys(ofBucket, b.shared, filter)
+// KeysMatching are those that a filter matches, or one of up to 16 filters with a comma between two: each once, in the same order.
+// ErrBadFilter.
+func (b *Bucket) KeysMatching(filters string) ([]string, error) {
+	return b.keys(ofBucket, b.shared, filters)
 }
 
 // History are the retained entries of the key, oldest first. ErrBadKey, ErrKeyNotFound where there are none.

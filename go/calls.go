@@ -91,11 +91,11 @@ static vg_told vg_get_at(int of, uintptr_t at, _GoString_ key, uint64_t asked, u
                           : kv_view_get_at((kv_view *)at, BYTES(key), asked, room, room_size, &told.size, &told.number);
     return told;
 }
-static vg_told vg_keys(int of, uintptr_t at, _GoString_ filter, uint8_t *room, size_t room_size) {
+static vg_told vg_keys(int of, uintptr_t at, _GoString_ filters, uint8_t *room, size_t room_size) {
     vg_told told = {0};
-    told.code = of == OF_BUCKET   ? kv_shared_keys(SHARED, BYTES(filter), room, room_size, &told.size, &told.count)
-                : of == OF_READER ? kv_reader_keys((kv_reader *)at, BYTES(filter), room, room_size, &told.size, &told.count)
-                                  : kv_view_keys((kv_view *)at, BYTES(filter), room, room_size, &told.size, &told.count);
+    told.code = of == OF_BUCKET   ? kv_shared_keys(SHARED, BYTES(filters), room, room_size, &told.size, &told.count)
+                : of == OF_READER ? kv_reader_keys((kv_reader *)at, BYTES(filters), room, room_size, &told.size, &told.count)
+                                  : kv_view_keys((kv_view *)at, BYTES(filters), room, room_size, &told.size, &told.count);
     return told;
 }
 typedef struct { uint64_t code; kv_status status; } vg_status;
@@ -256,11 +256,11 @@ func (b *Bucket) getAt(of C.int, it *handle, key string, revision uint64) (KeyVa
 	})
 }
 
-func (b *Bucket) keys(of C.int, it *handle, filter string) ([]string, error) {
+func (b *Bucket) keys(of C.int, it *handle, filters string) ([]string, error) {
 	defer runtime.KeepAlive(it)
 	room := make([]byte, smallRoom)
 	for {
-		told := C.vg_keys(of, it.at, filter, start(room), C.size_t(len(room)))
+		told := C.vg_keys(of, it.at, filters, start(room), C.size_t(len(room)))
 		if told.code == 0 {
 			keys := make([]string, 0, told.count)
 			for _, key := range bytes.SplitN(room[:told.size], []byte{0}, int(told.count)+1)[:told.count] {

@@ -59,11 +59,12 @@ func (m *moment) GetRevision(key string, revision uint64) (KeyValueEntry, error)
 	return m.bucket.getAt(ofHandle(m.of), m.at, key, revision)
 }
 
-// KeysMatching are the keys that a filter matches and that have a value, in the order of their last puts. ErrBadFilter.
-func (m *moment) KeysMatching(filter string) ([]string, error) {
+// KeysMatching are the keys that a filter matches, or one of up to 16 filters with a comma between two, and that have a value: each
+// once, in the order of their last puts. ErrBadFilter.
+func (m *moment) KeysMatching(filters string) ([]string, error) {
 	m.lock.Lock()
 	defer m.lock.Unlock()
-	return m.bucket.keys(ofHandle(m.of), m.at, filter)
+	return m.bucket.keys(ofHandle(m.of), m.at, filters)
 }
 
 // Numbers tells the numbers of the bucket; of held watches it tells none.

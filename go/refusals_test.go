@@ -56,10 +56,10 @@ func TestATextThatIsNoFilterIsRefusedByEveryCall(t *testing.T) {
 		refusedAs(t, err, ErrBadFilter)
 		_, err = b.Hold(filters)
 		refusedAs(t, err, ErrBadFilter)
+		_, err = b.KeysMatching(filters)
+		refusedAs(t, err, ErrBadFilter)
 	}
-	_, err := b.KeysMatching("a,b")
-	refusedAs(t, err, ErrBadFilter)
-	_, err = b.Watch("a", IncludeHistory(), UpdatesOnly())
+	_, err := b.Watch("a", IncludeHistory(), UpdatesOnly())
 	refusedAs(t, err, ErrOptionsClash)
 	_, err = b.Hold("a", FromRevision(1), IncludeHistory())
 	refusedAs(t, err, ErrOptionsClash)

@@ -168,9 +168,10 @@ uint64_t kv_history(kv_bucket *bucket, const uint8_t *key, size_t key_size, size
                     size_t room_size, kv_item *item, size_t *count);
 uint64_t kv_get_status(kv_bucket *bucket, kv_status *status);
 
-/* The keys that a filter matches and that have a value, in the order of their last puts, each with a zero byte behind
- * it. *count tells how many they are, and *size how many bytes, also where there is too little room. */
-uint64_t kv_keys(kv_bucket *bucket, const uint8_t *filter, size_t filter_size, uint8_t *room, size_t room_size,
+/* The keys that one of the filters matches and that have a value, each once, in the order of their last puts, with a
+ * zero byte behind it. The filters stand with a comma between two. *count tells how many keys they are, and *size how
+ * many bytes, also where there is too little room. */
+uint64_t kv_keys(kv_bucket *bucket, const uint8_t *filters, size_t filters_size, uint8_t *room, size_t room_size,
                  size_t *size, size_t *count);
 
 /* The filters stand with a comma between two. */
@@ -189,7 +190,7 @@ uint64_t kv_view_get_at(kv_view *view, const uint8_t *key, size_t key_size, uint
                         size_t room_size, size_t *size, uint64_t *revision);
 uint64_t kv_view_history(kv_view *view, const uint8_t *key, size_t key_size, size_t index, uint8_t *room,
                          size_t room_size, kv_item *item, size_t *count);
-uint64_t kv_view_keys(kv_view *view, const uint8_t *filter, size_t filter_size, uint8_t *room, size_t room_size,
+uint64_t kv_view_keys(kv_view *view, const uint8_t *filters, size_t filters_size, uint8_t *room, size_t room_size,
                       size_t *size, size_t *count);
 /* A view has no watches. */
 uint64_t kv_view_get_status(kv_view *view, kv_status *status);

@@ -117,7 +117,7 @@ uint64_t kv_shared_get_at(kv_shared *shared, const uint8_t *key, size_t key_size
                           size_t room_size, size_t *size, uint64_t *revision);
 uint64_t kv_shared_history(kv_shared *shared, const uint8_t *key, size_t key_size, size_t index, uint8_t *room,
                            size_t room_size, kv_item *item, size_t *count);
-uint64_t kv_shared_keys(kv_shared *shared, const uint8_t *filter, size_t filter_size, uint8_t *room, size_t room_size,
+uint64_t kv_shared_keys(kv_shared *shared, const uint8_t *filters, size_t filters_size, uint8_t *room, size_t room_size,
                         size_t *size, size_t *count);
 uint64_t kv_shared_get_status(kv_shared *shared, kv_status *status);
 
@@ -149,7 +149,7 @@ uint64_t kv_reader_get_at(kv_reader *reader, const uint8_t *key, size_t key_size
                           size_t room_size, size_t *size, uint64_t *revision);
 uint64_t kv_reader_history(kv_reader *reader, const uint8_t *key, size_t key_size, size_t index, uint8_t *room,
                            size_t room_size, kv_item *item, size_t *count);
-uint64_t kv_reader_keys(kv_reader *reader, const uint8_t *filter, size_t filter_size, uint8_t *room, size_t room_size,
+uint64_t kv_reader_keys(kv_reader *reader, const uint8_t *filters, size_t filters_size, uint8_t *room, size_t room_size,
                         size_t *size, size_t *count);
 /* A view has no watches, so `watches` is 0. */
 uint64_t kv_reader_get_status(kv_reader *reader, kv_status *status);

@@ -3,7 +3,7 @@
 import base64, json, re
 from typing import Any, Callable, Optional, Union
 
-from vilgoued import BadFilter, Entry, KeyNotFound, KvError, NoSuchWatch
+from vilgoued import Entry, KeyNotFound, KvError, NoSuchWatch
 
 from tests.worked import Script
 
@@ -192,10 +192,8 @@ class Session:
             raise KeyNotFound()
         return {"entries": [self.shown(entry) for entry in entries]}
 
-    def keys(self, filter: str) -> Told:
-        if "," in filter:
-            raise BadFilter()
-        return {"keys": self.bucket.keys(filter)}
+    def keys(self, filters: str) -> Told:
+        return {"keys": self.bucket.keys(filters)}
 
     def watch(self, filters: str, words: str) -> Told:
         asked = words.split()

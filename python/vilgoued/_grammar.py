@@ -45,5 +45,5 @@ def filter_of(text: Name) -> str:
 def filters_of(text: Name) -> List[str]:
     parts = name_of(text).split(b",")
     if len(parts) > 16:
-        raise BadFilter("a list has at most 16 filters: open another watch for the rest")
+        raise BadFilter("a list has at most 16 filters: ask once more for the rest")
     return [filter_of(part) for part in parts]

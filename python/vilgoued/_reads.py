@@ -50,7 +50,8 @@ class Reads(Finds, Closing):
             give_back(used)
 
     def keys(self, filter: Name = ">") -> List[str]:
-        """The keys that match and have a value, in the order of their last puts."""
+        """The keys that a filter matches, or one of several filters with a comma between two, and that have a value: each once,
+        in the order of their last puts."""
         name, kept = name_of(filter), room()
         try:
             used = kept

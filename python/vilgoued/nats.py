@@ -29,7 +29,7 @@ from ._closing import Closing
 from ._connection import Bell, Connection
 from ._finding import Finds
 from ._following import Following
-from ._grammar import bucket_of, filter_of, filters_of, is_key, key_of
+from ._grammar import bucket_of, filters_of, is_key, key_of
 from ._items import MARKER, Entry, Item, Marker, Op, Status, Value
 from ._mirror import Mirror
 from .refusals import (
@@ -265,8 +265,9 @@ class Bucket(Finds, Closing):
         return entries[-self._history:]
 
     def keys(self, filter: Name = ">") -> List[str]:
-        """The keys that match and have a value, in the order of their last puts."""
-        wanted = self._written(filter_of(filter))
+        """The keys that a filter matches, or one of several filters with a comma between two, and that have a value: each once,
+        in the order of their last puts."""
+        wanted = {key for part in filters_of(filter) for key in self._written(part)}
         entries = [entry for entry in map(self._last, wanted) if entry is not None and entry.op == "PUT"]
         return [entry.key for entry in sorted(entries, key=_revision_of)]
 

@@ -118,9 +118,10 @@ impl Bucket {
         self.snapshot()?.history(key)
     }
 
-    /// The keys that the filter matches and that have a value, in the order of their last puts. BadFilter.
-    pub fn keys(&self, filter: &str) -> Result<Vec<String>, Error> {
-        self.shared.reads().keys(filter)
+    /// The keys that a filter matches, or one of up to 16 filters with a comma between two, and that have a value: each once,
+    /// in the order of their last puts. BadFilter.
+    pub fn keys(&self, filters: &str) -> Result<Vec<String>, Error> {
+        self.shared.reads().keys(filters)
     }
 
     /// The numbers of the bucket.

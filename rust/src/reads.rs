@@ -52,9 +52,10 @@ impl Reader {
         sys::View::open(&self.shared)?.history(key)
     }
 
-    /// The keys that the filter matches and that have a value, in the order of their last puts. BadFilter.
-    pub fn keys(&self, filter: &str) -> Result<Vec<String>, Error> {
-        self.reader.reads().keys(filter)
+    /// The keys that a filter matches, or one of up to 16 filters with a comma between two, and that have a value: each once,
+    /// in the order of their last puts. BadFilter.
+    pub fn keys(&self, filters: &str) -> Result<Vec<String>, Error> {
+        self.reader.reads().keys(filters)
     }
 
     /// The numbers of the bucket.
@@ -116,9 +117,10 @@ impl Snapshot {
         self.view.history(key)
     }
 
-    /// The keys that the filter matches and that have a value, in the order of their last puts. BadFilter.
-    pub fn keys(&self, filter: &str) -> Result<Vec<String>, Error> {
-        self.view.reads().keys(filter)
+    /// The keys that a filter matches, or one of up to 16 filters with a comma between two, and that have a value: each once,
+    /// in the order of their last puts. BadFilter.
+    pub fn keys(&self, filters: &str) -> Result<Vec<String>, Error> {
+        self.view.reads().keys(filters)
     }
 
     /// The numbers of the bucket at that moment.

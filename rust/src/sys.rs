@@ -111,8 +111,8 @@ mod c {
                 ) -> u64;
                 pub fn $keys(
                     at: *mut $handle,
-                    filter: *const u8,
-                    filter_size: usize,
+                    filters: *const u8,
+                    filters_size: usize,
                     room: *mut u8,
                     room_size: usize,
                     size: *mut usize,
@@ -356,7 +356,7 @@ impl<H> Reads<'_, H> {
         }
     }
 
-    pub fn keys(&self, filter: &str) -> Result<Vec<String>, Error> {
+    pub fn keys(&self, filters: &str) -> Result<Vec<String>, Error> {
         let mut room = reserved(SMALL)?;
         loop {
             let (mut size, mut count) = (0, 0);
@@ -364,8 +364,8 @@ impl<H> Reads<'_, H> {
             let code = unsafe {
                 (self.functions.keys)(
                     self.at,
-                    filter.as_ptr(),
-                    filter.len(),
+                    filters.as_ptr(),
+                    filters.len(),
                     room.as_mut_ptr(),
                     room.capacity(),
                     &mut size,

@@ -49,6 +49,7 @@ fn reads_of_a_bucket_a_reader_and_a_snapshot_agree() {
     assert_eq!(bucket.keys(">").unwrap(), ["app.port", "db"]);
     assert_eq!(reader.keys("app.>").unwrap(), ["app.port"]);
     assert_eq!(snapshot.keys("*").unwrap(), ["db"]);
+    assert_eq!(snapshot.keys("db,app.port,>").unwrap(), ["app.port", "db"]);
     let status = bucket.status().unwrap();
     assert_eq!((status.history, status.last, status.stored, status.values), (2, 6, 6, 5));
     assert_eq!(reader.status().unwrap(), status);

@@ -53,9 +53,9 @@ fn a_text_that_is_no_filter_is_refused_by_every_call() {
     for filters in ["", ",", "a,", "a..b", "a*", "a.>.b", &["a"; 17].join(",")] {
         assert_eq!(bucket.follow(filters, Options::default()).unwrap_err(), Error::BadFilter, "{filters}");
         assert_eq!(bucket.watch(filters, Options::default()).unwrap_err(), Error::BadFilter, "{filters}");
+        assert_eq!(bucket.keys(filters), Err(Error::BadFilter), "{filters}");
     }
-    assert_eq!(bucket.keys("a,b"), Err(Error::BadFilter));
-    assert_eq!(bucket.keys("*.>"), Ok(vec![]));
+    assert_eq!(bucket.keys("*.>,a"), Ok(vec![]));
     assert_eq!(bucket.status().unwrap().watches, 0);
 }
 

@@ -311,7 +311,9 @@ static void listed(void) {
     WANT(kv_keys(&b, B("app.*"), value, sizeof value, &size, &count) == KV_OK && size == 12 && count == 2);
     WANT(!memcmp(value, "app.b\0app.a", 12));
     WANT(kv_keys(&b, B("app.*"), value, 11, &size, &count) == KV_TOO_LITTLE_ROOM && size == 12 && count == 2);
-    WANT(kv_keys(&b, B("app.*,db"), value, sizeof value, &size, &count) == KV_BAD_FILTER);
+    WANT(kv_keys(&b, B("db,app.*,>"), value, sizeof value, &size, &count) == KV_OK && size == 15 && count == 3);
+    WANT(!memcmp(value, "app.b\0app.a\0db", 15));
+    WANT(kv_keys(&b, B("app.*,,db"), value, sizeof value, &size, &count) == KV_BAD_FILTER);
     WANT(kv_keys(&b, (const uint8_t *)"a\xff", 2, value, sizeof value, &size, &count) == KV_BAD_FILTER);
     kv_close(&b);
 }

@@ -118,7 +118,9 @@ class Writes(unittest.TestCase):
         for number in range(1000):
             self.bucket[f"many.{number}"] = b""
         self.assertEqual(self.bucket.keys("many.*"), [f"many.{number}" for number in range(1000)])
-        for filter in ("a..b", "a.>,b"):
+        # Each once, though two filters match it.
+        self.assertEqual(self.bucket.keys("b,a.>,*"), ["a.x", "b"])
+        for filter in ("", "a..b", "a.>,,b", ",".join(["a"] * 17)):
             with self.assertRaises(vilgoued.BadFilter):
                 self.bucket.keys(filter)
         self.assertEqual(self.bucket.watch(">").number, 1)

@@ -108,8 +108,5 @@ no_name bs none = unless_so (is_name bs) (λ is. none (name_text bs is))
 pub no_key : (bs : List ℕ) → ¬ (IsUtf8 bs) → is_key bs ≡ false
 no_key bs none = unless_so (is_key bs) (λ is. none (key_text bs is))
 
-pub no_filter : (bs : List ℕ) → ¬ (IsUtf8 bs) → is_filter bs ≡ false
-no_filter bs none = unless_so (is_filter bs) (λ is. none (text_from_low bs (filter_low bs is)))
-
 pub no_filters : (bs : List ℕ) → ¬ (IsUtf8 bs) → are_filters (parts bs) ≡ false
 no_filters bs none = unless_so (are_filters (parts bs)) (λ is. none (filters_text bs is))

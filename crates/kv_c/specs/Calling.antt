@@ -10,10 +10,12 @@ use Rattle.kv_c.specs.Feeding.{Fed, HandsNext, HasHanded, IsRefreshed, Opens, la
 use Rattle.kv_single.specs.Held.{Bucketed, Represents}
 use Rattle.kv_c.specs.declared.content.Content.{Content}
 use Rattle.kv_c.specs.declared.content.Content.TheVariants.{Bucket, View, Feed, Batch}
-use Rattle.kv_keys.specs.Grammar.{is_key}
+use Rattle.kv_keys.specs.Grammar.{is_key, parts}
+use Rattle.kv_keys.specs.Matching.{any_matches}
 use Rattle.kv_keys.specs.declared.error.KvError.{KvError}
 use Rattle.kv_keys.specs.declared.error.KvError.TheVariants.{BadKey, OutOfMemory}
 use Rattle.kv_model.specs.Acts.{Act, Write}
+use Rattle.kv_model.specs.Reads.{keys_of}
 use Rattle.kv_store.specs.Standing.{StandsFor}
 use Rattle.kv_store.specs.Stored.{Stored}
 use Rattle.kv_model.specs.State.{State, may_compact}
@@ -165,6 +167,10 @@ WantsRead (Some w) size revision = (size ≡ length w.value) × (revision ≡ w.
 abbrev pub IsHistory : Option (List Write) → ℕ → ℕ → Item → List ℕ → Type 0
 IsHistory found index count item room = (ws : List Write) × (found ≡ Some ws) × (count ≡ length ws) ×
     IsEntry (slice_get ws index) item room
+
+-- the keys that a text of filters asks for
+abbrev pub keys_asked : List ℕ → List Act → List (List ℕ)
+keys_asked filters acts = keys_of (any_matches (parts filters)) acts
 
 -- how many these keys are is told, and how much room they need
 abbrev pub WantsKeys : List (List ℕ) → ℕ → ℕ → Type 0

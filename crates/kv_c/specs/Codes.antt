@@ -2,7 +2,7 @@
 use Rattle.std.specs.Prelude.{◌≡◌, ℕ, Bool, true, ◌&&◌, ◌==◌, List, Option, Some, None, Result, Ok, Err, [], ◌∷◌, ◌++◌, codes, length, nat_le, nat_lt, slice_get, take, if◌then◌else◌}
 use Rattle.std.specs.List.{flat_map}
 use Rattle.std.specs.Option.{ok_or}
-use Rattle.kv_keys.specs.Grammar.{is_key, is_filter, are_filters, parts}
+use Rattle.kv_keys.specs.Grammar.{is_key, are_filters, parts}
 use Rattle.kv_keys.specs.Refusals.{code_of}
 use Rattle.kv_keys.specs.declared.error.KvError.{KvError}
 use Rattle.kv_keys.specs.declared.error.KvError.TheVariants.{BadKey, BadFilter, KeyNotFound}
@@ -80,7 +80,7 @@ listed keys = flat_map (λ key. key ++ 0 ∷ []) keys
 
 -- that of a read of keys
 abbrev pub keys_code : List ℕ → List ℕ → List (List ℕ) → ℕ
-keys_code filter room keys = if is_filter filter then room_code (fits (listed keys) room) else 5
+keys_code filters room keys = if are_filters (parts filters) then room_code (fits (listed keys) room) else 5
 
 -- there is enough room for an entry: for its key, and for its value if it shows one
 abbrev pub value_fits : Option (List ℕ) → List ℕ → Bool

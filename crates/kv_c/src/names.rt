@@ -2,10 +2,10 @@
 
 ghost use Rattle.std.specs.Prelude.{◌≡◌, if◌then◌else◌, IfErr, IfOk, IsTrue};
 ghost use Rattle.std.specs.Str.{IsUtf8};
-ghost use Rattle.kv_keys.specs.Grammar.{are_filters, is_filter, is_key, parts};
+ghost use Rattle.kv_keys.specs.Grammar.{are_filters, is_key, parts};
 ghost use Rattle.kv_keys.specs.declared.error.KvError.TheVariants.{BadFilter, BadKey, OutOfMemory};
 
-use kv_single::{Filter, Filters, Key, KvError};
+use kv_single::{Filters, Key, KvError};
 use std::alloc::Global;
 
 /// The text of these bytes, or the refusal where they are none.
@@ -27,16 +27,6 @@ pub(crate) fn key_of(alloc: Global, bytes: &[u8]) -> Result<Key, KvError>
 {
     let key = Key::parse(alloc, text_of(bytes, KvError::BadKey)?)?;
     Ok(key)
-}
-
-/// The filter of these bytes, in the same way.
-#[tactic(auto, using(crate::proofs::Ascii::no_filter))]
-pub(crate) fn filter_of(alloc: Global, bytes: &[u8]) -> Result<Filter, KvError>
-    ensures ok { IfOk result (λ filter. (filter ≡ bytes.now) × IsTrue (is_filter bytes.now)) }
-    ensures err { IfErr result (λ e. e ≡ (if is_filter bytes.now then OutOfMemory else BadFilter)) }
-{
-    let filter = Filter::parse(alloc, text_of(bytes, KvError::BadFilter)?)?;
-    Ok(filter)
 }
 
 /// The list of filters of these bytes, in the same way.

@@ -2,13 +2,13 @@
 
 ghost use Rattle.std.specs.Prelude.{◌≡◌, List, Some, IsFalse, is_some};
 ghost use Rattle.std.specs.Option.{option_copied};
-ghost use Rattle.kv_c.specs.Calling.{AreKeys, IsHistory, IsValue, Shows, StandsAt, WantsKeys, WantsRead, holds_bucket, version_in};
+ghost use Rattle.kv_c.specs.Calling.{AreKeys, IsHistory, IsValue, Shows, StandsAt, WantsKeys, WantsRead, holds_bucket, keys_asked, version_in};
 ghost use Rattle.kv_c.specs.Codes.{history_code, keys_code, read_code};
 ghost use Rattle.kv_c.specs.Handing.{WantsAt, numbers_told};
 ghost use Rattle.kv_model.specs.Acts.{Act};
 ghost use Rattle.kv_model.specs.Answers.{Numbers as Told};
 ghost use Rattle.kv_model.specs.Configuration.{Configuration};
-ghost use Rattle.kv_model.specs.Reads.{get_at_of, get_of, history_of, keys_of, status_of};
+ghost use Rattle.kv_model.specs.Reads.{get_at_of, get_of, history_of, status_of};
 ghost use Rattle.kv_model.specs.State.{State, answer_to};
 ghost use Rattle.kv_model.specs.declared.call.Call.TheVariants.{Status};
 
@@ -193,23 +193,24 @@ pub extern "C" fn kv_view_history(
     kv_history(alloc, view, key, index, room, item, count)
 }
 
-/// Copies the keys that match a filter and have a value, each with a zero byte behind it, in the order of their last
-/// puts, and tells how many there are. How many bytes that are is told also where there is too little room.
+/// Copies the keys that one of the filters matches and that have a value, each once, with a zero byte behind it, in the
+/// order of their last puts, and tells how many there are. The filters stand with a comma between two. How many bytes
+/// that are is told also where there is too little room.
 #[unsafe(no_mangle)]
 pub extern "C" fn kv_keys(
     alloc: Global,
     handle: &mut Handle,
-    filter: &[u8],
+    filters: &[u8],
     room: &mut [u8],
     size: &mut usize,
     count: &mut usize,
 ) -> u64
     ensures keys { result ≡ 0 → (config : Configuration) (acts : List Act) → Shows config acts handle.old.slot.held →
-        AreKeys (keys_of filter.now acts) count.new size.new room.new }
+        AreKeys (keys_asked filters.now acts) count.new size.new room.new }
     ensures code { (config : Configuration) (acts : List Act) → Shows config acts handle.old.slot.held →
-        ¬ (result ≡ 1) → result ≡ keys_code filter.now room.old (keys_of filter.now acts) }
+        ¬ (result ≡ 1) → result ≡ keys_code filters.now room.old (keys_asked filters.now acts) }
     ensures wants { result ≡ 33 → (config : Configuration) (acts : List Act) → Shows config acts handle.old.slot.held →
-        WantsKeys (keys_of filter.now acts) count.new size.new }
+        WantsKeys (keys_asked filters.now acts) count.new size.new }
     ensures room { ¬ (result ≡ 0) → room.new ≡ room.old }
     ensures untold { ¬ (result ≡ 0) → ¬ (result ≡ 33) → (size.new ≡ size.old) × (count.new ≡ count.old) }
     ensures unchanged { handle.new.slot.held ≡ handle.old.slot.held }
@@ -219,7 +220,7 @@ pub extern "C" fn kv_keys(
         return CLOSED;
     };
     let done = match content.version() {
-        Some(version) => reads::keys(alloc, version, filter, room, size, count),
+        Some(version) => reads::keys(alloc, version, filters, room, size, count),
         None => CLOSED,
     };
     handle.put(content);
@@ -231,23 +232,23 @@ pub extern "C" fn kv_keys(
 pub extern "C" fn kv_view_keys(
     alloc: Global,
     view: &mut Handle,
-    filter: &[u8],
+    filters: &[u8],
     room: &mut [u8],
     size: &mut usize,
     count: &mut usize,
 ) -> u64
     ensures keys { result ≡ 0 → (config : Configuration) (acts : List Act) → Shows config acts view.old.slot.held →
-        AreKeys (keys_of filter.now acts) count.new size.new room.new }
+        AreKeys (keys_asked filters.now acts) count.new size.new room.new }
     ensures code { (config : Configuration) (acts : List Act) → Shows config acts view.old.slot.held →
-        ¬ (result ≡ 1) → result ≡ keys_code filter.now room.old (keys_of filter.now acts) }
+        ¬ (result ≡ 1) → result ≡ keys_code filters.now room.old (keys_asked filters.now acts) }
     ensures wants { result ≡ 33 → (config : Configuration) (acts : List Act) → Shows config acts view.old.slot.held →
-        WantsKeys (keys_of filter.now acts) count.new size.new }
+        WantsKeys (keys_asked filters.now acts) count.new size.new }
     ensures room { ¬ (result ≡ 0) → room.new ≡ room.old }
     ensures untold { ¬ (result ≡ 0) → ¬ (result ≡ 33) → (size.new ≡ size.old) × (count.new ≡ count.old) }
     ensures unchanged { view.new.slot.held ≡ view.old.slot.held }
     ensures closed { IsFalse (is_some (version_in view.old.slot.held)) → result ≡ 32 }
 {
-    kv_keys(alloc, view, filter, room, size, count)
+    kv_keys(alloc, view, filters, room, size, count)
 }
 
 fn status_of_bucket(content: &Content, numbers: &mut Numbers) -> u64

@@ -2,18 +2,18 @@
 
 ghost use Rattle.std.specs.Prelude.{◌≡◌, List, MatchResult, Some, false, length, map, IfErr, IfOk, is_some, true};
 ghost use Rattle.std.specs.List.{flat_map, slice_get};
-ghost use Rattle.kv_c.specs.Calling.{AreKeys, IsHistory, IsValue, WantsKeys, WantsRead};
+ghost use Rattle.kv_c.specs.Calling.{AreKeys, IsHistory, IsValue, WantsKeys, WantsRead, keys_asked};
 ghost use Rattle.kv_c.specs.Codes.{found_code, history_code, keys_code, listed, read_code, value_code};
 ghost use Rattle.kv_c.specs.Handing.{IsEntry, WantsAt, WantsValue};
-ghost use Rattle.kv_keys.specs.Grammar.{is_filter};
+ghost use Rattle.kv_keys.specs.Grammar.{are_filters, parts};
 ghost use Rattle.kv_keys.specs.Refusals.{code_of};
 ghost use Rattle.kv_keys.specs.declared.error.KvError.TheVariants.{BadFilter, OutOfMemory};
 ghost use Rattle.kv_model.specs.Acts.{Act, Write};
-ghost use Rattle.kv_model.specs.Reads.{get_at_of, get_of, history_of, keys_of};
+ghost use Rattle.kv_model.specs.Reads.{get_at_of, get_of, history_of};
 ghost use Rattle.kv_store.specs.Standing.{StandsFor};
 
 use crate::handing::{Item, copy_sized, empty_item, hand_write};
-use crate::names::{filter_of, key_of};
+use crate::names::{filters_of, key_of};
 use kv_single::{Key, KvError, Version, Write};
 use std::alloc::Global;
 
@@ -152,38 +152,39 @@ fn listed(alloc: Global, keys: &[&Key]) -> Result<Vec<u8>, KvError>
 }
 
 // How many keys match, and the list of them.
-fn matching(alloc: Global, version: &Version, filter: &[u8]) -> Result<(usize, Vec<u8>), KvError>
+fn matching(alloc: Global, version: &Version, filters: &[u8]) -> Result<(usize, Vec<u8>), KvError>
     ensures ok { IfOk result (λ p. (acts : List Act) → StandsFor acts version.now →
-        (p.0 ≡ length (keys_of filter.now acts)) × (p.1.items ≡ listed (keys_of filter.now acts))) }
-    ensures filter { IfOk result (λ p. is_filter filter.now ≡ true) }
-    ensures err { IfErr result (λ e. ¬ (e ≡ OutOfMemory) → (e ≡ BadFilter) × (is_filter filter.now ≡ false)) }
+        (p.0 ≡ length (keys_asked filters.now acts)) × (p.1.items ≡ listed (keys_asked filters.now acts))) }
+    ensures filters { IfOk result (λ p. are_filters (parts filters.now) ≡ true) }
+    ensures err { IfErr result
+        (λ e. ¬ (e ≡ OutOfMemory) → (e ≡ BadFilter) × (are_filters (parts filters.now) ≡ false)) }
 {
-    let filter = filter_of(alloc, filter)?;
-    let keys = version.keys(alloc, &filter)?;
+    let filters = filters_of(alloc, filters)?;
+    let keys = version.keys_where(alloc, &filters)?;
     Ok((keys.len(), listed(alloc, &keys)?))
 }
 
-/// The keys that match and have a value, each with a zero byte behind it, and how many there are. How many bytes that
-/// are is told also where there is too little room.
+/// The keys that one of the filters matches and that have a value, each with a zero byte behind it, and how many there
+/// are. How many bytes that are is told also where there is too little room.
 #[tactic(auto, using(crate::proofs::Refusing::code_memory))]
 pub(crate) fn keys(
     alloc: Global,
     version: &Version,
-    filter: &[u8],
+    filters: &[u8],
     room: &mut [u8],
     size: &mut usize,
     count: &mut usize,
 ) -> u64
     ensures keys { result ≡ 0 → (acts : List Act) → StandsFor acts version.now →
-        AreKeys (keys_of filter.now acts) count.new size.new room.new }
+        AreKeys (keys_asked filters.now acts) count.new size.new room.new }
     ensures code { (acts : List Act) → StandsFor acts version.now → ¬ (result ≡ 1) →
-        result ≡ keys_code filter.now room.old (keys_of filter.now acts) }
+        result ≡ keys_code filters.now room.old (keys_asked filters.now acts) }
     ensures wants { result ≡ 33 → (acts : List Act) → StandsFor acts version.now →
-        WantsKeys (keys_of filter.now acts) count.new size.new }
+        WantsKeys (keys_asked filters.now acts) count.new size.new }
     ensures room { ¬ (result ≡ 0) → room.new ≡ room.old }
     ensures untold { ¬ (result ≡ 0) → ¬ (result ≡ 33) → (size.new ≡ size.old) × (count.new ≡ count.old) }
 {
-    match matching(alloc, version, filter) {
+    match matching(alloc, version, filters) {
         Ok((found, text)) => {
             *count = found;
             copy_sized(room, &text, size)

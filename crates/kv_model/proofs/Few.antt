@@ -88,7 +88,7 @@ few_step s ask.Seal few = record { open_now = few.open_now; ever = few.ever }
 few_step s (ask.Get key) few = few
 few_step s (ask.GetAt key revision) few = few
 few_step s (ask.History key) few = few
-few_step s (ask.Keys filtering) few = few
+few_step s (ask.Keys filters) few = few
 few_step s ask.Status few = few
 few_step s (ask.Watch filters options) few = few_watch s filters options (has_room s) refl few
 few_step s (ask.Take j) few = few_take s j (open_at j s) refl few

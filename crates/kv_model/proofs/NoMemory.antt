@@ -89,7 +89,7 @@ no_memory s ask.Seal h = cc
 no_memory s (ask.Get key) h = or_no KeyNotFound _ (get_of key s.acts) (λ e. cc) (λ w e. cc) h
 no_memory s (ask.GetAt key revision) h = or_no KeyNotFound _ (get_at_of s.config.history key revision s.acts) (λ e. cc) (λ w e. cc) h
 no_memory s (ask.History key) h = or_no KeyNotFound _ (history_of s.config.history key s.acts) (λ e. cc) (λ w e. cc) h
-no_memory s (ask.Keys filtering) h = cc
+no_memory s (ask.Keys filters) h = cc
 no_memory s ask.Status h = cc
 no_memory s (ask.Watch filters options) h = by_room (has_room s) h
   where

@@ -69,7 +69,7 @@ full_and_sealed : answers_to (empty config) (delete ∷ delete ∷ delete ∷ as
 full_and_sealed = refl
 
 -- reads: a deleted key has no value, but a history
-reads : answers_to (empty config) (delete ∷ Get (codes "k") ∷ History (codes "k") ∷ History (codes "x") ∷ Keys (codes ">") ∷ [])
+reads : answers_to (empty config) (delete ∷ Get (codes "k") ∷ History (codes "k") ∷ History (codes "x") ∷ Keys (codes ">" ∷ []) ∷ [])
     ≡ Revision 1 ∷ Refused errors.KeyNotFound ∷ Entries (deleted 1 ∷ []) ∷ Refused errors.KeyNotFound ∷ AllKeys [] ∷ []
 unfolding matches
 reads = refl

@@ -119,7 +119,7 @@ told_step s i items ask.Seal told = rw (append-nil items) (is_told_act s.config.
 told_step s i items (ask.Get key) told = no_item s i items told
 told_step s i items (ask.GetAt key revision) told = no_item s i items told
 told_step s i items (ask.History key) told = no_item s i items told
-told_step s i items (ask.Keys filtering) told = no_item s i items told
+told_step s i items (ask.Keys filters) told = no_item s i items told
 told_step s i items ask.Status told = no_item s i items told
 told_step s i items (ask.Watch filters options) told =
     rw (append-nil items) (elim (has_room s) as (λ b. TellsWatch (cond b (add_watch (opened filters options s) s) s) i items) [

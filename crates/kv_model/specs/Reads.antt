@@ -1,7 +1,6 @@
 -- What reads answer: selections of the acts.
-use Rattle.std.specs.Prelude.{ℕ, ◌&&◌, List, [], ◌∷◌, Option, Some, None, length, map, filter, find, ◌==◌, if◌then◌else◌}
+use Rattle.std.specs.Prelude.{ℕ, Bool, ◌&&◌, List, [], ◌∷◌, Option, Some, None, length, map, filter, find, ◌==◌, if◌then◌else◌}
 use Rattle.std.specs.Option.{option_and_then}
-use Rattle.kv_keys.specs.Matching.{matches}
 use Rattle.kv_model.specs.declared.status.Status.{Status}
 use Rattle.kv_model.specs.Acts.{Write, Act, writes_of, is_put, is_sealed}
 use Rattle.kv_model.specs.Compaction.{stored_writes}
@@ -27,9 +26,9 @@ unless_empty (x ∷ xs) = Some (x ∷ xs)
 abbrev pub history_of : ℕ → List ℕ → List Act → Option (List Write)
 history_of h key acts = unless_empty (kept h key acts)
 
--- keys: those that match and whose latest write is a put, in the order of those writes
-abbrev pub keys_of : List ℕ → List Act → List (List ℕ)
-keys_of filtering acts = map (λ w. w.key) (filter (λ w. matches filtering w.key && is_put w.op) (latest acts))
+-- keys: those that are wanted and whose latest write is a put, each once, in the order of those writes
+abbrev pub keys_of : (List ℕ → Bool) → List Act → List (List ℕ)
+keys_of wants acts = map (λ w. w.key) (filter (λ w. wants w.key && is_put w.op) (latest acts))
 
 -- status: the history, the last revision, sealed or not, and the numbers of stored and of retained writes
 abbrev pub status_of : ℕ → List Act → Status

@@ -3,6 +3,7 @@ use Rattle.std.specs.Prelude.{ℕ, ◌+◌, ◌-◌, Bool, true, false, ◌&&◌
 use Rattle.std.specs.Option.{option_and_then}
 use Rattle.kv_keys.specs.declared.error.KvError.{KvError}
 use Rattle.kv_keys.specs.declared.error.KvError.TheVariants.{KeyNotFound, NoSuchWatch, TooManyWatches, BadFloor, WatchBehind}
+use Rattle.kv_keys.specs.Matching.{any_matches}
 use Rattle.kv_model.specs.Acceptance.{accept}
 use Rattle.kv_model.specs.Acts.{Act, Wrote, Seal, Compact, Write}
 use Rattle.kv_model.specs.Compaction.{is_bad_floor}
@@ -158,7 +159,7 @@ after s calls.Seal = add_act Seal s
 after s (calls.Get key) = s
 after s (calls.GetAt key revision) = s
 after s (calls.History key) = s
-after s (calls.Keys filtering) = s
+after s (calls.Keys filters) = s
 after s calls.Status = s
 after s (calls.Watch filters options) = if has_room s then add_watch (opened filters options s) s else s
 after s (calls.Take number) = after_take number s (open_at number s)
@@ -174,7 +175,7 @@ answer_to s (calls.GetAt key revision) = or_refused KeyNotFound (λ w. AnsweredE
     (get_at_of s.config.history key revision s.acts)
 answer_to s (calls.History key) = or_refused KeyNotFound (λ ws. Entries (map read_entry ws))
     (history_of s.config.history key s.acts)
-answer_to s (calls.Keys filtering) = Keys (keys_of filtering s.acts)
+answer_to s (calls.Keys filters) = Keys (keys_of (any_matches filters) s.acts)
 answer_to s calls.Status = Numbers (status_of s.config.history s.acts) (open_count s.watches)
 answer_to s (calls.Watch filters options) = if has_room s then Watching (length s.watches + 1) else
     Refused TooManyWatches

@@ -2,7 +2,7 @@
 
 use crate::options::Options;
 use crate::request::Request;
-use kv_keys::{Filter, Filters, Key};
+use kv_keys::{Filters, Key};
 
 /// What a bucket can be asked. A watch goes by its number.
 #[derive(Drop)]
@@ -17,8 +17,9 @@ pub enum Call {
     GetAt(Key, u64),
     /// The retained entries of the key, markers among them, else KeyNotFound.
     History(Key),
-    /// The keys that match and whose latest entry is a put, in the order of those puts' revisions.
-    Keys(Filter),
+    /// The keys that one of the filters matches and whose latest entry is a put, each once, in the order of those puts'
+    /// revisions.
+    Keys(Filters),
     /// The numbers of the bucket.
     Status,
     /// A new watch, from now on: TooManyWatches where 64 are open or all numbers are given.

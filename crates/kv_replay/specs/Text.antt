@@ -44,7 +44,7 @@ steps form s (Write asked) =
 steps form s (Get key) = once (answer_text form s.config.bucket (answer_to s (calls.Get key))) s
 steps form s (GetAt key revision) = once (answer_text form s.config.bucket (answer_to s (calls.GetAt key revision))) s
 steps form s (History key) = once (answer_text form s.config.bucket (answer_to s (calls.History key))) s
-steps form s (commands.Keys filtering) = once (answer_text form s.config.bucket (answer_to s (calls.Keys filtering))) s
+steps form s (commands.Keys filters) = once (answer_text form s.config.bucket (answer_to s (calls.Keys filters))) s
 steps form s (Watch filters options) =
     once (answer_text form s.config.bucket (answer_to s (calls.Watch filters options)))
     (after s (calls.Watch filters options))

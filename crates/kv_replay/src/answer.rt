@@ -48,7 +48,7 @@ fn answer_command(
         Command::Get(key) => answer_get(alloc, form, bucket, key, out),
         Command::GetAt(key, revision) => answer_get_at(alloc, form, bucket, key, *revision, out),
         Command::History(key) => answer_history(alloc, form, bucket, key, out),
-        Command::Keys(filter) => answer_keys(alloc, bucket, filter, out),
+        Command::Keys(filters) => answer_keys(alloc, bucket, filters, out),
         Command::Watch(filters, options) => answer_watch(alloc, bucket, filters, *options, out),
         Command::Take { watch, count } => answer_takes(alloc, form, bucket, *watch, *count, out),
         Command::Stop(watch) => answer_stop(alloc, bucket, *watch, out),

@@ -10,7 +10,7 @@ ghost use Rattle.kv_script.specs.Answered.{answer_text};
 ghost use Rattle.kv_script.specs.Text.{place_text};
 
 use crate::refusals::answer_refusal;
-use kv_keys::{Filter, Key, KvError, Place};
+use kv_keys::{Filters, Key, KvError, Place};
 use kv_script::{
     Form, append_entry, append_history, append_keys, append_place, append_refusal, append_status,
 };
@@ -81,19 +81,19 @@ pub(crate) fn answer_history(
     }
 }
 
-/// The matching keys that have a value.
+/// The keys that one of the filters matches and that have a value.
 pub(crate) fn answer_keys(
     alloc: Global,
     bucket: &Bucket,
-    filter: &Filter,
+    filters: &Filters,
     out: &mut Vec<u8>,
 ) -> Result<(), KvError>
     ensures ok { OnOk result ((form : Form) (state : State) → Represents state bucket.now →
-        out.new.items ≡ out.old.items ++ answer_text form state.config.bucket (answer_to state (Keys filter.now))) }
+        out.new.items ≡ out.old.items ++ answer_text form state.config.bucket (answer_to state (Keys filters.now))) }
     ensures err { OnErr result (out.new.items ≡ out.old.items) }
     ensures memory { IfErr result (λ e. e ≡ OutOfMemory) }
 {
-    let keys = bucket.version().keys(alloc, filter)?;
+    let keys = bucket.version().keys_where(alloc, filters)?;
     append_keys(alloc, out, &keys)?;
     Ok(())
 }

@@ -28,7 +28,7 @@ of the line as it stands.
   purge K [R]               purge app.name 2             write a marker, and forget the entries before it
   get K [R]                 get app.port                 the latest value, or the one of a revision
   history K                 history app.port             the entries of a key
-  keys F                    keys app.>                   the keys that have a value and match
+  keys F[,F..]              keys app.>,db.port           the keys that have a value and match
   watch F[,F..] [WORD..]    watch app.*,db.> history     open a watch, numbered from 1; words: history, updates,
                                                          from=R, nodeletes, meta
   take ID N                 take 1 10                    hand out up to N items of a watch

@@ -4,7 +4,7 @@ use Rattle.std.specs.Borrow.{Bor}
 use Rattle.std.specs.List.{join_with_byte, list_all, starts_with}
 use Rattle.std.specs.Result.{result_map_both}
 use Rattle.std.specs.Str.{is_utf8}
-use Rattle.kv_keys.specs.Grammar.{is_present, is_key, is_filter, parts, are_filters}
+use Rattle.kv_keys.specs.Grammar.{is_present, is_key, parts, are_filters}
 use Rattle.kv_keys.specs.declared.error.KvError.{KvError}
 use Rattle.kv_keys.specs.declared.error.KvError.TheVariants.{OutOfMemory, BadKey, BadFilter, BadCommand}
 use Rattle.kv_model.specs.Requests.{Asked, asked, put, create, update, delete, purge}
@@ -23,7 +23,7 @@ pub data Meaning : Type 0 where
   Get : (key : List ℕ) → Meaning
   GetAt : (key : List ℕ) → (revision : ℕ) → Meaning
   History : (key : List ℕ) → Meaning
-  Keys : (filter : List ℕ) → Meaning
+  Keys : (filters : List (List ℕ)) → Meaning
   Watch : (filters : List (List ℕ)) → (options : Options) → Meaning
   Take : (watch count : ℕ) → Meaning
   Stop : (watch : ℕ) → Meaning
@@ -38,7 +38,7 @@ meaning_of (commands.Write request) = Write (asked request)
 meaning_of (commands.Get key) = Get key
 meaning_of (commands.GetAt key revision) = GetAt key revision
 meaning_of (commands.History key) = History key
-meaning_of (commands.Keys filter) = Keys filter
+meaning_of (commands.Keys filters) = Keys filters
 meaning_of (commands.Watch filters options) = Watch filters options
 meaning_of (commands.Take watch count) = Take watch count
 meaning_of (commands.Stop watch) = Stop watch
@@ -65,6 +65,10 @@ or_bad_command {X} (Some x) go = go x
 -- only then the key is read
 abbrev pub for_key : List ℕ → Meaning → Result Meaning KvError
 for_key key meaning = if is_key key then Ok meaning else Err BadKey
+
+-- likewise the filters, with a comma between two
+abbrev pub for_filters : List ℕ → (List (List ℕ) → Result Meaning KvError) → Result Meaning KvError
+for_filters text go = if are_filters (parts text) then go (parts text) else Err BadFilter
 
 -- no number, or one
 abbrev pub optional_number : List (List ℕ) → Option (Option ℕ)
@@ -111,20 +115,17 @@ abbrev pub key_command : (List ℕ → Meaning) → List (List ℕ) → Result M
 key_command makes arguments =
     if length arguments == 1 then for_key (word arguments 0) (makes (word arguments 0)) else Err BadCommand
 
--- keys F
+-- keys F[,F..]
 abbrev pub keys_command : List (List ℕ) → Result Meaning KvError
 keys_command arguments =
-    if length arguments == 1
-    then (if is_filter (word arguments 0) then Ok (Keys (word arguments 0)) else Err BadFilter)
-    else Err BadCommand
+    if length arguments == 1 then for_filters (word arguments 0) (λ filters. Ok (Keys filters)) else Err BadCommand
 
 -- watch F[,F..] and options, which are read last of all
 abbrev pub watch_command : List (List ℕ) → Result Meaning KvError
 watch_command [] = Err BadCommand
 watch_command (filters ∷ words) =
     if are_options words
-    then (if are_filters (parts filters) then result_map_both (Watch (parts filters)) (λ error. error)
-    (options_of words) else Err BadFilter)
+    then for_filters filters (λ read. result_map_both (Watch read) (λ error. error) (options_of words))
     else Err BadCommand
 
 -- 1 to 1,000,000 takes

@@ -13,7 +13,7 @@ ghost use Rattle.kv_single.specs.Replies.{answer_of};
 ghost use Rattle.kv_single.specs.Held.{Represents};
 
 use crate::bucket::Bucket;
-use kv_keys::{Filter, Key, KvError};
+use kv_keys::{Filters, Key, KvError};
 use kv_model::{Event, Op, Stopped, Write};
 use kv_watch::{Shown, Taken};
 use std::alloc::{AllocError, Global};
@@ -171,14 +171,14 @@ impl Bucket {
         }
     }
 
-    pub(crate) fn keys_reply(&self, filter: &Filter) -> Result<Reply, AllocError>
+    pub(crate) fn keys_reply(&self, filters: &Filters) -> Result<Reply, AllocError>
         ensures { IfOk result
             (λ reply. (state : State) → Represents state self.now →
-            answer_of reply ≡ answer_to state (Keys filter.now)) }
+            answer_of reply ≡ answer_to state (Keys filters.now)) }
     {
         let keys = self
             .version
-            .keys(self.alloc, filter)
+            .keys_where(self.alloc, filters)
             .map_err(|_| AllocError)?;
         let copies = copy_keys(self.alloc, &keys)?;
         Ok(Reply::Keys(copies))

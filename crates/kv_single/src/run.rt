@@ -55,7 +55,7 @@ impl Bucket {
             Call::Get(key) => self.get_reply(key),
             Call::GetAt(key, revision) => self.get_at_reply(key, *revision),
             Call::History(key) => self.history_reply(key),
-            Call::Keys(filter) => self.keys_reply(filter),
+            Call::Keys(filters) => self.keys_reply(filters),
             Call::Status => Ok(self.status_reply()),
             Call::Watch(filters, options) => self.watch_reply(filters, *options),
             Call::Take(number) => self.take_reply(*number),

@@ -6,6 +6,7 @@ ghost use Rattle.std.specs.List.{flat_map};
 ghost use Rattle.std.specs.List.Sorted.{IsNonDecreasingBy, IsSorted};
 ghost use Rattle.std.specs.Ordering.{nat_cmp};
 ghost use Rattle.kv_keys.specs.declared.error.KvError.TheVariants.{OutOfMemory};
+ghost use Rattle.kv_keys.specs.Matching.{matches};
 ghost use Rattle.kv_keys.specs.Places.{fnv32_of};
 ghost use Rattle.kv_model.specs.Acts.{Act, is_put};
 ghost use Rattle.kv_model.specs.Reads.{keys_of};
@@ -174,10 +175,21 @@ impl Version {
     pub fn keys(&self, alloc: Global, filter: &Filter) -> Result<Vec<&Key>, KvError>
         ensures ok { IfOk result
             (λ found. (acts : List Act) → StandsFor acts self.now →
-            map (λ k. k.now) found.items ≡ keys_of filter.now acts) }
+            map (λ k. k.now) found.items ≡ keys_of (matches filter.now) acts) }
         ensures err { IfErr result (λ e. e ≡ OutOfMemory) }
     {
-        let puts = self.latest_puts(alloc, filter)?;
+        self.keys_where(alloc, filter)
+    }
+
+    /// The wanted keys whose latest entry is a put, each once, in the order of those puts' revisions. It costs what
+    /// [`Version::keys`] does: wanted by a list of filters of which none has a wildcard, each key is looked up.
+    pub fn keys_where<W: Wanted>(&self, alloc: Global, wanted: &W) -> Result<Vec<&Key>, KvError>
+        ensures ok { IfOk result
+            (λ found. (acts : List Act) → StandsFor acts self.now →
+            map (λ k. k.now) found.items ≡ keys_of (W.wants_key wanted.now) acts) }
+        ensures err { IfErr result (λ e. e ≡ OutOfMemory) }
+    {
+        let puts = self.latest_puts(alloc, wanted)?;
         Ok(keys_in(alloc, &puts)?)
     }
 

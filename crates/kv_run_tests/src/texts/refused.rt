@@ -78,7 +78,9 @@ const BAD_KEYS: &[&str] = &[
 
 const BAD_FILTERS: &[&str] = &[
     "keys a..b",
-    "keys a,b",
+    "keys a,,b",
+    "keys ,a",
+    "keys a,b..c",
     "watch a,,b",
     "watch a,",
     "watch a> history updates",

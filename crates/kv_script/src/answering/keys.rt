@@ -37,7 +37,7 @@ impl Serialize for Keys<'_> {
     }
 }
 
-/// The keys that match a filter.
+/// The keys that match.
 pub fn append_keys(alloc: Global, out: &mut Vec<u8>, keys: &[&Key]) -> Result<(), AllocError>
     ensures ok { OnOk result (out.new.items ≡ out.old.items ++ keys_text (map (λ key. key.now) keys.now)) }
     ensures err { OnErr result (out.new.items ≡ out.old.items) }

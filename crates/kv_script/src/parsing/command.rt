@@ -1,6 +1,6 @@
 //! Commands of a script.
 
-use kv_keys::{Filter, Filters, Key};
+use kv_keys::{Filters, Key};
 use kv_model::{Options, Request};
 
 /// What a line of a script asks for. A watch goes by its number.
@@ -14,8 +14,8 @@ pub enum Command {
     GetAt(Key, u64),
     /// `history`: the retained entries of a key.
     History(Key),
-    /// `keys` that have a value and match.
-    Keys(Filter),
+    /// `keys` that have a value and that one of the filters matches.
+    Keys(Filters),
     /// `watch`, from now on.
     Watch(Filters, Options),
     /// `count` takes, or as many as come before one that answers Empty.

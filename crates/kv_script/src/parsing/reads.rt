@@ -5,7 +5,7 @@ ghost use Rattle.kv_script.specs.Commands.{Gives, History, Place, Status, texts,
 
 use crate::parsing::command::Command;
 use crate::parsing::numbers::optional_number;
-use kv_keys::{Filter, Key, KvError};
+use kv_keys::{Filters, Key, KvError};
 use std::alloc::Global;
 
 /// `get K [R]`
@@ -36,15 +36,15 @@ pub(crate) fn history_command(alloc: Global, arguments: &[&str]) -> Result<Comma
     Ok(Command::History(key))
 }
 
-/// `keys F`
+/// `keys F[,F..]`
 pub(crate) fn keys_command(alloc: Global, arguments: &[&str]) -> Result<Command, KvError>
     ensures { Gives result (keys_command (texts arguments.now)) }
 {
-    let [filter] = *arguments else {
+    let [filters] = *arguments else {
         return Err(KvError::BadCommand);
     };
-    let filter = Filter::parse(alloc, filter)?;
-    Ok(Command::Keys(filter))
+    let filters = Filters::parse(alloc, filters)?;
+    Ok(Command::Keys(filters))
 }
 
 /// `status`

@@ -70,9 +70,10 @@ fn history(alloc: Global, bucket: &Bucket, key: &str) -> Result<Answer, KvError>
     Ok(Answer::Count(bucket.version().history(alloc, &key)?.len()))
 }
 
-fn keys(alloc: Global, bucket: &Bucket, filter: &str) -> Result<Answer, KvError> {
-    let filter = Filter::parse(alloc, filter)?;
-    Ok(Answer::Count(bucket.version().keys(alloc, &filter)?.len()))
+fn keys(alloc: Global, bucket: &Bucket, filters: &str) -> Result<Answer, KvError> {
+    let filters = Filters::parse(alloc, filters)?;
+    let keys = bucket.version().keys_where(alloc, &filters)?;
+    Ok(Answer::Count(keys.len()))
 }
 
 fn write(alloc: Global, bucket: &mut Bucket, ask: Ask) -> Result<Answer, KvError> {
@@ -87,7 +88,7 @@ fn in_memory(alloc: Global, bucket: &mut Bucket, ask: Ask) -> Result<Answer, KvE
         Ask::Get(key) => get(alloc, bucket, key),
         Ask::GetAt(key, revision) => get_at(alloc, bucket, key, revision),
         Ask::History(key) => history(alloc, bucket, key),
-        Ask::Keys(filter) => keys(alloc, bucket, filter),
+        Ask::Keys(filters) => keys(alloc, bucket, filters),
         Ask::Watch(filters) => watch(alloc, bucket, filters),
         Ask::WatchOne(filter) => watch_one(alloc, bucket, filter),
         _ => write(alloc, bucket, ask),

@@ -49,7 +49,7 @@ fn other_call(alloc: Global, ask: Ask) -> Result<Call, KvError> {
         Ask::Get(key) => Ok(Call::Get(Key::parse(alloc, key)?)),
         Ask::GetAt(key, revision) => Ok(Call::GetAt(Key::parse(alloc, key)?, revision)),
         Ask::History(key) => Ok(Call::History(Key::parse(alloc, key)?)),
-        Ask::Keys(filter) => Ok(Call::Keys(Filter::parse(alloc, filter)?)),
+        Ask::Keys(filters) => Ok(Call::Keys(Filters::parse(alloc, filters)?)),
         Ask::Watch(filters) => Ok(Call::Watch(Filters::parse(alloc, filters)?, LATEST)),
         Ask::WatchOne(filter) => Ok(Call::Watch(one(alloc, filter)?, LATEST)),
         Ask::Take(watch) => Ok(Call::Take(watch)),

@@ -18,6 +18,8 @@ pub(super) enum Fact {
     Kept(&'static str, Option<&'static [u64]>),
     // The keys that match a filter, each with a space behind it.
     Keys(&'static str, &'static str),
+    // The keys that one of a list of filters matches, likewise.
+    KeysWhere(&'static str, &'static str),
     // The revisions that are selected by a list of filters.
     Selected(&'static str, Start, &'static [u64]),
     // Whether a floor is bad.
@@ -169,6 +171,19 @@ fn has_keys(
     Ok(())
 }
 
+fn has_keys_where(
+    rt: &impl Abort,
+    alloc: Global,
+    version: &Version,
+    filters: &str,
+    wanted: &str,
+) -> Result<(), KvError> {
+    let filters = Filters::parse(alloc, filters)?;
+    let keys = version.keys_where(alloc, &filters)?;
+    equal(rt, text_of(alloc, &keys)?.as_str(), wanted);
+    Ok(())
+}
+
 fn selects(
     rt: &impl Abort,
     alloc: Global,
@@ -206,6 +221,7 @@ fn is_told_once(
         Fact::Entries(text, wanted) => has_entries(rt, alloc, version, text, wanted),
         Fact::Kept(text, wanted) => has_kept(rt, alloc, version, text, wanted),
         Fact::Keys(filter, wanted) => has_keys(rt, alloc, version, filter, wanted),
+        Fact::KeysWhere(filters, wanted) => has_keys_where(rt, alloc, version, filters, wanted),
         Fact::Selected(filters, start, wanted) => {
             selects(rt, alloc, version, filters, start, wanted)
         }

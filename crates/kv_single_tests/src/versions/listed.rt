@@ -22,6 +22,23 @@ fn keys_come_by_their_latest_revisions(rt: HostRuntime) -> Result<(), Fail> {
     Ok(())
 }
 
+const OF_LISTS: &[Fact] = &[
+    Fact::KeysWhere("c", "c "),
+    Fact::KeysWhere("a", ""),
+    Fact::KeysWhere("c,nobody,b", "b c "),
+    Fact::KeysWhere("a,b", "b "),
+    // each once, though two filters match it
+    Fact::KeysWhere("c,b,c", "b c "),
+    Fact::KeysWhere("c,*", "b c "),
+    Fact::KeysWhere("*,>", "b c "),
+];
+
+#[test]
+fn a_key_that_two_filters_match_comes_once(rt: HostRuntime) -> Result<(), Fail> {
+    holds(&rt, rt.alloc(), keeping(5), REPEATED, OF_LISTS)?;
+    Ok(())
+}
+
 // Three keys of which one was deleted, each with its last two entries.
 const THREE: &[Row] = &[
     ("a.b", Ask::Put(""), Ok(1)),
