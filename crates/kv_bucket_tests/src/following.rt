@@ -1,22 +1,14 @@
 //! What tests of followers have in common: a write, a reader, a watch of its own, and its items to the end.
 
-use kv_bucket::{
-    Feed, Filters, Key, KvError, Live, LiveName, Options, Reader, Request, Start, Taken,
-};
+use crate::batched::batched;
+use kv_bucket::{Feed, Filters, KvError, Live, LiveName, Reader, Request, Taken};
+use kv_test_tools::LATEST;
 use std::alloc::Global;
 use std::sync::Wait;
 use std::sync::atomic::{AtomicU64, Ordering};
 
-const LATEST: Options = Options {
-    start: Start::Latest,
-    ignore_deletes: false,
-    headers_only: false,
-};
-
 fn request(alloc: Global) -> Result<Request, KvError> {
-    let key = Key::parse(alloc, "app.port")?;
-    let value = Vec::from_slice(alloc, b"80")?;
-    Ok(Request::Put { key, value })
+    kv_test_tools::put(alloc, "app.port", "80")
 }
 
 pub fn put<N: LiveName, R: Wait>(rt: &R, alloc: Global, live: &Live<N>) -> Result<u64, KvError> {
@@ -32,9 +24,14 @@ pub fn put_two<N: LiveName, R: Wait>(
     let mut requests = Vec::new(alloc);
     requests.push(request(alloc)?)?;
     requests.push(request(alloc)?)?;
-    match live.write_all(rt, &requests) {
-        Ok(first) => Ok(first),
-        Err(refused) => Err(refused.error),
+    batched(live.write_all(rt, &requests))
+}
+
+// The last of the readers.
+pub fn last<N: LiveName>(readers: &mut Vec<Reader<N>>) -> Result<Reader<N>, KvError> {
+    match readers.pop() {
+        Some(reader) => Ok(reader),
+        None => Err(KvError::NoReader),
     }
 }
 

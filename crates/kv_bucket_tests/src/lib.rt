@@ -3,15 +3,23 @@
 #![tactic(auto)]
 
 #[cfg(test)]
+mod batched;
+#[cfg(test)]
+mod beside;
+#[cfg(test)]
 mod equal;
 #[cfg(test)]
 mod examples;
 #[cfg(test)]
 mod following;
 #[cfg(test)]
+mod opened;
+#[cfg(test)]
 mod races;
 #[cfg(test)]
 mod serving;
+#[cfg(test)]
+mod threaded;
 #[cfg(test)]
 mod threads;
 #[cfg(test)]

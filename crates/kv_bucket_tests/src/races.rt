@@ -4,7 +4,8 @@
 use crate::equal::equal;
 use kv_model::{Event, Write};
 use kv_race::{Gate, NoGate, Report, Who, race};
-use kv_single::{Config, Filters, Key, KvError, Options, Reply, Request, Start, Version};
+use kv_single::{Config, Filters, KvError, Options, Reply, Request, Start, Version};
+use kv_test_tools::{LATEST, again, put};
 use kv_watch::given;
 use std::alloc::Global;
 use std::fmt::Debug;
@@ -18,49 +19,10 @@ mod gates;
 mod refusals;
 mod twenty;
 
-const LATEST: Options = Options {
-    start: Start::Latest,
-    ignore_deletes: false,
-    headers_only: false,
-};
+// So many workers and watches there may be in a race.
+const MOST_WORKERS: usize = 16;
 
-// What is run.
-#[derive(Clone, Copy)]
-enum Row {
-    Meeting,
-    Between,
-    Sleeping,
-    Audit,
-    Twenty,
-}
-
-// Runs a row, and once more where a request for memory ended it.
-fn run<R: Threads + Wait + Abort + Sync>(rt: &R, alloc: Global, row: Row) -> Result<(), KvError> {
-    match run_once(rt, alloc, row) {
-        Err(KvError::OutOfMemory) => run_once(rt, alloc, row),
-        done => done,
-    }
-}
-
-fn run_once<R: Threads + Wait + Abort + Sync>(
-    rt: &R,
-    alloc: Global,
-    row: Row,
-) -> Result<(), KvError> {
-    match row {
-        Row::Meeting => gates::all_meet(rt, alloc),
-        Row::Between => gates::round_between(rt, alloc),
-        Row::Sleeping => gates::sleeps_until_written(rt, alloc),
-        Row::Audit => audit::audit(rt, alloc),
-        Row::Twenty => twenty::twenty(rt, alloc),
-    }
-}
-
-fn put(alloc: Global, key: &str, value: &str) -> Result<Request, KvError> {
-    let key = Key::parse(alloc, key)?;
-    let value = Vec::from_slice(alloc, value.as_bytes())?;
-    Ok(Request::Put { key, value })
-}
+const MOST_WATCHES: usize = 32;
 
 // A script that puts a value under each of these keys.
 fn puts(alloc: Global, keys: &[&str]) -> Result<Vec<Request>, KvError> {
@@ -100,30 +62,25 @@ fn watches_of(alloc: Global, texts: &[&str]) -> Result<Vec<(Filters, Options)>, 
     Ok(watches)
 }
 
-// The report of a race of the bucket `kv`, in which no reply is want of memory.
+// The report of a race of the bucket of this name.
 fn raced<R: Threads + Wait + Sync, G: Gate>(
     rt: &R,
     alloc: Global,
+    name: &str,
     scripts: &[Vec<Request>],
     watches: &[(Filters, Options)],
     gate: &G,
 ) -> Result<Report, KvError> {
-    let report = race_once(rt, alloc, scripts, watches, gate)?;
+    let config = Config::named(alloc, name)?;
+    race(rt, alloc, &config, scripts, watches, gate)
+}
+
+// A report in which a reply is want of memory is refused for that.
+fn with_all_memory(report: Report) -> Result<Report, KvError> {
     if lacked_memory(&report) {
         return Err(KvError::OutOfMemory);
     }
     Ok(report)
-}
-
-fn race_once<R: Threads + Wait + Sync, G: Gate>(
-    rt: &R,
-    alloc: Global,
-    scripts: &[Vec<Request>],
-    watches: &[(Filters, Options)],
-    gate: &G,
-) -> Result<Report, KvError> {
-    let config = Config::named(alloc, "kv")?;
-    race(rt, alloc, &config, scripts, watches, gate)
 }
 
 fn lacked_memory(report: &Report) -> bool {
@@ -280,7 +237,8 @@ fn race_beside<R: Threads + Wait + Abort + Sync, G: Gate>(
     gate: &G,
     writes: u64,
 ) -> Result<(), KvError> {
-    let report = raced(rt, alloc, scripts, watches, gate)?;
+    let report = raced(rt, alloc, "kv", scripts, watches, gate)?;
+    let report = with_all_memory(report)?;
     is_whole(rt, alloc, watches, &report, writes)
 }
 

@@ -5,6 +5,7 @@ ghost use Rattle.std.specs.Prelude.{◌≡◌, IfOk};
 
 use crate::equal::equal;
 use kv_bucket::{Config, Key, KvError, Live, LiveName, Reader, Request, Service, ThreadedService};
+use kv_test_tools::again;
 use std::alloc::Global;
 use std::sync::Wait;
 use std::test::Fail;
@@ -33,23 +34,49 @@ fn handed<R: Wait>(rt: &R, alloc: Global, history: u64, readers: usize) -> Resul
     Live::serve(rt, alloc, &config, readers, CountReaders)
 }
 
-// The history, the readers that are asked for, and those that the service is handed.
-const SERVICES: &[(u64, usize, Result<usize, KvError>)] = &[
-    (1, 1, Ok(1)),
-    (1, 32, Ok(32)),
-    (1, 0, Err(KvError::NoReader)),
-    (1, 33, Err(KvError::NoReader)),
-    (0, 33, Err(KvError::BadConfig)),
+const MOST_READERS: usize = 32;
+
+// What is asked for, and how many readers the service is handed.
+struct Asked {
+    history: u64,
+    readers: usize,
+    handed: Result<usize, KvError>,
+}
+
+const SERVICES: &[Asked] = &[
+    Asked {
+        history: 1,
+        readers: 1,
+        handed: Ok(1),
+    },
+    Asked {
+        history: 1,
+        readers: MOST_READERS,
+        handed: Ok(MOST_READERS),
+    },
+    Asked {
+        history: 1,
+        readers: 0,
+        handed: Err(KvError::NoReader),
+    },
+    Asked {
+        history: 1,
+        readers: MOST_READERS + 1,
+        handed: Err(KvError::NoReader),
+    },
+    // The limits go before the readers.
+    Asked {
+        history: 0,
+        readers: MOST_READERS + 1,
+        handed: Err(KvError::BadConfig),
+    },
 ];
 
 #[test]
-fn a_service_has_all_its_readers(rt: HostRuntime) -> Result<(), Fail> {
-    for (history, readers, wanted) in SERVICES {
-        let found = match handed(&rt, rt.alloc(), *history, *readers) {
-            Err(KvError::OutOfMemory) => handed(&rt, rt.alloc(), *history, *readers),
-            found => found,
-        };
-        equal(&rt, found, *wanted);
+fn a_service_is_handed_all_its_readers_or_is_refused(rt: HostRuntime) -> Result<(), Fail> {
+    for asked in SERVICES {
+        let found = again(|| handed(&rt, rt.alloc(), asked.history, asked.readers));
+        equal(&rt, found, asked.handed);
     }
     Ok(())
 }
@@ -115,12 +142,9 @@ fn followed<R: Threads + Wait + Sync>(
 
 #[test]
 fn each_reader_has_a_follower_that_sees_what_the_leader_wrote(rt: HostRuntime) -> Result<(), Fail> {
-    for (history, readers, wanted) in SERVICES {
-        let found = match followed(&rt, rt.alloc(), *history, *readers) {
-            Err(KvError::OutOfMemory) => followed(&rt, rt.alloc(), *history, *readers),
-            found => found,
-        };
-        equal(&rt, found, *wanted);
+    for asked in SERVICES {
+        let found = again(|| followed(&rt, rt.alloc(), asked.history, asked.readers));
+        equal(&rt, found, asked.handed);
     }
     Ok(())
 }

@@ -1,7 +1,6 @@
 //! Tests of calls that wait, and of followers that sleep.
 
 mod closing;
-mod opening;
-mod rounds;
-mod sleepers;
+pub mod rounds;
+pub mod sleepers;
 mod waits;

@@ -75,3 +75,24 @@ fn made_again<T, A: Answered, L: FnMut(&T), F: FnMut(&mut T) -> A>(
         _ => answer,
     }
 }
+
+/// The same of a call that takes a value, and hands it back where it is refused.
+pub fn again_with<T: Drop, A, F: FnMut(T) -> Result<A, (T, KvError)>>(
+    given: T,
+    call: F,
+) -> Result<A, KvError>
+    requires { F.IsAlwaysCallable call }
+{
+    let mut call = call;
+    match call(given) {
+        Err((given, KvError::OutOfMemory)) => without_value(call(given)),
+        answer => without_value(answer),
+    }
+}
+
+fn without_value<T: Drop, A>(answer: Result<A, (T, KvError)>) -> Result<A, KvError> {
+    match answer {
+        Ok(answer) => Ok(answer),
+        Err((_, error)) => Err(error),
+    }
+}

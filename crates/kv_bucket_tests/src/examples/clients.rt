@@ -3,9 +3,9 @@
 
 use super::*;
 use kv_bucket::{
-    Config, Filters, Key, KvError, Live, LiveName, Options, Reader, Request, Service, Start, Taken,
-    Version,
+    Config, Filters, KvError, Live, LiveName, Options, Reader, Service, Start, Taken, Version,
 };
+use kv_test_tools::put;
 use kv_watch::Cursor;
 use std::sync::Wait;
 
@@ -14,6 +14,8 @@ const UPDATES: Options = Options {
     ignore_deletes: false,
     headers_only: false,
 };
+
+const CLIENTS: usize = 100;
 
 // A client: where it is in what it is given. It begins with updates, so that it needs no version of its own.
 #[derive(Drop)]
@@ -51,12 +53,6 @@ fn serve_all(clients: &mut Vec<Client>, now: &Version) -> u64 {
     entries
 }
 
-fn put<N: LiveName, R: Wait>(rt: &R, alloc: Global, live: &Live<N>) -> Result<u64, KvError> {
-    let key = Key::parse(alloc, "app.port")?;
-    let value = Vec::from_slice(alloc, b"80")?;
-    live.write(rt, &Request::Put { key, value })
-}
-
 // What a hundred clients of one reader are handed by one write.
 fn one_write_for_all<N: LiveName, R: Wait>(
     rt: &R,
@@ -64,8 +60,8 @@ fn one_write_for_all<N: LiveName, R: Wait>(
     live: &Live<N>,
     reader: &mut Reader<N>,
 ) -> Result<u64, KvError> {
-    let mut clients = all_come(alloc, &reader.version()?, 100)?;
-    put(rt, alloc, live)?;
+    let mut clients = all_come(alloc, &reader.version()?, CLIENTS)?;
+    live.write(rt, &put(alloc, "app.port", "80")?)?;
     let now = reader.version()?;
     let markers = serve_all(&mut clients, &now);
     Ok(markers.saturating_add(serve_all(&mut clients, &now)))
@@ -98,11 +94,8 @@ fn hundred_clients<R: Wait>(rt: &R, alloc: Global) -> Result<u64, KvError> {
 }
 
 #[test]
-fn a_hundred_clients_of_one_reader(rt: HostRuntime) -> Result<(), Fail> {
-    let entries = match hundred_clients(&rt, rt.alloc()) {
-        Err(KvError::OutOfMemory) => hundred_clients(&rt, rt.alloc())?,
-        done => done?,
-    };
-    assert_eq!(rt; entries, 100);
+fn each_of_a_hundred_clients_is_served_by_one_reader(rt: HostRuntime) -> Result<(), Fail> {
+    let entries = again(|| hundred_clients(&rt, rt.alloc()))?;
+    assert_eq!(rt; entries, CLIENTS as u64);
     Ok(())
 }

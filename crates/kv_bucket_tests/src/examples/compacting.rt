@@ -2,17 +2,9 @@
 //! slow for that begins anew.
 
 use super::*;
-use kv_bucket::{
-    Config, Feed, Filters, Key, KvError, Live, LiveName, Options, Reader, Request, Service, Start,
-    Taken,
-};
+use kv_bucket::{Config, Feed, Filters, KvError, Live, LiveName, Reader, Request, Service, Taken};
+use kv_test_tools::put;
 use std::sync::Wait;
-
-const LATEST: Options = Options {
-    start: Start::Latest,
-    ignore_deletes: false,
-    headers_only: false,
-};
 
 // Compacts as far as the watches under the lock allow.
 fn compact<N: LiveName, R: Wait>(rt: &R, live: &Live<N>) -> Result<(), KvError> {
@@ -58,9 +50,7 @@ fn write_some<N: LiveName, R: Wait>(
     live: &Live<N>,
     count: u64,
 ) -> Result<(), KvError> {
-    let key = Key::parse(alloc, "app.port")?;
-    let value = Vec::from_slice(alloc, b"80")?;
-    let request = Request::Put { key, value };
+    let request = put(alloc, "app.port", "80")?;
     for _ in 0..count {
         write(rt, live, &request)?;
     }
@@ -125,9 +115,6 @@ fn compacted<R: Wait + Abort>(rt: &R, alloc: Global) -> Result<(), KvError> {
 }
 
 #[test]
-fn a_service_that_compacts(rt: HostRuntime) -> Result<(), Fail> {
-    match compacted(&rt, rt.alloc()) {
-        Err(KvError::OutOfMemory) => Ok(compacted(&rt, rt.alloc())?),
-        done => Ok(done?),
-    }
+fn a_full_bucket_is_compacted_and_a_slow_feed_begins_anew(rt: HostRuntime) -> Result<(), Fail> {
+    Ok(again(|| compacted(&rt, rt.alloc()))?)
 }

@@ -65,11 +65,8 @@ fn total(followed: Vec<Result<u64, KvError>>) -> Result<u64, KvError> {
 }
 
 #[test]
-fn a_service_with_two_followers(rt: HostRuntime) -> Result<(), Fail> {
-    let handed = match service(&rt, rt.alloc()) {
-        Err(KvError::OutOfMemory) => service(&rt, rt.alloc())?,
-        done => done?,
-    };
+fn a_service_hands_all_to_two_followers(rt: HostRuntime) -> Result<(), Fail> {
+    let handed = again(|| service(&rt, rt.alloc()))?;
     assert_eq!(rt; handed, 6);
     Ok(())
 }

@@ -4,18 +4,11 @@ ghost use Rattle.std.specs.Prelude.{◌≡◌};
 
 use super::*;
 use kv_bucket::{
-    Config, Feed, Filters, Key, KvError, Live, LiveName, Opened, Options, Reader, Request, Start,
-    Taken,
+    Config, Feed, Filters, Key, KvError, Live, LiveName, Opened, Reader, Request, Taken,
 };
 use std::marker::Brand;
 use std::sync::Wait;
 use std::thread::{Threads, join};
-
-const LATEST: Options = Options {
-    start: Start::Latest,
-    ignore_deletes: false,
-    headers_only: false,
-};
 
 fn put<N: LiveName, R: Wait>(
     rt: &R,
@@ -153,11 +146,8 @@ fn writer_and_readers<R: Threads + Wait + Sync>(
 }
 
 #[test]
-fn a_writer_and_two_readers(rt: HostRuntime) -> Result<(), Fail> {
-    let handed = match writer_and_readers(&rt, rt.alloc()) {
-        Err(KvError::OutOfMemory) => writer_and_readers(&rt, rt.alloc())?,
-        done => done?,
-    };
+fn two_readers_follow_a_writer_to_the_end(rt: HostRuntime) -> Result<(), Fail> {
+    let handed = again(|| writer_and_readers(&rt, rt.alloc()))?;
     assert_eq!(rt; handed, (3, 3));
     Ok(())
 }

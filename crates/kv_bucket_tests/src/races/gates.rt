@@ -15,6 +15,21 @@ fn is_raised(flag: &AtomicBool) -> bool {
     flag.load(Ordering::SeqCst)
 }
 
+// Races so many workers, each of which puts a value under each of these keys, beside a watcher. So many writes are
+// accepted, and nobody raised the flag of what may not be.
+fn race_through<R: Threads + Wait + Abort + Sync, G: Gate>(
+    rt: &R,
+    alloc: Global,
+    scripts: (usize, &[&str]),
+    gate: &G,
+    wrong: &AtomicBool,
+    writes: u64,
+) -> Result<(), KvError> {
+    race_of(rt, alloc, scripts, &[">"], gate, writes)?;
+    equal(rt, is_raised(wrong), false);
+    Ok(())
+}
+
 // Waits for a flag, and raises the other where the limit is met.
 fn wait_for(flag: &AtomicBool, late: &AtomicBool) {
     for _ in 0..MOST_TURNS {
@@ -72,18 +87,12 @@ impl Gate for Meeting {
 // Refutes race_on_one_thread, which would meet the limit: its second worker would begin when the first has ended.
 #[test]
 fn workers_run_on_their_own_threads(rt: HostRuntime) -> Result<(), Fail> {
-    run(&rt, rt.alloc(), Row::Meeting)?;
-    Ok(())
+    Ok(again(|| all_meet(&rt, rt.alloc()))?)
 }
 
-pub(super) fn all_meet<R: Threads + Wait + Abort + Sync>(
-    rt: &R,
-    alloc: Global,
-) -> Result<(), KvError> {
+fn all_meet<R: Threads + Wait + Abort + Sync>(rt: &R, alloc: Global) -> Result<(), KvError> {
     let gate = no_meeting_yet();
-    race_of(rt, alloc, (2, &["a"]), &[">"], &gate, 2)?;
-    assert!(rt; !is_raised(&gate.late));
-    Ok(())
+    race_through(rt, alloc, (2, &["a"]), &gate, &gate.late, 2)
 }
 
 // The watcher's second round waits for the worker's first write, and the second write for the end of that round.
@@ -122,18 +131,12 @@ impl Gate for Between {
 
 #[test]
 fn a_watcher_looks_between_two_writes(rt: HostRuntime) -> Result<(), Fail> {
-    run(&rt, rt.alloc(), Row::Between)?;
-    Ok(())
+    Ok(again(|| round_between(&rt, rt.alloc()))?)
 }
 
-pub(super) fn round_between<R: Threads + Wait + Abort + Sync>(
-    rt: &R,
-    alloc: Global,
-) -> Result<(), KvError> {
+fn round_between<R: Threads + Wait + Abort + Sync>(rt: &R, alloc: Global) -> Result<(), KvError> {
     let gate = nothing_between_yet();
-    race_of(rt, alloc, (1, &["a", "b"]), &[">"], &gate, 2)?;
-    assert!(rt; !is_raised(&gate.late));
-    Ok(())
+    race_through(rt, alloc, (1, &["a", "b"]), &gate, &gate.late, 2)
 }
 
 // How long the writer is held up.
@@ -178,16 +181,13 @@ impl Gate for HeldUp {
 
 #[test]
 fn a_watcher_sleeps_until_the_first_write(rt: HostRuntime) -> Result<(), Fail> {
-    run(&rt, rt.alloc(), Row::Sleeping)?;
-    Ok(())
+    Ok(again(|| sleeps_until_written(&rt, rt.alloc()))?)
 }
 
-pub(super) fn sleeps_until_written<R: Threads + Wait + Abort + Sync>(
+fn sleeps_until_written<R: Threads + Wait + Abort + Sync>(
     rt: &R,
     alloc: Global,
 ) -> Result<(), KvError> {
     let gate = nobody_writes_yet();
-    race_of(rt, alloc, (1, &["a"]), &[">"], &gate, 1)?;
-    assert!(rt; !is_raised(&gate.early));
-    Ok(())
+    race_through(rt, alloc, (1, &["a"]), &gate, &gate.early, 1)
 }

@@ -39,8 +39,7 @@ fn refused_beside<R: Threads + Wait + Sync>(
     scripts: &[Vec<Request>],
     watches: &[(Filters, Options)],
 ) -> Result<(), KvError> {
-    let config = Config::named(alloc, name)?;
-    race(rt, alloc, &config, scripts, watches, &NoGate)?;
+    raced(rt, alloc, name, scripts, watches, &NoGate)?;
     Ok(())
 }
 
@@ -52,29 +51,74 @@ fn refused<R: Threads + Wait + Sync>(
     workers: usize,
     watches: usize,
 ) -> Result<(), KvError> {
-    match refused_once(rt, alloc, name, workers, watches) {
-        Err(KvError::OutOfMemory) => refused_once(rt, alloc, name, workers, watches),
-        done => done,
-    }
+    again(|| refused_once(rt, alloc, name, workers, watches))
 }
 
-// The bucket's name, how many workers and watches, and the answer.
-const REFUSALS: &[(&str, usize, usize, Result<(), KvError>)] = &[
-    ("kv", 1, 0, Ok(())),
-    ("kv", 16, 1, Ok(())),
-    ("kv", 0, 1, Err(KvError::BadConfig)),
-    ("kv", 17, 1, Err(KvError::BadConfig)),
-    ("kv", 17, 33, Err(KvError::BadConfig)),
-    ("kv", 16, 33, Err(KvError::NoReader)),
-    ("my.bucket", 0, 33, Err(KvError::BadBucket)),
-    ("my.bucket", 16, 33, Err(KvError::BadBucket)),
+// A race of this bucket, with so many workers and watches, and its answer.
+struct Asked {
+    name: &'static str,
+    workers: usize,
+    watches: usize,
+    answer: Result<(), KvError>,
+}
+
+const RACES: &[Asked] = &[
+    Asked {
+        name: "kv",
+        workers: 1,
+        watches: 0,
+        answer: Ok(()),
+    },
+    Asked {
+        name: "kv",
+        workers: MOST_WORKERS,
+        watches: 1,
+        answer: Ok(()),
+    },
+    Asked {
+        name: "kv",
+        workers: 0,
+        watches: 1,
+        answer: Err(KvError::BadConfig),
+    },
+    Asked {
+        name: "kv",
+        workers: MOST_WORKERS + 1,
+        watches: 1,
+        answer: Err(KvError::BadConfig),
+    },
+    Asked {
+        name: "kv",
+        workers: MOST_WORKERS + 1,
+        watches: MOST_WATCHES + 1,
+        answer: Err(KvError::BadConfig),
+    },
+    Asked {
+        name: "kv",
+        workers: MOST_WORKERS,
+        watches: MOST_WATCHES + 1,
+        answer: Err(KvError::NoReader),
+    },
+    Asked {
+        name: "my.bucket",
+        workers: 0,
+        watches: MOST_WATCHES + 1,
+        answer: Err(KvError::BadBucket),
+    },
+    Asked {
+        name: "my.bucket",
+        workers: MOST_WORKERS,
+        watches: MOST_WATCHES + 1,
+        answer: Err(KvError::BadBucket),
+    },
 ];
 
 #[test]
-fn a_race_is_refused_in_this_order(rt: HostRuntime) -> Result<(), Fail> {
+fn a_race_refuses_names_then_workers_then_watches(rt: HostRuntime) -> Result<(), Fail> {
     let alloc = rt.alloc();
-    for (name, workers, watches, answer) in REFUSALS {
-        equal(&rt, refused(&rt, alloc, name, *workers, *watches), *answer);
+    for asked in RACES {
+        let answer = refused(&rt, alloc, asked.name, asked.workers, asked.watches);
+        equal(&rt, answer, asked.answer);
     }
     Ok(())
 }
@@ -83,8 +127,11 @@ fn a_race_is_refused_in_this_order(rt: HostRuntime) -> Result<(), Fail> {
 fn race_of_two<R: Threads + Wait + Sync>(rt: &R, alloc: Global) -> Result<Report, KvError> {
     let scripts = scripts_of(alloc, 2, &["a"])?;
     let watches = watches_of(alloc, &[">"])?;
-    race_once(rt, alloc, &scripts, &watches, &NoGate)
+    raced(rt, alloc, "kv", &scripts, &watches, &NoGate)
 }
+
+// How many writes both workers make.
+const WRITES: u64 = 2;
 
 fn accepts_each_once<R: Threads + Wait + Abort + Sync>(
     rt: &R,
@@ -92,7 +139,7 @@ fn accepts_each_once<R: Threads + Wait + Abort + Sync>(
 ) -> Result<(), KvError> {
     let report = race_of_two(rt, alloc)?;
     let accepted = answers_each_once(rt, alloc, &report)?;
-    assert!(rt; accepted == 2 || lacked_memory(&report));
+    assert!(rt; accepted == WRITES || lacked_memory(&report));
     Ok(())
 }
 

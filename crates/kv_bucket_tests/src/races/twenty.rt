@@ -4,8 +4,7 @@ use super::*;
 
 #[test]
 fn twenty_writes_of_four_workers_come_in_order(rt: HostRuntime) -> Result<(), Fail> {
-    run(&rt, rt.alloc(), Row::Twenty)?;
-    Ok(())
+    Ok(again(|| twenty(&rt, rt.alloc()))?)
 }
 
 // The keys that each worker writes to, in its order.
@@ -16,11 +15,14 @@ const SCRIPTS: &[&[&str]] = &[
     &["a.3", "a.7", "a.11", "a.15", "a.19"],
 ];
 
-// The marker of the empty bucket, and then the writes from 1 to 20.
+// How many writes the scripts have together.
+const WRITES: u64 = 20;
+
+// The marker of the empty bucket, and then each of the writes.
 fn wanted(alloc: Global) -> Result<Vec<Event>, KvError> {
     let mut events = Vec::new(alloc);
     events.push(Event::Marker)?;
-    for before in 0..20 {
+    for before in 0..WRITES {
         events.push(Event::Entry {
             revision: before + 1,
         })?;
@@ -36,10 +38,7 @@ fn twenty_scripts(alloc: Global) -> Result<Vec<Vec<Request>>, KvError> {
     Ok(scripts)
 }
 
-pub(super) fn twenty<R: Threads + Wait + Abort + Sync>(
-    rt: &R,
-    alloc: Global,
-) -> Result<(), KvError> {
+fn twenty<R: Threads + Wait + Abort + Sync>(rt: &R, alloc: Global) -> Result<(), KvError> {
     let scripts = twenty_scripts(alloc)?;
     twenty_watched(rt, alloc, &scripts)
 }
@@ -59,12 +58,13 @@ fn twenty_raced<R: Threads + Wait + Abort + Sync>(
     scripts: &[Vec<Request>],
     watches: &[(Filters, Options)],
 ) -> Result<(), KvError> {
-    let report = raced(rt, alloc, scripts, watches, &NoGate)?;
+    let report = raced(rt, alloc, "kv", scripts, watches, &NoGate)?;
+    let report = with_all_memory(report)?;
     all_twenty(rt, alloc, &report)
 }
 
 fn all_twenty<R: Abort>(rt: &R, alloc: Global, report: &Report) -> Result<(), KvError> {
-    equal(rt, answers_each_once(rt, alloc, report)?, 20);
+    equal(rt, answers_each_once(rt, alloc, report)?, WRITES);
     all_saw(rt, report, &wanted(alloc)?);
     Ok(())
 }

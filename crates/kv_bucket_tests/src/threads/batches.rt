@@ -1,6 +1,7 @@
-//! Rows of batches: what is asked in one is done in one step, or nothing of it is.
+//! Tests of batches: what is asked in one is done in one step, or nothing of it is.
 
 use super::*;
+use crate::batched::batched;
 use kv_bucket::{BatchReceipt, Keeper};
 
 pub(super) const NOTHING: &[Ask] = &[];
@@ -58,32 +59,37 @@ const IN_ONE_STEP: &[(Call, Answer)] = &[
 // revisions.
 #[test]
 fn a_batch_is_done_in_one_step_or_not_at_all(rt: HostRuntime) -> Result<(), Fail> {
-    run(&rt, rt.alloc(), Row::Batches)?;
-    Ok(())
+    Ok(run(&rt, rt.alloc(), InOneStep)?)
 }
 
-pub(super) fn in_one_step<N: LiveName, R: Wait + Abort>(
-    rt: &R,
-    alloc: Global,
-    live: &Live<N>,
-    readers: &mut Vec<Reader<N>>,
-) -> Result<(), KvError> {
-    calls(rt, alloc, live, IN_ONE_STEP);
-    last_reads(rt, readers, Answer::On(6, 0))
+#[derive(Clone, Copy)]
+struct InOneStep;
+
+impl<R: Wait + Abort> Test<R> for InOneStep {
+    fn run<N: LiveName>(
+        self,
+        rt: &R,
+        alloc: Global,
+        live: &Live<N>,
+        readers: &mut Vec<Reader<N>>,
+    ) -> Result<(), KvError> {
+        calls(rt, alloc, live, IN_ONE_STEP);
+        last_reads(rt, readers, Answer::On(6, 0))
+    }
 }
 
-// Whether a reader and the reader of a feed have seen a batch, and whether the reader was told of it.
-type Known = (bool, bool, bool);
-
+// Who knows a batch by its receipt: who has seen it, and whether the reader was told it.
 fn knows<N: LiveName, R: Abort>(
     rt: &R,
     receipt: &BatchReceipt<N>,
     reader: &Reader<N>,
     feed: &Feed<N>,
-    known: Known,
+    seen: Seen,
+    told: Told,
 ) {
-    let seen = (receipt.is_seen_by(reader), receipt.is_followed_by(feed));
-    equal(rt, (seen.0, seen.1, receipt.is_told_to(reader)), known);
+    let by_reader = receipt.is_seen_by(reader);
+    equal(rt, seen_by(by_reader, receipt.is_followed_by(feed)), seen);
+    equal(rt, told_if(receipt.is_told_to(reader)), told);
 }
 
 fn told_once<N: LiveName, R: Wait>(
@@ -92,11 +98,7 @@ fn told_once<N: LiveName, R: Wait>(
     keeper: &mut Keeper<N>,
     asks: &[Ask],
 ) -> Result<(u64, BatchReceipt<N>), KvError> {
-    let requests = requests(alloc, asks)?;
-    match keeper.write_all_told(rt, &requests) {
-        Ok(told) => Ok(told),
-        Err(refused) => Err(refused.error),
-    }
+    batched(keeper.write_all_told(rt, &requests(alloc, asks)?))
 }
 
 fn told_made<N: LiveName, R: Wait + Abort>(
@@ -105,10 +107,10 @@ fn told_made<N: LiveName, R: Wait + Abort>(
     keeper: &mut Keeper<N>,
     asks: &[Ask],
 ) -> Result<(u64, BatchReceipt<N>), KvError> {
-    made(
-        rt,
+    let before = look_through(keeper);
+    again_on(
         keeper,
-        |keeper| look_through(keeper),
+        |keeper| looks_as(rt, &look_through(keeper), &before),
         |keeper| told_once(rt, alloc, keeper, asks),
     )
 }
@@ -130,32 +132,26 @@ fn told_through<N: LiveName, R: Wait + Abort>(
 // Refutes a receipt that nobody has ever seen, and one that everybody has.
 #[test]
 fn a_batch_receipt_tells_who_has_seen_the_batch(rt: HostRuntime) -> Result<(), Fail> {
-    run(&rt, rt.alloc(), Row::ToldBatch)?;
-    Ok(())
+    Ok(run(&rt, rt.alloc(), ToldBatch)?)
 }
 
-pub(super) fn told<N: LiveName, R: Wait + Abort>(
-    rt: &R,
-    alloc: Global,
-    live: &Live<N>,
-    readers: &mut Vec<Reader<N>>,
-) -> Result<(), KvError> {
-    calls(rt, alloc, live, &[(Call::Put("a"), Answer::Number(1))]);
-    let mut reader = last(readers)?;
-    reads(rt, &mut reader, Answer::On(1, 0));
-    told_beside_a_feed(rt, alloc, live, readers, &mut reader)
-}
+#[derive(Clone, Copy)]
+struct ToldBatch;
 
-fn told_beside_a_feed<N: LiveName, R: Wait + Abort>(
-    rt: &R,
-    alloc: Global,
-    live: &Live<N>,
-    readers: &mut Vec<Reader<N>>,
-    reader: &mut Reader<N>,
-) -> Result<(), KvError> {
-    let mut feed = feed_of_last(alloc, readers)?;
-    told_to_both(rt, alloc, live, reader, &mut feed)?;
-    told_of_nothing(rt, alloc, live, reader, &feed)
+impl<R: Wait + Abort> Test<R> for ToldBatch {
+    fn run<N: LiveName>(
+        self,
+        rt: &R,
+        alloc: Global,
+        live: &Live<N>,
+        readers: &mut Vec<Reader<N>>,
+    ) -> Result<(), KvError> {
+        calls(rt, alloc, live, &[(Call::Put("a"), Answer::Number(1))]);
+        let (mut reader, mut feed) = reader_and_feed(alloc, readers)?;
+        reads(rt, &mut reader, Answer::On(1, 0));
+        told_to_both(rt, alloc, live, &mut reader, &mut feed)?;
+        told_of_nothing(rt, alloc, live, &mut reader, &feed)
+    }
 }
 
 fn told_to_both<N: LiveName, R: Wait + Abort>(
@@ -168,7 +164,7 @@ fn told_to_both<N: LiveName, R: Wait + Abort>(
     let receipt = told_through(rt, alloc, live, PAIR, 2)?;
     seen_in_turn(rt, &receipt, reader, feed);
     calls(rt, alloc, live, &[(Call::Put("c"), Answer::Number(4))]);
-    knows(rt, &receipt, reader, feed, (true, true, true));
+    knows(rt, &receipt, reader, feed, Seen::ByBoth, Told::Yes);
     Ok(())
 }
 
@@ -193,14 +189,14 @@ fn seen_in_turn<N: LiveName, R: Abort>(
     reader: &mut Reader<N>,
     feed: &mut Feed<N>,
 ) {
-    knows(rt, receipt, reader, feed, (false, false, false));
+    knows(rt, receipt, reader, feed, Seen::ByNobody, Told::No);
     reader.learn_mark(receipt.mark());
-    knows(rt, receipt, reader, feed, (false, false, true));
+    knows(rt, receipt, reader, feed, Seen::ByNobody, Told::Yes);
     moves(rt, feed, BEFORE);
     reads(rt, reader, Answer::On(3, 0));
-    knows(rt, receipt, reader, feed, (true, false, true));
+    knows(rt, receipt, reader, feed, Seen::ByReader, Told::Yes);
     moves(rt, feed, BEHIND);
-    knows(rt, receipt, reader, feed, (true, true, true));
+    knows(rt, receipt, reader, feed, Seen::ByBoth, Told::Yes);
 }
 
 // The receipt of a batch of no requests tells all that was published before.
@@ -212,16 +208,15 @@ fn told_of_nothing<N: LiveName, R: Wait + Abort>(
     feed: &Feed<N>,
 ) -> Result<(), KvError> {
     let receipt = told_through(rt, alloc, live, NOTHING, 4)?;
-    knows(rt, &receipt, reader, feed, (false, false, false));
+    knows(rt, &receipt, reader, feed, Seen::ByNobody, Told::No);
     reads(rt, reader, Answer::On(4, 0));
-    knows(rt, &receipt, reader, feed, (true, false, false));
+    knows(rt, &receipt, reader, feed, Seen::ByReader, Told::No);
     Ok(())
 }
 
 #[test]
 fn a_batch_is_seen_behind_a_close(rt: HostRuntime) -> Result<(), Fail> {
-    run(&rt, rt.alloc(), Row::BatchBeforeTheClose)?;
-    Ok(())
+    Ok(run_closing(&rt, rt.alloc(), ClosedBehindABatch)?)
 }
 
 // A feed of the empty bucket, and the receipt of a batch that it has not gone on to.
@@ -251,25 +246,27 @@ fn told_live<N: LiveName, R: Wait>(
     alloc: Global,
     live: &Live<N>,
 ) -> Result<(u64, BatchReceipt<N>), KvError> {
-    let requests = requests(alloc, PAIR)?;
-    match live.write_all_told(rt, &requests) {
-        Ok(told) => Ok(told),
-        Err(refused) => Err(refused.error),
-    }
+    batched(live.write_all_told(rt, &requests(alloc, PAIR)?))
 }
 
 // The bucket is closed behind the batch, before anybody looks.
-pub(super) fn closed_behind<N: LiveName, R: Wait + Abort>(
-    rt: &R,
-    alloc: Global,
-    live: Live<N>,
-    readers: &mut Vec<Reader<N>>,
-) -> Result<(), KvError> {
-    let told = told_to_a_feed(rt, alloc, &live, readers);
-    live.close(rt);
-    let (mut feed, receipt) = told?;
-    goes_on_behind_the_close(rt, &receipt, &mut feed);
-    looks_behind_the_close(rt, &receipt, readers)
+#[derive(Clone, Copy)]
+struct ClosedBehindABatch;
+
+impl<R: Wait + Abort> ClosingTest<R> for ClosedBehindABatch {
+    fn run<N: LiveName>(
+        self,
+        rt: &R,
+        alloc: Global,
+        live: Live<N>,
+        readers: &mut Vec<Reader<N>>,
+    ) -> Result<(), KvError> {
+        let told = told_to_a_feed(rt, alloc, &live, readers);
+        live.close(rt);
+        let (mut feed, receipt) = told?;
+        goes_on_behind_the_close(rt, &receipt, &mut feed);
+        looks_behind_the_close(rt, &receipt, readers)
+    }
 }
 
 const ALL_OF_IT: &[(Move, Answer)] = &[

@@ -1,37 +1,65 @@
-//! A row of a version that a thread keeps: it stays as it is until it is refreshed, and is then on what is published.
+//! A test of a version that a thread keeps: it stays as it is until it is refreshed, and is then on what is published.
 
 use super::*;
 use kv_bucket::{Cached, Key};
 
 #[test]
-fn a_cached_version_is_refreshed(rt: HostRuntime) -> Result<(), Fail> {
-    run(&rt, rt.alloc(), Row::Cached)?;
-    Ok(())
+fn a_cached_version_stays_until_it_is_refreshed(rt: HostRuntime) -> Result<(), Fail> {
+    Ok(run(&rt, rt.alloc(), CachedVersion)?)
 }
 
-// What is done, and what the cached version is on from the next refresh on.
-const LINES: &[(Call, Answer, Answer)] = &[
-    (Call::Put("a"), Answer::Number(1), Answer::On(1, 0)),
-    (Call::Put("a"), Answer::Number(2), Answer::On(2, 0)),
-    (Call::Compact(1), Answer::Done, Answer::On(2, 1)),
-    (
-        Call::Compact(3),
-        Answer::Refused(KvError::BadFloor),
-        Answer::On(2, 1),
-    ),
-    (Call::Seal, Answer::Done, Answer::On(2, 1)),
+// A call, what it answers, and what the cached version is on from the next refresh on.
+#[derive(Clone, Copy)]
+struct Line {
+    call: Call,
+    answer: Answer,
+    refreshed: Answer,
+}
+
+const LINES: &[Line] = &[
+    Line {
+        call: Call::Put("a"),
+        answer: Answer::Number(1),
+        refreshed: Answer::On(1, 0),
+    },
+    Line {
+        call: Call::Put("a"),
+        answer: Answer::Number(2),
+        refreshed: Answer::On(2, 0),
+    },
+    Line {
+        call: Call::Compact(1),
+        answer: Answer::Done,
+        refreshed: Answer::On(2, 1),
+    },
+    Line {
+        call: Call::Compact(3),
+        answer: Answer::Refused(KvError::BadFloor),
+        refreshed: Answer::On(2, 1),
+    },
+    Line {
+        call: Call::Seal,
+        answer: Answer::Done,
+        refreshed: Answer::On(2, 1),
+    },
 ];
 
-pub(super) fn refreshed<N: LiveName, R: Wait + Abort>(
-    rt: &R,
-    alloc: Global,
-    live: &Live<N>,
-    readers: &mut Vec<Reader<N>>,
-) -> Result<(), KvError> {
-    let mut reader = last(readers)?;
-    refreshed_in_turn(rt, alloc, live, &mut reader)?;
-    equal(rt, last_seen(&mut reader, &key_a(alloc)?)?, 2);
-    Ok(())
+#[derive(Clone, Copy)]
+struct CachedVersion;
+
+impl<R: Wait + Abort> Test<R> for CachedVersion {
+    fn run<N: LiveName>(
+        self,
+        rt: &R,
+        alloc: Global,
+        live: &Live<N>,
+        readers: &mut Vec<Reader<N>>,
+    ) -> Result<(), KvError> {
+        let mut reader = last(readers)?;
+        refreshed_in_turn(rt, alloc, live, &mut reader)?;
+        equal(rt, last_seen(&mut reader, &key_a(alloc)?)?, 2);
+        Ok(())
+    }
 }
 
 fn refreshed_in_turn<N: LiveName, R: Wait + Abort>(
@@ -42,10 +70,10 @@ fn refreshed_in_turn<N: LiveName, R: Wait + Abort>(
 ) -> Result<(), KvError> {
     let mut cached = reader.cached()?;
     let mut before = Answer::On(0, 0);
-    for &(call, answer, after) in LINES {
-        calls(rt, alloc, live, &[(call, answer)]);
-        stays_until_refreshed(rt, reader, &mut cached, before, after)?;
-        before = after;
+    for line in LINES {
+        calls(rt, alloc, live, &[(line.call, line.answer)]);
+        stays_until_refreshed(rt, reader, &mut cached, before, line.refreshed)?;
+        before = line.refreshed;
     }
     Ok(())
 }

@@ -3,6 +3,7 @@
 
 use super::*;
 use kv_bucket::{BatchRefused, Keeper, Key, Request, Stopped};
+use kv_test_tools::delete;
 
 // What is asked in a batch.
 #[derive(Clone, Copy)]
@@ -37,14 +38,7 @@ pub(super) enum Step {
 }
 
 pub(super) fn put_request(alloc: Global, key: &str) -> Result<Request, KvError> {
-    let key = Key::parse(alloc, key)?;
-    let value = Vec::from_slice(alloc, b"1")?;
-    Ok(Request::Put { key, value })
-}
-
-fn delete_request(alloc: Global, key: &str) -> Result<Request, KvError> {
-    let key = Key::parse(alloc, key)?;
-    Ok(Request::Delete { key, last: None })
+    kv_test_tools::put(alloc, key, "1")
 }
 
 fn request(alloc: Global, ask: Ask) -> Result<Request, KvError> {
@@ -54,10 +48,7 @@ fn request(alloc: Global, ask: Ask) -> Result<Request, KvError> {
             key: Key::parse(alloc, key)?,
             value: Vec::new(alloc),
         }),
-        Ask::Delete(key, last) => Ok(Request::Delete {
-            key: Key::parse(alloc, key)?,
-            last: Some(last),
-        }),
+        Ask::Delete(key, last) => delete(alloc, key, Some(last)),
     }
 }
 
@@ -142,7 +133,7 @@ fn step_once<N: LiveName, R: Wait + Abort>(
     match step {
         Step::Put(key) => number(keep(rt, keeper, put_request(alloc, key))),
         Step::WriteAll(asks) => keep_all(rt, alloc, keeper, asks),
-        Step::Delete(key) => number(keep(rt, keeper, delete_request(alloc, key))),
+        Step::Delete(key) => number(keep(rt, keeper, delete(alloc, key, None))),
         Step::Seal => done(keeper.seal(rt)),
         Step::Watch => number(watch(alloc, keeper)),
         Step::Take(number) => take(rt, keeper, number),
@@ -194,10 +185,10 @@ fn step_made<N: LiveName, R: Wait + Abort>(
     keeper: &mut Keeper<N>,
     step: Step,
 ) -> Answer {
-    made(
-        rt,
+    let before = look_through(keeper);
+    again_on(
         keeper,
-        |keeper| look_through(keeper),
+        |keeper| looks_as(rt, &look_through(keeper), &before),
         |keeper| step_once(rt, alloc, keeper, step),
     )
 }
@@ -219,11 +210,28 @@ fn call_made<N: LiveName, R: Wait + Abort>(
     live: &Live<N>,
     call: Call,
 ) -> Answer {
+    let before = look(rt, live);
     let mut live = live;
-    made(
-        rt,
+    again_on(
         &mut live,
-        |live| look(rt, *live),
+        |live| looks_as(rt, &look(rt, *live), &before),
         |live| call_once(rt, alloc, *live, call),
     )
+}
+
+// A test of calls one after another, each with what it answers. It uses no reader.
+#[derive(Clone, Copy)]
+pub(super) struct InTurn(pub(super) &'static [(Call, Answer)]);
+
+impl<R: Wait + Abort> Test<R> for InTurn {
+    fn run<N: LiveName>(
+        self,
+        rt: &R,
+        alloc: Global,
+        live: &Live<N>,
+        _readers: &mut Vec<Reader<N>>,
+    ) -> Result<(), KvError> {
+        calls(rt, alloc, live, self.0);
+        Ok(())
+    }
 }

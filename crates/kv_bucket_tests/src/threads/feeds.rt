@@ -1,12 +1,11 @@
-//! Rows of feeds beside other threads, which write or have the lock.
+//! Tests of feeds beside other threads, which write or have the lock.
 
 use super::*;
 use kv_bucket::Keeper;
 
 #[test]
 fn a_feed_goes_on_to_what_a_second_thread_wrote(rt: HostRuntime) -> Result<(), Fail> {
-    run(&rt, rt.alloc(), Row::SecondWriter)?;
-    Ok(())
+    Ok(run_threaded(&rt, rt.alloc(), OPENING, Threaded::SecondWriter)?)
 }
 
 const THREE_KEYS: &[(Call, Answer)] = &[
@@ -38,7 +37,7 @@ const SEALED: &[(Call, Answer)] = &[
     (Call::Put("e"), Answer::Refused(KvError::Sealed)),
 ];
 
-pub(super) fn behind_a_second_writer<N: LiveName + Send + Sync, R: Threads + Wait + Abort + Sync>(
+pub(crate) fn behind_a_second_writer<N: LiveName + Send + Sync, R: Threads + Wait + Abort + Sync>(
     rt: &R,
     alloc: Global,
     live: &Live<N>,
@@ -61,18 +60,20 @@ fn opened_beside_the_guard<N: LiveName + Send + Sync, R: Threads + Wait + Abort 
     reader: Reader<N>,
 ) -> Result<Feed<N>, KvError> {
     let keeper = live.lock(rt);
-    let (feed, ()) = join(rt, || taken_to_the_end(rt, alloc, reader), || ());
+    let (feed, ()) = join(rt, || taken(rt, alloc, reader, THREE_ENTRIES), || ());
     is_at(rt, &keeper, 3);
     feed
 }
 
-fn taken_to_the_end<N: LiveName, R: Abort>(
+// A feed of which this is taken.
+fn taken<N: LiveName, R: Abort>(
     rt: &R,
     alloc: Global,
     reader: Reader<N>,
+    lines: &[(Move, Answer)],
 ) -> Result<Feed<N>, KvError> {
     let mut feed = feed_of(alloc, reader)?;
-    moves(rt, &mut feed, THREE_ENTRIES);
+    moves(rt, &mut feed, lines);
     Ok(feed)
 }
 
@@ -100,8 +101,7 @@ fn write_beside<N: LiveName + Send + Sync, R: Threads + Wait + Abort + Sync>(
 // Refutes feed_takes_the_lock, which would wait here for ever: the guard is given back only after the feed is done.
 #[test]
 fn a_feed_needs_no_lock(rt: HostRuntime) -> Result<(), Fail> {
-    run(&rt, rt.alloc(), Row::BesideAGuard)?;
-    Ok(())
+    Ok(run_threaded(&rt, rt.alloc(), OPENING, Threaded::BesideAGuard)?)
 }
 
 // The latest entries are those of revisions 2 and 3.
@@ -119,7 +119,7 @@ const ITEMS: &[(Move, Answer)] = &[
 ];
 
 // A feed that is dropped takes its reader with it, and nobody waits for either.
-pub(super) fn beside_a_guard<N: LiveName + Send + Sync, R: Threads + Wait + Abort + Sync>(
+pub(crate) fn beside_a_guard<N: LiveName + Send + Sync, R: Threads + Wait + Abort + Sync>(
     rt: &R,
     alloc: Global,
     live: &Live<N>,
@@ -137,19 +137,9 @@ fn followed<N: LiveName + Send + Sync, R: Threads + Wait + Abort + Sync>(
     live: &Live<N>,
     readers: &mut Vec<Reader<N>>,
 ) -> Result<Feed<N>, KvError> {
-    let feed = taken_of_last(rt, alloc, readers)?;
+    let feed = taken(rt, alloc, last(readers)?, ITEMS)?;
     let reader = stopped_under_a_guard(rt, alloc, live, feed);
     feed_of(alloc, reader)
-}
-
-fn taken_of_last<N: LiveName, R: Abort>(
-    rt: &R,
-    alloc: Global,
-    readers: &mut Vec<Reader<N>>,
-) -> Result<Feed<N>, KvError> {
-    let mut feed = feed_of_last(alloc, readers)?;
-    moves(rt, &mut feed, ITEMS);
-    Ok(feed)
 }
 
 // This thread writes through its guard, and has it while another thread goes on with the feed.
@@ -196,19 +186,24 @@ fn is_at<N: LiveName, R: Abort>(rt: &R, keeper: &Keeper<N>, revision: u64) {
 
 #[test]
 fn a_feed_stops_in_each_phase(rt: HostRuntime) -> Result<(), Fail> {
-    run(&rt, rt.alloc(), Row::EachPhase)?;
-    Ok(())
+    Ok(run(&rt, rt.alloc(), EachPhase)?)
 }
 
-pub(super) fn in_each_phase<N: LiveName, R: Wait + Abort>(
-    rt: &R,
-    alloc: Global,
-    live: &Live<N>,
-    readers: &mut Vec<Reader<N>>,
-) -> Result<(), KvError> {
-    calls(rt, alloc, live, THREE_WRITES);
-    let reader = last(readers)?;
-    stopped_in_each_phase(rt, alloc, reader)
+#[derive(Clone, Copy)]
+struct EachPhase;
+
+impl<R: Wait + Abort> Test<R> for EachPhase {
+    fn run<N: LiveName>(
+        self,
+        rt: &R,
+        alloc: Global,
+        live: &Live<N>,
+        readers: &mut Vec<Reader<N>>,
+    ) -> Result<(), KvError> {
+        calls(rt, alloc, live, THREE_WRITES);
+        let reader = last(readers)?;
+        stopped_in_each_phase(rt, alloc, reader)
+    }
 }
 
 fn stopped_in_each_phase<N: LiveName, R: Abort>(
@@ -217,21 +212,22 @@ fn stopped_in_each_phase<N: LiveName, R: Abort>(
     reader: Reader<N>,
 ) -> Result<(), KvError> {
     let mut reader = reader;
-    for (count, handed) in [(0, 0), (1, 1), (2, 2), (3, 3), (4, 3)] {
-        reader = stopped_after(rt, alloc, reader, count, handed)?;
+    for takes in 0..HANDED.len() {
+        reader = stopped_in(rt, alloc, reader, takes, HANDED[takes])?;
     }
     Ok(())
 }
 
-// Opens a feed, takes so often, and stops it.
-fn stopped_after<N: LiveName, R: Abort>(
+// How many items a feed has handed out behind so many takes, from none on. The fourth take finds nothing.
+const HANDED: &[u64] = &[0, 1, 2, 3, 3];
+
+fn stopped_in<N: LiveName, R: Abort>(
     rt: &R,
     alloc: Global,
     reader: Reader<N>,
-    count: usize,
+    takes: usize,
     handed: u64,
 ) -> Result<Reader<N>, KvError> {
-    let mut feed = feed_of(alloc, reader)?;
-    moves(rt, &mut feed, &ITEMS[..count.min(ITEMS.len())]);
+    let feed = taken(rt, alloc, reader, &ITEMS[..takes.min(ITEMS.len())])?;
     Ok(stopped_at(rt, feed, handed))
 }

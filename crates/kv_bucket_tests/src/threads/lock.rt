@@ -1,33 +1,35 @@
-//! Rows on the lock. What is done on a guard has a guard of its own for each line.
+//! Tests of the lock. What is done on a guard has a guard of its own for each line.
 
 use super::*;
 
+const NO_SUCH_WATCH: Answer = Answer::Refused(KvError::NoSuchWatch);
+
+// A watch that is opened behind the first of three puts is given that, and then the others.
 #[derive(Clone, Copy)]
-pub(super) enum Row {
-    InitialOfItsMoment,
-    InitialThroughWrite,
-    WatchNumbers,
-    WriteLimitAndSeal,
+struct WatchBetweenPuts {
+    put: Call,
 }
 
-impl Row {
-    pub(super) fn lines(self) -> &'static [(Call, Answer)] {
-        match self {
-            Row::InitialOfItsMoment => INITIAL_OF_ITS_MOMENT,
-            Row::InitialThroughWrite => INITIAL_THROUGH_WRITE,
-            Row::WatchNumbers => WATCH_NUMBERS,
-            Row::WriteLimitAndSeal => WRITE_LIMIT_AND_SEAL,
-        }
+impl<R: Wait + Abort> Test<R> for WatchBetweenPuts {
+    fn run<N: LiveName>(
+        self,
+        rt: &R,
+        alloc: Global,
+        live: &Live<N>,
+        _readers: &mut Vec<Reader<N>>,
+    ) -> Result<(), KvError> {
+        calls(rt, alloc, live, &[(self.put, Answer::Number(1))]);
+        calls(rt, alloc, live, WATCHED);
+        calls(rt, alloc, live, &[(self.put, Answer::Number(2))]);
+        calls(rt, alloc, live, &[(self.put, Answer::Number(3))]);
+        calls(rt, alloc, live, HANDED);
+        Ok(())
     }
 }
 
-const NO_SUCH_WATCH: Answer = Answer::Refused(KvError::NoSuchWatch);
+const WATCHED: &[(Call, Answer)] = &[(Call::Guarded(Step::Watch), Answer::Number(1))];
 
-const INITIAL_OF_ITS_MOMENT: &[(Call, Answer)] = &[
-    (Call::Guarded(Step::Put("k")), Answer::Number(1)),
-    (Call::Guarded(Step::Watch), Answer::Number(1)),
-    (Call::Guarded(Step::Put("k")), Answer::Number(2)),
-    (Call::Guarded(Step::Put("k")), Answer::Number(3)),
+const HANDED: &[(Call, Answer)] = &[
     (Call::Guarded(Step::Take(1)), Answer::Entry(1)),
     (Call::Guarded(Step::Take(1)), Answer::Marker),
     (Call::Guarded(Step::Take(1)), Answer::Entry(2)),
@@ -38,27 +40,15 @@ const INITIAL_OF_ITS_MOMENT: &[(Call, Answer)] = &[
 // Refutes lock_resets_watches, which would lose a watch between two guards.
 #[test]
 fn a_watch_survives_the_guard(rt: HostRuntime) -> Result<(), Fail> {
-    run(&rt, rt.alloc(), super::Row::Calls(Row::InitialOfItsMoment))?;
-    Ok(())
+    let put = Call::Guarded(Step::Put("k"));
+    Ok(run(&rt, rt.alloc(), WatchBetweenPuts { put })?)
 }
-
-const INITIAL_THROUGH_WRITE: &[(Call, Answer)] = &[
-    (Call::Put("k"), Answer::Number(1)),
-    (Call::Guarded(Step::Watch), Answer::Number(1)),
-    (Call::Put("k"), Answer::Number(2)),
-    (Call::Put("k"), Answer::Number(3)),
-    (Call::Guarded(Step::Take(1)), Answer::Entry(1)),
-    (Call::Guarded(Step::Take(1)), Answer::Marker),
-    (Call::Guarded(Step::Take(1)), Answer::Entry(2)),
-    (Call::Guarded(Step::Take(1)), Answer::Entry(3)),
-    (Call::Guarded(Step::Take(1)), Answer::Empty),
-];
 
 // Refutes live_write_writes_nothing, which would answer a number without a write.
 #[test]
 fn a_live_write_is_stored(rt: HostRuntime) -> Result<(), Fail> {
-    run(&rt, rt.alloc(), super::Row::Calls(Row::InitialThroughWrite))?;
-    Ok(())
+    let put = Call::Put("k");
+    Ok(run(&rt, rt.alloc(), WatchBetweenPuts { put })?)
 }
 
 const WATCH_NUMBERS: &[(Call, Answer)] = &[
@@ -74,15 +64,11 @@ const WATCH_NUMBERS: &[(Call, Answer)] = &[
 
 #[test]
 fn a_number_is_given_to_one_watch(rt: HostRuntime) -> Result<(), Fail> {
-    run(&rt, rt.alloc(), super::Row::Calls(Row::WatchNumbers))?;
-    Ok(())
+    Ok(run(&rt, rt.alloc(), InTurn(WATCH_NUMBERS))?)
 }
 
-#[test]
-fn the_sixty_fifth_watch_is_refused_until_one_is_stopped(rt: HostRuntime) -> Result<(), Fail> {
-    run(&rt, rt.alloc(), super::Row::SixtyFourWatches)?;
-    Ok(())
-}
+// So many watches may be open.
+const MOST_WATCHES: u64 = 64;
 
 // A stopped watch makes room, and its number is not given again.
 const BEYOND: &[(Call, Answer)] = &[
@@ -91,23 +77,40 @@ const BEYOND: &[(Call, Answer)] = &[
         Answer::Refused(KvError::TooManyWatches),
     ),
     (Call::Guarded(Step::Stop(1)), Answer::Stopped(0)),
-    (Call::Guarded(Step::Watch), Answer::Number(65)),
+    (Call::Guarded(Step::Watch), Answer::Number(MOST_WATCHES + 1)),
 ];
 
-pub(super) fn sixty_four_watches<N: LiveName, R: Wait + Abort>(
-    rt: &R,
-    alloc: Global,
-    live: &Live<N>,
-) {
-    for before in 0..64 {
-        let line = (Call::Guarded(Step::Watch), Answer::Number(before + 1));
-        calls(rt, alloc, live, &[line]);
+#[derive(Clone, Copy)]
+struct OneWatchTooMany;
+
+impl<R: Wait + Abort> Test<R> for OneWatchTooMany {
+    fn run<N: LiveName>(
+        self,
+        rt: &R,
+        alloc: Global,
+        live: &Live<N>,
+        _readers: &mut Vec<Reader<N>>,
+    ) -> Result<(), KvError> {
+        for before in 0..MOST_WATCHES {
+            let line = (Call::Guarded(Step::Watch), Answer::Number(before + 1));
+            calls(rt, alloc, live, &[line]);
+        }
+        calls(rt, alloc, live, BEYOND);
+        Ok(())
     }
-    calls(rt, alloc, live, BEYOND);
 }
 
-// The limit of writes is two.
-const WRITE_LIMIT_AND_SEAL: &[(Call, Answer)] = &[
+#[test]
+fn the_sixty_fifth_watch_is_refused_until_one_is_stopped(rt: HostRuntime) -> Result<(), Fail> {
+    Ok(run(&rt, rt.alloc(), OneWatchTooMany)?)
+}
+
+const TWO_WRITES: Opening = Opening {
+    writes: 2,
+    ..OPENING
+};
+
+const FULL_AND_SEALED: &[(Call, Answer)] = &[
     (Call::Put("a"), Answer::Number(1)),
     (Call::Put("b"), Answer::Number(2)),
     (Call::Put("c"), Answer::Refused(KvError::JournalFull)),
@@ -117,6 +120,5 @@ const WRITE_LIMIT_AND_SEAL: &[(Call, Answer)] = &[
 
 #[test]
 fn a_live_bucket_refuses_writes_where_it_is_full_or_sealed(rt: HostRuntime) -> Result<(), Fail> {
-    run(&rt, rt.alloc(), super::Row::Calls(Row::WriteLimitAndSeal))?;
-    Ok(())
+    Ok(run_on(&rt, rt.alloc(), TWO_WRITES, InTurn(FULL_AND_SEALED))?)
 }

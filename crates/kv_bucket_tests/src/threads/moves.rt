@@ -1,7 +1,6 @@
 //! What is done with a feed, line by line. A refresh that is refused leaves its count and its next item.
 
 use super::*;
-use again::Sight;
 
 #[derive(Clone, Copy)]
 pub(super) enum Move {
@@ -13,7 +12,7 @@ pub(super) enum Move {
 // The feed of all keys.
 pub(super) fn feed_of<N: LiveName>(alloc: Global, reader: Reader<N>) -> Result<Feed<N>, KvError> {
     let filters = all_keys(alloc)?;
-    open_feed(reader, &filters)
+    again_with(reader, |reader| reader.watch(&filters, LATEST))
 }
 
 pub(super) fn feed_of_last<N: LiveName>(
@@ -24,32 +23,11 @@ pub(super) fn feed_of_last<N: LiveName>(
     feed_of(alloc, reader)
 }
 
-fn open_feed<N: LiveName>(reader: Reader<N>, filters: &Filters) -> Result<Feed<N>, KvError> {
-    match reader.watch(filters, LATEST) {
-        Ok(feed) => Ok(feed),
-        Err((reader, KvError::OutOfMemory)) => open_again(reader, filters),
-        Err((_, error)) => Err(error),
-    }
-}
-
-fn open_again<N: LiveName>(reader: Reader<N>, filters: &Filters) -> Result<Feed<N>, KvError> {
-    match reader.watch(filters, LATEST) {
-        Ok(feed) => Ok(feed),
-        Err((_, error)) => Err(error),
-    }
-}
-
 // What can be seen of a feed: how many items it handed out, and which is the next one.
-#[derive(Drop)]
+#[derive(Clone, Copy, Debug, PartialEq, Eq)]
 pub(super) struct FeedSight {
     handed: u64,
     next: Answer,
-}
-
-impl Sight for FeedSight {
-    fn is_same(&self, other: &FeedSight) -> bool {
-        self.handed == other.handed && self.next == other.next
-    }
 }
 
 pub(super) fn look_at<N: LiveName>(feed: &Feed<N>) -> FeedSight {
@@ -76,10 +54,10 @@ fn move_once<N: LiveName, R: Abort>(rt: &R, feed: &mut Feed<N>, step: Move) -> A
 }
 
 fn move_made<N: LiveName, R: Abort>(rt: &R, feed: &mut Feed<N>, step: Move) -> Answer {
-    made(
-        rt,
+    let before = look_at(feed);
+    again_on(
         feed,
-        |feed| look_at(feed),
+        |feed| equal(rt, look_at(feed), before),
         |feed| move_once(rt, feed, step),
     )
 }

@@ -1,89 +1,166 @@
 //! What an opening refuses, and what it begins and ends with.
 
 use super::*;
-use kv_bucket::{Cached, Status};
+use kv_bucket::{Cached, Config, Opened, Status};
 
-// The history, the limit of a value, and the limit of writes.
-type Numbers = (u64, u64, u64);
-
-fn opened_once(
-    alloc: Global,
-    name: &str,
-    numbers: Numbers,
+// What is asked for, and the refusal, if any.
+#[derive(Clone, Copy)]
+struct Asked {
+    name: &'static str,
+    history: u64,
+    value_limit: u64,
+    write_limit: u64,
     readers: usize,
-) -> Result<Opened, KvError> {
-    let mut config = Config::named(alloc, name)?;
-    config.history = numbers.0;
-    config.value_limit = numbers.1;
-    config.write_limit = numbers.2;
-    Live::open(alloc, &config, readers)
+    refusal: Option<KvError>,
 }
 
-// The refusal of an opening, if any.
-fn refused(alloc: Global, name: &str, numbers: Numbers, readers: usize) -> Option<KvError> {
-    again(|| opened_once(alloc, name, numbers, readers)).err()
+fn opened_once(alloc: Global, asked: Asked) -> Result<Opened, KvError> {
+    let mut config = Config::named(alloc, asked.name)?;
+    config.history = asked.history;
+    config.value_limit = asked.value_limit;
+    config.write_limit = asked.write_limit;
+    Live::open(alloc, &config, asked.readers)
 }
 
-const LEGAL: Numbers = (1, 1_048_576, 1_000_000);
+// 64 bytes.
+const LONGEST_NAME: &str = "0123456789012345678901234567890123456789012345678901234567890123";
 
-// Names are refused first, and numbers before readers.
-const OPENINGS: &[(&str, Numbers, usize, Option<KvError>)] = &[
-    ("my.bucket", LEGAL, 2, Some(KvError::BadBucket)),
-    ("", LEGAL, 2, Some(KvError::BadBucket)),
-    (
-        "01234567890123456789012345678901234567890123456789012345678901234",
-        LEGAL,
-        2,
-        Some(KvError::BadBucket),
-    ),
-    ("", (0, 0, 0), 0, Some(KvError::BadBucket)),
-    (
-        "0123456789012345678901234567890123456789012345678901234567890123",
-        LEGAL,
-        2,
-        None,
-    ),
-    ("kv", (0, 1_048_576, 1), 2, Some(KvError::BadConfig)),
-    ("kv", (65, 1_048_576, 1), 2, Some(KvError::BadConfig)),
-    ("kv", (1, 1_048_576, 0), 2, Some(KvError::BadConfig)),
-    ("kv", (1, 1_048_577, 1), 2, Some(KvError::BadConfig)),
-    ("kv", (0, 1_048_576, 1), 33, Some(KvError::BadConfig)),
-    ("kv", LEGAL, 0, Some(KvError::NoReader)),
-    ("kv", LEGAL, 33, Some(KvError::NoReader)),
-    ("kv", LEGAL, 1, None),
+// One more.
+const TOO_LONG_NAME: &str = "01234567890123456789012345678901234567890123456789012345678901234";
+
+const MOST_READERS: usize = 32;
+
+const LONGEST_HISTORY: u64 = 64;
+
+const LARGEST_VALUE: u64 = 1 << 20;
+
+const LEGAL: Asked = Asked {
+    name: "kv",
+    history: 1,
+    value_limit: LARGEST_VALUE,
+    write_limit: 1_000_000,
+    readers: 2,
+    refusal: None,
+};
+
+const NAMED_BADLY: Asked = Asked {
+    refusal: Some(KvError::BadBucket),
+    ..LEGAL
+};
+
+const OVER_A_LIMIT: Asked = Asked {
+    refusal: Some(KvError::BadConfig),
+    ..LEGAL
+};
+
+const WITHOUT_ROOM: Asked = Asked {
+    refusal: Some(KvError::NoReader),
+    ..LEGAL
+};
+
+const OPENINGS: &[Asked] = &[
+    Asked {
+        name: "my.bucket",
+        ..NAMED_BADLY
+    },
+    Asked {
+        name: "",
+        ..NAMED_BADLY
+    },
+    Asked {
+        name: TOO_LONG_NAME,
+        ..NAMED_BADLY
+    },
+    // The name goes first.
+    Asked {
+        name: "",
+        history: 0,
+        value_limit: 0,
+        write_limit: 0,
+        readers: 0,
+        ..NAMED_BADLY
+    },
+    Asked {
+        name: LONGEST_NAME,
+        ..LEGAL
+    },
+    Asked {
+        history: 0,
+        ..OVER_A_LIMIT
+    },
+    Asked {
+        history: LONGEST_HISTORY + 1,
+        ..OVER_A_LIMIT
+    },
+    Asked {
+        write_limit: 0,
+        ..OVER_A_LIMIT
+    },
+    Asked {
+        value_limit: LARGEST_VALUE + 1,
+        ..OVER_A_LIMIT
+    },
+    // The limits go before the readers.
+    Asked {
+        history: 0,
+        readers: MOST_READERS + 1,
+        ..OVER_A_LIMIT
+    },
+    Asked {
+        readers: 0,
+        ..WITHOUT_ROOM
+    },
+    Asked {
+        readers: MOST_READERS + 1,
+        ..WITHOUT_ROOM
+    },
+    Asked {
+        readers: MOST_READERS,
+        ..LEGAL
+    },
+    Asked {
+        readers: 1,
+        ..LEGAL
+    },
 ];
 
 #[test]
-fn openings_are_refused_in_order(rt: HostRuntime) -> Result<(), Fail> {
-    for (name, numbers, readers, refusal) in OPENINGS {
-        equal(&rt, refused(rt.alloc(), name, *numbers, *readers), *refusal);
+fn an_opening_refuses_names_then_limits_then_readers(rt: HostRuntime) -> Result<(), Fail> {
+    let alloc = rt.alloc();
+    for asked in OPENINGS {
+        let refusal = again(|| opened_once(alloc, *asked)).err();
+        equal(&rt, refusal, asked.refusal);
     }
     Ok(())
+}
+
+const WITH_ALL_READERS: Opening = Opening {
+    readers: MOST_READERS,
+    ..OPENING
+};
+
+#[derive(Clone, Copy)]
+struct AllRead;
+
+impl<R: Wait + Abort> Test<R> for AllRead {
+    fn run<N: LiveName>(
+        self,
+        rt: &R,
+        _alloc: Global,
+        _live: &Live<N>,
+        readers: &mut Vec<Reader<N>>,
+    ) -> Result<(), KvError> {
+        equal(rt, readers.len(), MOST_READERS);
+        for _ in 0..MOST_READERS {
+            last_reads(rt, readers, Answer::On(0, 0))?;
+        }
+        Ok(())
+    }
 }
 
 #[test]
 fn thirty_two_readers_see_the_empty_bucket(rt: HostRuntime) -> Result<(), Fail> {
-    run(&rt, rt.alloc(), Row::ManyReaders)?;
-    Ok(())
-}
-
-// There are so many readers, and each sees the empty bucket.
-pub(super) fn all_read<N: LiveName, R: Abort>(
-    rt: &R,
-    readers: &mut Vec<Reader<N>>,
-    count: usize,
-) -> Result<(), KvError> {
-    equal(rt, readers.len(), count);
-    for _ in 0..count {
-        last_reads(rt, readers, Answer::On(0, 0))?;
-    }
-    Ok(())
-}
-
-#[test]
-fn the_lock_begins_with_the_opening(rt: HostRuntime) -> Result<(), Fail> {
-    run(&rt, rt.alloc(), Row::Beginning)?;
-    Ok(())
+    Ok(run_on(&rt, rt.alloc(), WITH_ALL_READERS, AllRead)?)
 }
 
 const EMPTY: Status = Status {
@@ -94,36 +171,55 @@ const EMPTY: Status = Status {
     values: 0,
 };
 
-pub(super) fn beginning<N: LiveName, R: Wait + Abort>(rt: &R, live: &Live<N>) {
-    let keeper = live.lock(rt);
-    let bucket = keeper.bucket();
-    equal(
-        rt,
-        (bucket.version().status(), bucket.watches()),
-        (EMPTY, 0),
-    );
-    equal(rt, bucket.version().bucket(), "kv");
+#[derive(Clone, Copy)]
+struct Beginning;
+
+impl<R: Wait + Abort> Test<R> for Beginning {
+    fn run<N: LiveName>(
+        self,
+        rt: &R,
+        _alloc: Global,
+        live: &Live<N>,
+        _readers: &mut Vec<Reader<N>>,
+    ) -> Result<(), KvError> {
+        let keeper = live.lock(rt);
+        let bucket = keeper.bucket();
+        equal(rt, bucket.version().bucket(), "kv");
+        equal(rt, bucket.version().status(), EMPTY);
+        equal(rt, bucket.watches(), 0);
+        Ok(())
+    }
+}
+
+#[test]
+fn a_bucket_is_opened_empty_and_without_watches(rt: HostRuntime) -> Result<(), Fail> {
+    Ok(run(&rt, rt.alloc(), Beginning)?)
 }
 
 #[test]
 fn a_close_ends_no_reader(rt: HostRuntime) -> Result<(), Fail> {
-    run(&rt, rt.alloc(), Row::Closed)?;
-    Ok(())
+    Ok(run_closing(&rt, rt.alloc(), ClosedBeforeALook)?)
 }
 
 // The bucket is written to, and closed before its readers look. One of them has a cached version from before.
-pub(super) fn closed_first<N: LiveName, R: Wait + Abort>(
-    rt: &R,
-    alloc: Global,
-    live: Live<N>,
-    readers: &mut Vec<Reader<N>>,
-) -> Result<(), KvError> {
-    let kept = cached_by_last(readers);
-    put_and_close(rt, alloc, live);
-    let (mut reader, mut cached) = kept?;
-    reader.refresh(&mut cached)?;
-    equal(rt, cached.version().revision(), 1);
-    last_reads(rt, readers, Answer::On(1, 0))
+#[derive(Clone, Copy)]
+struct ClosedBeforeALook;
+
+impl<R: Wait + Abort> ClosingTest<R> for ClosedBeforeALook {
+    fn run<N: LiveName>(
+        self,
+        rt: &R,
+        alloc: Global,
+        live: Live<N>,
+        readers: &mut Vec<Reader<N>>,
+    ) -> Result<(), KvError> {
+        let kept = cached_by_last(readers);
+        put_and_close(rt, alloc, live);
+        let (mut reader, mut cached) = kept?;
+        reader.refresh(&mut cached)?;
+        equal(rt, cached.version().revision(), 1);
+        last_reads(rt, readers, Answer::On(1, 0))
+    }
 }
 
 fn cached_by_last<N: LiveName>(

@@ -1,14 +1,22 @@
-//! Rows of a writer that always writes two keys together, each time the same value, beside a reader and beside a feed on
-//! another thread: neither of them ever sees one of the two writes without the other. No thread waits for another one.
+//! Tests of a writer that always writes two keys together, each time the same value, beside a reader and beside a feed on
+//! another thread: neither of them ever sees one of the two writes without the other. They look until the writer has ended,
+//! and the writer waits for nobody.
 
 use super::*;
+use crate::batched::batched;
+use crate::beside::beside;
 use crate::following::is_next;
 use kv_bucket::{Key, Request};
 use std::sync::atomic::{AtomicU64, Ordering};
 
 const PAIRS: u64 = 200;
-// Each pair is two writes.
-pub(super) const WRITES: u64 = 400;
+
+const WRITES: u64 = 2 * PAIRS;
+
+const PAIRED: Opening = Opening {
+    writes: WRITES,
+    ..OPENING
+};
 
 const FIRST: &str = "a";
 
@@ -33,11 +41,7 @@ fn write_pair<N: LiveName, R: Wait>(
     live: &Live<N>,
     number: u64,
 ) -> Result<u64, KvError> {
-    let requests = pair(alloc, number)?;
-    match live.write_all(rt, &requests) {
-        Ok(first) => Ok(first),
-        Err(refused) => Err(refused.error),
-    }
+    batched(live.write_all(rt, &pair(alloc, number)?))
 }
 
 // Each pair follows the one before it.
@@ -73,11 +77,10 @@ fn has_ended(ended: &AtomicU64) -> bool {
 // Refutes a batch whose writes are published one after the other: between them the values differ.
 #[test]
 fn a_reader_sees_both_writes_of_a_batch_or_neither(rt: HostRuntime) -> Result<(), Fail> {
-    run(&rt, rt.alloc(), Row::PairsBesideAReader)?;
-    Ok(())
+    Ok(run_threaded(&rt, rt.alloc(), PAIRED, Threaded::PairsBesideAReader)?)
 }
 
-pub(super) fn beside_a_reader<N: LiveName + Send + Sync, R: Threads + Wait + Abort + Sync>(
+pub(crate) fn beside_a_reader<N: LiveName + Send + Sync, R: Threads + Wait + Abort + Sync>(
     rt: &R,
     alloc: Global,
     live: &Live<N>,
@@ -97,13 +100,11 @@ fn look_beside<N: LiveName + Send + Sync, R: Threads + Wait + Abort + Sync>(
     reader: &mut Reader<N>,
     ended: &AtomicU64,
 ) -> Result<(), KvError> {
-    let (written, looked) = join(
+    beside(
         rt,
-        || write_pairs(rt, alloc, live, ended),
         || look_at_pairs(rt, alloc, reader, ended),
-    );
-    written?;
-    looked
+        || write_pairs(rt, alloc, live, ended),
+    )
 }
 
 fn look_at_pairs<N: LiveName, R: Wait + Abort>(
@@ -146,11 +147,10 @@ fn has_whole_pairs(version: &Version, (first, second): (&Key, &Key)) -> bool {
 // Refutes a batch whose writes are published one after the other: the feed would go on to the first of two.
 #[test]
 fn a_feed_goes_on_to_both_writes_of_a_batch_or_to_neither(rt: HostRuntime) -> Result<(), Fail> {
-    run(&rt, rt.alloc(), Row::PairsBesideAFeed)?;
-    Ok(())
+    Ok(run_threaded(&rt, rt.alloc(), PAIRED, Threaded::PairsBesideAFeed)?)
 }
 
-pub(super) fn beside_a_feed<N: LiveName + Send + Sync, R: Threads + Wait + Abort + Sync>(
+pub(crate) fn beside_a_feed<N: LiveName + Send + Sync, R: Threads + Wait + Abort + Sync>(
     rt: &R,
     alloc: Global,
     live: &Live<N>,
@@ -158,11 +158,9 @@ pub(super) fn beside_a_feed<N: LiveName + Send + Sync, R: Threads + Wait + Abort
 ) -> Result<(), KvError> {
     let mut feed = feed_of_last(alloc, readers)?;
     let ended = AtomicU64::new(0);
-    equal(
-        rt,
-        follow_beside(rt, alloc, live, &mut feed, &ended)?,
-        WRITES,
-    );
+    follow_beside(rt, alloc, live, &mut feed, &ended)?;
+    // the marker and each write
+    equal(rt, feed.handed(), WRITES + 1);
     Ok(())
 }
 
@@ -172,32 +170,30 @@ fn follow_beside<N: LiveName + Send + Sync, R: Threads + Wait + Abort + Sync>(
     live: &Live<N>,
     feed: &mut Feed<N>,
     ended: &AtomicU64,
-) -> Result<u64, KvError> {
-    let (written, followed) = join(
+) -> Result<(), KvError> {
+    beside(
         rt,
-        || write_pairs(rt, alloc, live, ended),
         || follow_to_the_end(rt, feed, ended),
-    );
-    written?;
-    followed
+        || write_pairs(rt, alloc, live, ended),
+    )
 }
 
-// The revision of the last write that it was handed. The last refresh comes behind the last write.
+// The last refresh comes behind the last write.
 fn follow_to_the_end<N: LiveName, R: Wait + Abort>(
     rt: &R,
     feed: &mut Feed<N>,
     ended: &AtomicU64,
-) -> Result<u64, KvError> {
+) -> Result<(), KvError> {
     let mut last = 0;
     for _ in rt.forever() {
         let is_last = has_ended(ended);
         feed.refresh()?;
         equal(rt, takes_whole_pairs(feed, &mut last), true);
         if is_last {
-            return Ok(last);
+            return Ok(());
         }
     }
-    Ok(last)
+    Ok(())
 }
 
 // Whether all that it hands out by its version comes in order, and ends with the second write of a pair.

@@ -27,21 +27,26 @@ fn takes_the_place<N: LiveName, R: Wait + Abort>(
 
 #[test]
 fn a_dropped_reader_frees_its_place(rt: HostRuntime) -> Result<(), Fail> {
-    run(&rt, rt.alloc(), Row::FreedPlace)?;
-    Ok(())
+    Ok(run(&rt, rt.alloc(), FreedPlace)?)
 }
 
-pub(super) fn freed<N: LiveName, R: Wait + Abort>(
-    rt: &R,
-    alloc: Global,
-    live: &Live<N>,
-    readers: &mut Vec<Reader<N>>,
-) -> Result<(), KvError> {
-    calls(rt, alloc, live, &[(Call::Put("a"), Answer::Number(1))]);
-    finds_no_place(rt, live);
-    drop(last(readers)?);
-    let _third = takes_the_place(rt, live)?;
-    freed_by_a_feed(rt, alloc, live, readers)
+#[derive(Clone, Copy)]
+struct FreedPlace;
+
+impl<R: Wait + Abort> Test<R> for FreedPlace {
+    fn run<N: LiveName>(
+        self,
+        rt: &R,
+        alloc: Global,
+        live: &Live<N>,
+        readers: &mut Vec<Reader<N>>,
+    ) -> Result<(), KvError> {
+        calls(rt, alloc, live, &[(Call::Put("a"), Answer::Number(1))]);
+        finds_no_place(rt, live);
+        drop(last(readers)?);
+        let _third = takes_the_place(rt, live)?;
+        freed_by_a_feed(rt, alloc, live, readers)
+    }
 }
 
 // A feed that is dropped frees the place of its reader.
@@ -58,20 +63,34 @@ fn freed_by_a_feed<N: LiveName, R: Wait + Abort>(
 
 #[test]
 fn a_refresh_hands_out_what_it_left(rt: HostRuntime) -> Result<(), Fail> {
-    run(&rt, rt.alloc(), Row::LeftBehind)?;
-    Ok(())
+    Ok(run(&rt, rt.alloc(), LeftBehind)?)
 }
 
-pub(super) fn left_behind<N: LiveName, R: Wait + Abort>(
+#[derive(Clone, Copy)]
+struct LeftBehind;
+
+impl<R: Wait + Abort> Test<R> for LeftBehind {
+    fn run<N: LiveName>(
+        self,
+        rt: &R,
+        alloc: Global,
+        live: &Live<N>,
+        readers: &mut Vec<Reader<N>>,
+    ) -> Result<(), KvError> {
+        let mut feed = feed_behind_a_put(rt, alloc, live, readers)?;
+        goes_on_without_it(rt, alloc, live, &mut feed);
+        Ok(())
+    }
+}
+
+fn feed_behind_a_put<N: LiveName, R: Wait + Abort>(
     rt: &R,
     alloc: Global,
     live: &Live<N>,
     readers: &mut Vec<Reader<N>>,
-) -> Result<(), KvError> {
+) -> Result<Feed<N>, KvError> {
     calls(rt, alloc, live, &[(Call::Put("a"), Answer::Number(1))]);
-    let mut feed = feed_of_last(alloc, readers)?;
-    goes_on_without_it(rt, alloc, live, &mut feed);
-    Ok(())
+    feed_of_last(alloc, readers)
 }
 
 // The feed hands out the version that it leaves, and goes on to what a write and a compaction made.
@@ -89,10 +108,10 @@ fn goes_on_without_it<N: LiveName, R: Wait + Abort>(
 }
 
 fn left_by<N: LiveName, R: Abort>(rt: &R, feed: &mut Feed<N>) -> Answer {
-    made(
-        rt,
+    let before = look_at(feed);
+    again_on(
         feed,
-        |feed| look_at(feed),
+        |feed| equal(rt, look_at(feed), before),
         |feed| on(feed.refresh_keeping()),
     )
 }

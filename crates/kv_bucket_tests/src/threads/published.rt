@@ -1,105 +1,151 @@
-//! Rows of what is published, as a guard has it: who has seen it, which receipt tells it, and marks behind it.
+//! Tests of what is published, as a guard has it: who has seen it, which receipt tells it, and marks behind it.
 
 use super::*;
 use kv_bucket::{Keeper, Mark, Receipt};
 
-#[test]
-fn a_guard_tells_who_has_seen_what_is_published(rt: HostRuntime) -> Result<(), Fail> {
-    run(&rt, rt.alloc(), Row::WhoHasSeen)?;
-    Ok(())
-}
-
 // What is done through the guard, by a reader, or with a feed.
 #[derive(Clone, Copy)]
-pub(super) enum Deed {
+enum Deed {
     Step(Step, Answer),
     Looks(Answer),
     Move(Move, Answer),
 }
 
-// Whether a reader and the reader of a feed have seen all that is published, and whether a receipt tells it.
-pub(super) type Known = (bool, bool, bool);
+// A deed, who has seen all that is published by then, and whether the receipt of the first write tells it.
+#[derive(Clone, Copy)]
+struct Line {
+    deed: Deed,
+    seen: Seen,
+    told: Told,
+}
 
-// The receipt is that of the first write.
-pub(super) const WRITES: &[(Deed, Known)] = &[
-    (Deed::Move(Move::Take, Answer::Marker), (false, false, true)),
-    (Deed::Looks(Answer::On(1, 0)), (true, false, true)),
-    (Deed::Move(Move::Refresh, Answer::Done), (true, true, true)),
-    (
-        Deed::Step(Step::Put("b"), Answer::Number(2)),
-        (false, false, false),
-    ),
-    (
-        Deed::Move(Move::Refresh, Answer::Done),
-        (false, true, false),
-    ),
-    (Deed::Looks(Answer::On(2, 0)), (true, true, false)),
+const GOES_ON: Deed = Deed::Move(Move::Refresh, Answer::Done);
+
+const WRITES: &[Line] = &[
+    Line {
+        deed: Deed::Move(Move::Take, Answer::Marker),
+        seen: Seen::ByNobody,
+        told: Told::Yes,
+    },
+    Line {
+        deed: Deed::Looks(Answer::On(1, 0)),
+        seen: Seen::ByReader,
+        told: Told::Yes,
+    },
+    Line {
+        deed: GOES_ON,
+        seen: Seen::ByBoth,
+        told: Told::Yes,
+    },
+    Line {
+        deed: Deed::Step(Step::Put("b"), Answer::Number(2)),
+        seen: Seen::ByNobody,
+        told: Told::No,
+    },
+    Line {
+        deed: GOES_ON,
+        seen: Seen::ByFeed,
+        told: Told::No,
+    },
+    Line {
+        deed: Deed::Looks(Answer::On(2, 0)),
+        seen: Seen::ByBoth,
+        told: Told::No,
+    },
     // A seal is published as a write is.
-    (Deed::Step(Step::Seal, Answer::Done), (false, false, false)),
-    (Deed::Looks(Answer::On(2, 0)), (true, false, false)),
+    Line {
+        deed: Deed::Step(Step::Seal, Answer::Done),
+        seen: Seen::ByNobody,
+        told: Told::No,
+    },
+    Line {
+        deed: Deed::Looks(Answer::On(2, 0)),
+        seen: Seen::ByReader,
+        told: Told::No,
+    },
     // What is refused is not published.
-    (
-        Deed::Step(Step::Put("c"), Answer::Refused(KvError::Sealed)),
-        (true, false, false),
-    ),
-    (Deed::Move(Move::Refresh, Answer::Done), (true, true, false)),
+    Line {
+        deed: Deed::Step(Step::Put("c"), Answer::Refused(KvError::Sealed)),
+        seen: Seen::ByReader,
+        told: Told::No,
+    },
+    Line {
+        deed: GOES_ON,
+        seen: Seen::ByBoth,
+        told: Told::No,
+    },
+];
+
+#[test]
+fn a_guard_tells_who_has_seen_what_is_published(rt: HostRuntime) -> Result<(), Fail> {
+    Ok(run(&rt, rt.alloc(), WhoHasSeen { lines: WRITES })?)
+}
+
+const BATCHES: &[Line] = &[
+    Line {
+        deed: Deed::Looks(Answer::On(1, 0)),
+        seen: Seen::ByReader,
+        told: Told::Yes,
+    },
+    Line {
+        deed: Deed::Step(Step::WriteAll(batches::PAIR), Answer::Number(2)),
+        seen: Seen::ByNobody,
+        told: Told::No,
+    },
+    Line {
+        deed: Deed::Looks(Answer::On(3, 0)),
+        seen: Seen::ByReader,
+        told: Told::No,
+    },
+    Line {
+        deed: GOES_ON,
+        seen: Seen::ByBoth,
+        told: Told::No,
+    },
+    // What is refused is not published, and of no requests nothing is.
+    Line {
+        deed: Deed::Step(
+            Step::WriteAll(batches::LAST_IS_THERE),
+            Answer::RefusedAt(1, KvError::KeyExists),
+        ),
+        seen: Seen::ByBoth,
+        told: Told::No,
+    },
+    Line {
+        deed: Deed::Step(Step::WriteAll(batches::NOTHING), Answer::Number(3)),
+        seen: Seen::ByBoth,
+        told: Told::No,
+    },
+    Line {
+        deed: Deed::Step(Step::Put("c"), Answer::Number(4)),
+        seen: Seen::ByNobody,
+        told: Told::No,
+    },
 ];
 
 // Refutes a batch that publishes what comes before the request that is refused.
 #[test]
 fn a_guard_tells_who_has_seen_a_batch(rt: HostRuntime) -> Result<(), Fail> {
-    run(&rt, rt.alloc(), Row::WhoHasSeenBatches)?;
-    Ok(())
+    Ok(run(&rt, rt.alloc(), WhoHasSeen { lines: BATCHES })?)
 }
 
-pub(super) const BATCHES: &[(Deed, Known)] = &[
-    (Deed::Looks(Answer::On(1, 0)), (true, false, true)),
-    (
-        Deed::Step(Step::WriteAll(batches::PAIR), Answer::Number(2)),
-        (false, false, false),
-    ),
-    (Deed::Looks(Answer::On(3, 0)), (true, false, false)),
-    (Deed::Move(Move::Refresh, Answer::Done), (true, true, false)),
-    // What is refused is not published, and of no requests nothing is.
-    (
-        Deed::Step(
-            Step::WriteAll(batches::LAST_IS_THERE),
-            Answer::RefusedAt(1, KvError::KeyExists),
-        ),
-        (true, true, false),
-    ),
-    (
-        Deed::Step(Step::WriteAll(batches::NOTHING), Answer::Number(3)),
-        (true, true, false),
-    ),
-    (
-        Deed::Step(Step::Put("c"), Answer::Number(4)),
-        (false, false, false),
-    ),
-];
-
-pub(super) fn who_has_seen<N: LiveName, R: Wait + Abort>(
-    rt: &R,
-    alloc: Global,
-    live: &Live<N>,
-    readers: &mut Vec<Reader<N>>,
-    lines: &[(Deed, Known)],
-) -> Result<(), KvError> {
-    let mut reader = last(readers)?;
-    seen_beside_a_feed(rt, alloc, live, readers, &mut reader, lines)
+#[derive(Clone, Copy)]
+struct WhoHasSeen {
+    lines: &'static [Line],
 }
 
-fn seen_beside_a_feed<N: LiveName, R: Wait + Abort>(
-    rt: &R,
-    alloc: Global,
-    live: &Live<N>,
-    readers: &mut Vec<Reader<N>>,
-    reader: &mut Reader<N>,
-    lines: &[(Deed, Known)],
-) -> Result<(), KvError> {
-    let mut feed = feed_of_last(alloc, readers)?;
-    let mut keeper = live.lock(rt);
-    seen_on_a_guard(rt, alloc, &mut *keeper, reader, &mut feed, lines)
+impl<R: Wait + Abort> Test<R> for WhoHasSeen {
+    fn run<N: LiveName>(
+        self,
+        rt: &R,
+        alloc: Global,
+        live: &Live<N>,
+        readers: &mut Vec<Reader<N>>,
+    ) -> Result<(), KvError> {
+        let (mut reader, mut feed) = reader_and_feed(alloc, readers)?;
+        let mut keeper = live.lock(rt);
+        seen_on_a_guard(rt, alloc, &mut *keeper, &mut reader, &mut feed, self.lines)
+    }
 }
 
 fn seen_on_a_guard<N: LiveName, R: Wait + Abort>(
@@ -108,14 +154,18 @@ fn seen_on_a_guard<N: LiveName, R: Wait + Abort>(
     keeper: &mut Keeper<N>,
     reader: &mut Reader<N>,
     feed: &mut Feed<N>,
-    lines: &[(Deed, Known)],
+    lines: &[Line],
 ) -> Result<(), KvError> {
     // Nothing is published yet, and nobody can have missed it.
-    equal(rt, keeper.is_seen_by(reader), true);
-    equal(rt, keeper.is_followed_by(feed), true);
+    equal(rt, who_has_seen(keeper, reader, feed), Seen::ByBoth);
     let receipt = told::told_through(rt, alloc, keeper, 1)?;
     seen_in_turn(rt, alloc, keeper, reader, feed, &receipt, lines);
     Ok(())
+}
+
+fn who_has_seen<N: LiveName>(keeper: &mut Keeper<N>, reader: &Reader<N>, feed: &Feed<N>) -> Seen {
+    let by_reader = keeper.is_seen_by(reader);
+    seen_by(by_reader, keeper.is_followed_by(feed))
 }
 
 fn seen_in_turn<N: LiveName, R: Wait + Abort>(
@@ -125,12 +175,12 @@ fn seen_in_turn<N: LiveName, R: Wait + Abort>(
     reader: &mut Reader<N>,
     feed: &mut Feed<N>,
     receipt: &Receipt<N>,
-    lines: &[(Deed, Known)],
+    lines: &[Line],
 ) {
-    for &(deed, known) in lines {
-        do_one(rt, alloc, keeper, reader, feed, deed);
-        let seen = (keeper.is_seen_by(reader), keeper.is_followed_by(feed));
-        equal(rt, (seen.0, seen.1, keeper.is_told_by(receipt)), known);
+    for line in lines {
+        do_one(rt, alloc, keeper, reader, feed, line.deed);
+        equal(rt, who_has_seen(keeper, reader, feed), line.seen);
+        equal(rt, told_if(keeper.is_told_by(receipt)), line.told);
     }
 }
 
@@ -151,8 +201,7 @@ fn do_one<N: LiveName, R: Wait + Abort>(
 
 #[test]
 fn who_learns_a_mark_sees_all_that_was_published(rt: HostRuntime) -> Result<(), Fail> {
-    run(&rt, rt.alloc(), Row::Marked)?;
-    Ok(())
+    Ok(run(&rt, rt.alloc(), Marked)?)
 }
 
 const WRITE_AND_SEAL: &[(Call, Answer)] = &[
@@ -168,18 +217,24 @@ const MARKED: &[(Move, Answer)] = &[
     (Move::Take, Answer::Empty),
 ];
 
-pub(super) fn marked<N: LiveName, R: Wait + Abort>(
-    rt: &R,
-    alloc: Global,
-    live: &Live<N>,
-    readers: &mut Vec<Reader<N>>,
-) -> Result<(), KvError> {
-    let mut feed = feed_of_last(alloc, readers)?;
-    calls(rt, alloc, live, WRITE_AND_SEAL);
-    let mark = live.lock(rt).mark();
-    feed.learn_mark(&mark);
-    moves(rt, &mut feed, MARKED);
-    sees_the_seal(rt, readers, &mark)
+#[derive(Clone, Copy)]
+struct Marked;
+
+impl<R: Wait + Abort> Test<R> for Marked {
+    fn run<N: LiveName>(
+        self,
+        rt: &R,
+        alloc: Global,
+        live: &Live<N>,
+        readers: &mut Vec<Reader<N>>,
+    ) -> Result<(), KvError> {
+        let mut feed = feed_of_last(alloc, readers)?;
+        calls(rt, alloc, live, WRITE_AND_SEAL);
+        let mark = live.lock(rt).mark();
+        feed.learn_mark(&mark);
+        moves(rt, &mut feed, MARKED);
+        sees_the_seal(rt, readers, &mark)
+    }
 }
 
 fn sees_the_seal<N: LiveName, R: Abort>(

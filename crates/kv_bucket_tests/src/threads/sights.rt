@@ -1,36 +1,24 @@
-//! What can be seen of a bucket under the lock: its version, how many watches are open, and what each is given next.
+//! What can be seen of a bucket under the lock: its version, how many watches are open, and what each is given next. A call
+//! that is refused changes none of it.
 
 use super::*;
-use again::Sight;
-use kv_bucket::{Keeper, Write};
+use kv_bucket::Keeper;
+use kv_test_tools::is_same_at;
 
 // The largest number of a watch in any row.
 const MOST_NUMBERS: usize = 65;
 
 #[derive(Drop)]
-pub(super) struct BucketSight {
+pub(super) struct Sight {
     version: Result<Version, KvError>,
     watches: u64,
     // What the watches are given next, by their numbers from 1 on. A number without a watch is refused.
     next: [Answer; MOST_NUMBERS],
 }
 
-impl Sight for BucketSight {
-    fn is_same(&self, other: &BucketSight) -> bool {
-        match (&self.version, &other.version) {
-            (Ok(version), Ok(second)) => {
-                is_same_version(version, second)
-                    && self.watches == other.watches
-                    && self.next == other.next
-            }
-            _ => false,
-        }
-    }
-}
-
-pub(super) fn look_through<N: LiveName>(keeper: &Keeper<N>) -> BucketSight {
+pub(super) fn look_through<N: LiveName>(keeper: &Keeper<N>) -> Sight {
     let bucket = keeper.bucket();
-    BucketSight {
+    Sight {
         version: bucket.version().snapshot(),
         watches: bucket.watches(),
         next: next_items(keeper),
@@ -45,8 +33,22 @@ fn next_items<N: LiveName>(keeper: &Keeper<N>) -> [Answer; MOST_NUMBERS] {
     next
 }
 
-pub(super) fn look<N: LiveName, R: Wait>(rt: &R, live: &Live<N>) -> BucketSight {
+pub(super) fn look<N: LiveName, R: Wait>(rt: &R, live: &Live<N>) -> Sight {
     look_through(&*live.lock(rt))
+}
+
+// Ends the test where something looks otherwise than before.
+pub(super) fn looks_as<R: Abort>(rt: &R, sight: &Sight, before: &Sight) {
+    equal(rt, sight.watches, before.watches);
+    equal(rt, sight.next, before.next);
+    equal(rt, has_same_version(sight, before), true);
+}
+
+fn has_same_version(sight: &Sight, before: &Sight) -> bool {
+    match (&sight.version, &before.version) {
+        (Ok(version), Ok(other)) => is_same_version(version, other),
+        _ => false,
+    }
 }
 
 // Whether the numbers, the floor, each write that is stored, and the entries that are kept of its key are the same.
@@ -55,24 +57,9 @@ fn is_same_version(version: &Version, other: &Version) -> bool {
         return false;
     }
     for before in 0..version.revision() {
-        if !has_same_write(version, other, before + 1) {
+        if !is_same_at(version, other, before + 1) {
             return false;
         }
     }
     true
-}
-
-fn has_same_write(version: &Version, other: &Version, revision: u64) -> bool {
-    match (version.write_at(revision), other.write_at(revision)) {
-        (Some(write), Some(second)) => {
-            is_same_write(write, second)
-                && version.kept_at(write.key()) == other.kept_at(write.key())
-        }
-        (None, None) => true,
-        _ => false,
-    }
-}
-
-fn is_same_write(write: &Write, other: &Write) -> bool {
-    write.key() == other.key() && write.op() == other.op() && write.value() == other.value()
 }

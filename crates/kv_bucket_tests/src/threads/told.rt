@@ -1,4 +1,4 @@
-//! Rows of told writes. A publish that is refused leaves receipts, readers and later writes working.
+//! Tests of told writes. A publish that is refused leaves receipts, readers and later writes working.
 
 use super::*;
 use kv_bucket::{Keeper, Receipt};
@@ -17,11 +17,11 @@ fn told_again<N: LiveName, R: Wait + Abort>(
     alloc: Global,
     live: &Live<N>,
 ) -> Result<(u64, Receipt<N>), KvError> {
+    let before = look(rt, live);
     let mut live = live;
-    made(
-        rt,
+    again_on(
         &mut live,
-        |live| look(rt, *live),
+        |live| looks_as(rt, &look(rt, *live), &before),
         |live| write_told(rt, alloc, *live),
     )
 }
@@ -51,29 +51,17 @@ fn told_write<N: LiveName + Send + Sync, R: Threads + Wait + Abort + Sync>(
 
 #[test]
 fn a_told_write_is_handed_out(rt: HostRuntime) -> Result<(), Fail> {
-    run(&rt, rt.alloc(), Row::ToldWrite)?;
-    Ok(())
+    Ok(run_threaded(&rt, rt.alloc(), OPENING, Threaded::ToldWrite)?)
 }
 
-pub(super) fn handed_out<N: LiveName + Send + Sync, R: Threads + Wait + Abort + Sync>(
+pub(crate) fn handed_out<N: LiveName + Send + Sync, R: Threads + Wait + Abort + Sync>(
     rt: &R,
     alloc: Global,
     live: &Live<N>,
     readers: &mut Vec<Reader<N>>,
 ) -> Result<(), KvError> {
-    let mut reader = last(readers)?;
-    told_beside(rt, alloc, live, readers, &mut reader)
-}
-
-fn told_beside<N: LiveName + Send + Sync, R: Threads + Wait + Abort + Sync>(
-    rt: &R,
-    alloc: Global,
-    live: &Live<N>,
-    readers: &mut Vec<Reader<N>>,
-    reader: &mut Reader<N>,
-) -> Result<(), KvError> {
-    let feed = feed_of_last(alloc, readers)?;
-    told_to_both(rt, alloc, live, feed, reader)
+    let (mut reader, feed) = reader_and_feed(alloc, readers)?;
+    told_to_both(rt, alloc, live, feed, &mut reader)
 }
 
 const TOLD: &[(Move, Answer)] = &[
@@ -115,22 +103,27 @@ fn learns<N: LiveName, R: Abort>(
 
 #[test]
 fn a_write_told_on_a_guard_is_seen_by_who_learns_it(rt: HostRuntime) -> Result<(), Fail> {
-    run(&rt, rt.alloc(), Row::ToldOnAGuard)?;
-    Ok(())
+    Ok(run(&rt, rt.alloc(), ToldOnAGuard)?)
 }
 
-pub(super) fn on_a_guard<N: LiveName, R: Wait + Abort>(
-    rt: &R,
-    alloc: Global,
-    live: &Live<N>,
-    readers: &mut Vec<Reader<N>>,
-) -> Result<(), KvError> {
-    let receipt = told_under_the_lock(rt, alloc, live)?;
-    seen_once_learned(rt, readers, &receipt)?;
-    mark_is_learned(rt, readers, &receipt)?;
-    calls(rt, alloc, live, SEAL);
-    equal(rt, refusal_of_told(rt, alloc, live), Some(KvError::Sealed));
-    Ok(())
+#[derive(Clone, Copy)]
+struct ToldOnAGuard;
+
+impl<R: Wait + Abort> Test<R> for ToldOnAGuard {
+    fn run<N: LiveName>(
+        self,
+        rt: &R,
+        alloc: Global,
+        live: &Live<N>,
+        readers: &mut Vec<Reader<N>>,
+    ) -> Result<(), KvError> {
+        let receipt = told_under_the_lock(rt, alloc, live)?;
+        seen_once_learned(rt, readers, &receipt)?;
+        mark_is_learned(rt, readers, &receipt)?;
+        calls(rt, alloc, live, SEAL);
+        equal(rt, refusal_of_told(rt, alloc, live), Some(KvError::Sealed));
+        Ok(())
+    }
 }
 
 fn seen_once_learned<N: LiveName, R: Abort>(
@@ -202,10 +195,10 @@ fn told_made<N: LiveName, R: Wait + Abort>(
     alloc: Global,
     keeper: &mut Keeper<N>,
 ) -> Result<(u64, Receipt<N>), KvError> {
-    made(
-        rt,
+    let before = look_through(keeper);
+    again_on(
         keeper,
-        |keeper| look_through(keeper),
+        |keeper| looks_as(rt, &look_through(keeper), &before),
         |keeper| told_once(rt, alloc, keeper),
     )
 }
@@ -221,29 +214,23 @@ fn told_once<N: LiveName, R: Wait>(
 
 #[test]
 fn readers_tell_what_the_other_has_seen(rt: HostRuntime) -> Result<(), Fail> {
-    run(&rt, rt.alloc(), Row::LooksInTurn)?;
-    Ok(())
+    Ok(run(&rt, rt.alloc(), LooksInTurn)?)
 }
 
-pub(super) fn looks_in_turn<N: LiveName, R: Wait + Abort>(
-    rt: &R,
-    alloc: Global,
-    live: &Live<N>,
-    readers: &mut Vec<Reader<N>>,
-) -> Result<(), KvError> {
-    let mut first = last(readers)?;
-    look_beside(rt, alloc, live, readers, &mut first)
-}
+#[derive(Clone, Copy)]
+struct LooksInTurn;
 
-fn look_beside<N: LiveName, R: Wait + Abort>(
-    rt: &R,
-    alloc: Global,
-    live: &Live<N>,
-    readers: &mut Vec<Reader<N>>,
-    first: &mut Reader<N>,
-) -> Result<(), KvError> {
-    let mut second = last(readers)?;
-    told_twice(rt, alloc, live, first, &mut second)
+impl<R: Wait + Abort> Test<R> for LooksInTurn {
+    fn run<N: LiveName>(
+        self,
+        rt: &R,
+        alloc: Global,
+        live: &Live<N>,
+        readers: &mut Vec<Reader<N>>,
+    ) -> Result<(), KvError> {
+        let (mut first, mut second) = both(readers)?;
+        told_twice(rt, alloc, live, &mut first, &mut second)
+    }
 }
 
 fn told_twice<N: LiveName, R: Wait + Abort>(

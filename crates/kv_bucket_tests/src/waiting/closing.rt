@@ -1,12 +1,10 @@
-//! A follower of a bucket that was closed. It is run again where a request for memory ended it.
-
-ghost use Rattle.std.specs.Prelude.{◌≡◌};
+//! A follower of a bucket that was closed.
 
 use crate::equal::equal;
 use crate::following::{follow_to_the_end, put, watch_all};
-use kv_bucket::{Config, Feed, KvError, Live, LiveName, Opened, Woken};
+use crate::opened::{ClosingTest, run_closing};
+use kv_bucket::{Feed, KvError, Live, LiveName, Reader, Woken};
 use std::alloc::Global;
-use std::marker::Brand;
 use std::process::Abort;
 use std::sync::Wait;
 use std::sync::atomic::AtomicU64;
@@ -39,38 +37,27 @@ fn is_handed_everything<N: LiveName, R: Wait + Abort>(
     Ok(())
 }
 
-fn follow_behind<N: LiveName, R: Wait + Abort>(
-    rt: &R,
-    feed: Result<Feed<N>, KvError>,
-) -> Result<(), KvError> {
-    let mut feed = feed?;
-    is_handed_everything(rt, &mut feed)
-}
+// A test of a feed that has yet to look when the bucket is closed.
+#[derive(Clone, Copy)]
+struct FollowedBehind;
 
-fn close_before<N: LiveName, R: Wait + Abort>(
-    rt: &R,
-    alloc: Global,
-    opened: Opened,
-) -> Result<(), KvError>
-    requires { opened.opening ≡ N.opening }
-{
-    let (live, readers) = opened.live::<N, R>(rt)?;
-    drop(readers);
-    let feed = fall_behind(rt, alloc, &live);
-    live.close(rt);
-    follow_behind(rt, feed)
-}
-
-fn run_once<R: Wait + Abort>(rt: &R, alloc: Global) -> Result<(), KvError> {
-    let opened = Live::open(alloc, &Config::named(alloc, "kv")?, 1)?;
-    close_before::<Brand, R>(rt, alloc, opened)
+impl<R: Wait + Abort> ClosingTest<R> for FollowedBehind {
+    fn run<N: LiveName>(
+        self,
+        rt: &R,
+        alloc: Global,
+        live: Live<N>,
+        readers: &mut Vec<Reader<N>>,
+    ) -> Result<(), KvError> {
+        readers.clear();
+        let feed = fall_behind(rt, alloc, &live);
+        live.close(rt);
+        let mut feed = feed?;
+        is_handed_everything(rt, &mut feed)
+    }
 }
 
 #[test]
 fn a_follower_behind_a_close_is_handed_everything(rt: HostRuntime) -> Result<(), Fail> {
-    match run_once(&rt, rt.alloc()) {
-        Err(KvError::OutOfMemory) => run_once(&rt, rt.alloc())?,
-        done => done?,
-    }
-    Ok(())
+    Ok(run_closing(&rt, rt.alloc(), FollowedBehind)?)
 }

@@ -1,11 +1,13 @@
 //! Four followers in `next` beside two writers. The threads wait for one another, so no request for memory is refused to
 //! them.
 
+use crate::beside::beside;
 use crate::equal::equal;
 use crate::following::{follow_to_the_end, put, watch_all};
-use crate::waiting::opening::{Row, run};
+use crate::opened::Opening;
+use crate::threaded::{Threaded, run_threaded};
 use crate::waiting::sleepers::pause;
-use kv_bucket::{KvError, Live, LiveName};
+use kv_bucket::{KvError, Live, LiveName, Reader};
 use std::alloc::Global;
 use std::process::Abort;
 use std::rt::Clock;
@@ -13,7 +15,7 @@ use std::sync::Wait;
 use std::sync::atomic::{AtomicU64, Ordering};
 use std::test::Fail;
 use std::thread;
-use std::thread::{Threads, join};
+use std::thread::Threads;
 use std::time::{CpuClock, Duration};
 
 // What a writer does.
@@ -116,6 +118,7 @@ fn write_to_the_end<N: LiveName, R: Wait + Clock + CpuClock + Abort>(
     sealed
 }
 
+// A follower that is refused counts as one that was handed everything, so that no writer waits for it.
 fn follow<N: LiveName, R: Wait + Abort>(
     rt: &R,
     alloc: Global,
@@ -123,94 +126,135 @@ fn follow<N: LiveName, R: Wait + Abort>(
     handed: &AtomicU64,
     all: u64,
 ) -> Result<(), KvError> {
-    let mut feed = watch_all(rt, alloc, live)?;
-    equal(rt, follow_to_the_end(rt, &mut feed, handed)?, all);
+    let followed = handed_to_one(rt, alloc, live, handed);
+    if followed.is_err() {
+        handed.fetch_add(EVERYTHING, Ordering::SeqCst);
+        handed.wake_all();
+    }
+    equal(rt, followed?, all);
     Ok(())
+}
+
+// How many items a follower is handed.
+fn handed_to_one<N: LiveName, R: Wait>(
+    rt: &R,
+    alloc: Global,
+    live: &Live<N>,
+    handed: &AtomicU64,
+) -> Result<u64, KvError> {
+    let mut feed = watch_all(rt, alloc, live)?;
+    follow_to_the_end(rt, &mut feed, handed)
 }
 
 fn write_beside_one<N: LiveName + Send + Sync, R: Threads + Wait + Clock + CpuClock + Abort + Sync>(
     rt: &R,
     alloc: Global,
     live: &Live<N>,
-    handed: &AtomicU64,
-    ended: &AtomicU64,
+    (handed, ended): (&AtomicU64, &AtomicU64),
     plan: Plan,
     all: u64,
 ) -> Result<(), KvError> {
-    let (followed, written) = join(
+    beside(
         rt,
         || follow(rt, alloc, live, handed, all),
         || write_to_the_end(rt, alloc, live, (handed, ended), plan),
-    );
-    followed?;
-    written
+    )
 }
 
 fn write_beside_two<N: LiveName + Send + Sync, R: Threads + Wait + Clock + CpuClock + Abort + Sync>(
     rt: &R,
     alloc: Global,
     live: &Live<N>,
-    handed: &AtomicU64,
-    ended: &AtomicU64,
+    (handed, ended): (&AtomicU64, &AtomicU64),
     plan: Plan,
     all: u64,
 ) -> Result<(), KvError> {
-    let (followed, written) = join(
+    beside(
         rt,
         || follow(rt, alloc, live, handed, all),
-        || write_beside_one(rt, alloc, live, handed, ended, plan, all),
-    );
-    followed?;
-    written
+        || write_beside_one(rt, alloc, live, (handed, ended), plan, all),
+    )
 }
 
-// Each follower is handed all, and each writer has two of them beside it.
+// A test of four followers beside two writers, one of them with this plan: each follower is handed so many items, the marker
+// among them. Each writer has two followers beside it.
+#[derive(Clone, Copy)]
+pub struct Followers {
+    plan: Plan,
+    // How often the other writer writes.
+    others: u64,
+    handed: u64,
+}
+
+const FOLLOWED: Opening = Opening {
+    readers: 4,
+    writes: 2 * MANY,
+};
+
+// Each follower takes the place of a reader that is dropped.
 pub fn follow_four<N: LiveName + Send + Sync, R: Threads + Wait + Clock + CpuClock + Abort + Sync>(
     rt: &R,
     alloc: Global,
     live: &Live<N>,
-    (plan, others): (Plan, u64),
-    all: u64,
+    readers: &mut Vec<Reader<N>>,
+    followers: Followers,
 ) -> Result<(), KvError> {
+    readers.clear();
     let handed = AtomicU64::new(0);
     let ended = AtomicU64::new(0);
-    follow_beside(rt, alloc, live, &handed, &ended, (plan, others), all)
+    let plans = (followers.plan, followers.others);
+    follow_beside(rt, alloc, live, (&handed, &ended), plans, followers.handed)
 }
 
 fn follow_beside<N: LiveName + Send + Sync, R: Threads + Wait + Clock + CpuClock + Abort + Sync>(
     rt: &R,
     alloc: Global,
     live: &Live<N>,
-    handed: &AtomicU64,
-    ended: &AtomicU64,
+    counts: (&AtomicU64, &AtomicU64),
     (plan, others): (Plan, u64),
     all: u64,
 ) -> Result<(), KvError> {
-    let (followed, beside) = join(
+    beside(
         rt,
-        || write_beside_two(rt, alloc, live, handed, ended, Plan::Pauses(others), all),
-        || write_beside_two(rt, alloc, live, handed, ended, plan, all),
-    );
-    followed?;
-    beside
+        || write_beside_two(rt, alloc, live, counts, Plan::Pauses(others), all),
+        || write_beside_two(rt, alloc, live, counts, plan, all),
+    )
 }
 
+// How many writes one writer makes.
+const MANY: u64 = 50_000;
+
+const ROUNDS: u64 = 10_000;
+
+// More items than any follower is handed.
+const EVERYTHING: u64 = 1_000_000_000;
+
 #[test]
-fn four_followers_and_two_writers(rt: HostRuntime) -> Result<(), Fail> {
-    let row = Row::Followers(Plan::Pauses(50_000), 50_000, 100_001);
-    run(&rt, rt.alloc(), row)?;
-    Ok(())
+fn four_followers_are_handed_all_of_two_writers(rt: HostRuntime) -> Result<(), Fail> {
+    let followers = Followers {
+        plan: Plan::Pauses(MANY),
+        others: MANY,
+        handed: 2 * MANY + 1,
+    };
+    Ok(run_threaded(&rt, rt.alloc(), FOLLOWED, Threaded::Followers(followers))?)
 }
 
 #[test]
 fn no_wake_up_is_lost(rt: HostRuntime) -> Result<(), Fail> {
-    let row = Row::Followers(Plan::Rounds(10_000), 0, 10_001);
-    run(&rt, rt.alloc(), row)?;
-    Ok(())
+    let followers = Followers {
+        plan: Plan::Rounds(ROUNDS),
+        others: 0,
+        handed: ROUNDS + 1,
+    };
+    Ok(run_threaded(&rt, rt.alloc(), FOLLOWED, Threaded::Followers(followers))?)
 }
 
 #[test]
 fn a_sleeper_takes_no_processor_time(rt: HostRuntime) -> Result<(), Fail> {
-    run(&rt, rt.alloc(), Row::Followers(Plan::Idle, 0, 2))?;
-    Ok(())
+    let followers = Followers {
+        plan: Plan::Idle,
+        others: 0,
+        handed: 2,
+    };
+    Ok(run_threaded(&rt, rt.alloc(), FOLLOWED, Threaded::Followers(followers))?)
 }

@@ -1,13 +1,15 @@
-//! Readers that sleep: what another thread does wakes them, and they keep no close from ending. The threads wait for one
-//! another, so no request for memory is refused to them.
+//! Readers that sleep: what another thread does wakes them, and they keep no close from ending.
 
 ghost use Rattle.std.specs.Prelude.{◌≡◌};
 
+use crate::beside::beside;
 use crate::equal::equal;
-use crate::following::slot;
-use crate::waiting::opening::{Row, run};
-use crate::waiting::waits::{Act, Step, make, steps_of, take_step};
+use crate::following::last;
+use crate::opened::OPENING;
+use crate::threaded::{Threaded, run_threaded};
+use crate::waiting::waits::{Act, Step, make, steps, take_step};
 use kv_bucket::{Config, KvError, Live, LiveName, Opened, Reader, Woken};
+use kv_test_tools::again;
 use std::alloc::Global;
 use std::marker::Brand;
 use std::process::Abort;
@@ -15,7 +17,7 @@ use std::rt::Clock;
 use std::sync::Wait;
 use std::test::Fail;
 use std::thread;
-use std::thread::{Threads, join};
+use std::thread::Threads;
 use std::time::Duration;
 
 // Long enough for another thread to fall asleep.
@@ -25,17 +27,32 @@ pub fn pause<R: Clock>(rt: &R) {
 
 const SEEN: &[Step] = &[Step::Do(Act::Put), Step::Look];
 
-// The reader has seen all that there is before it sleeps.
+// A test of a reader that sleeps in a step, beside a thread that does this so often. The reader has seen all that there is
+// before it sleeps.
+#[derive(Clone, Copy)]
+pub struct Sleeper {
+    act: Act,
+    times: u64,
+    sleep: Step,
+}
+
 pub fn woken_by<N: LiveName + Send + Sync, R: Threads + Wait + Clock + Abort + Sync>(
     rt: &R,
     alloc: Global,
     live: &Live<N>,
-    acts: (Act, u64),
-    sleep: Step,
+    readers: &mut Vec<Reader<N>>,
+    sleeper: Sleeper,
 ) -> Result<(), KvError> {
-    let mut reader = slot(rt, live)?;
-    steps_of(rt, alloc, live, &mut reader, SEEN)?;
-    sleep_beside(rt, alloc, live, &mut reader, acts, sleep)
+    let mut reader = last(readers)?;
+    steps(rt, alloc, live, &mut reader, SEEN)?;
+    sleep_beside(
+        rt,
+        alloc,
+        live,
+        &mut reader,
+        (sleeper.act, sleeper.times),
+        sleeper.sleep,
+    )
 }
 
 fn sleep_beside<N: LiveName + Send + Sync, R: Threads + Wait + Clock + Abort + Sync>(
@@ -46,13 +63,26 @@ fn sleep_beside<N: LiveName + Send + Sync, R: Threads + Wait + Clock + Abort + S
     (act, times): (Act, u64),
     sleep: Step,
 ) -> Result<(), KvError> {
-    let (disturbed, slept) = join(
+    beside(
         rt,
-        || disturb(rt, alloc, live, act, times),
         || take_step(rt, alloc, live, reader, sleep),
-    );
-    disturbed?;
-    slept
+        || disturb_to_the_end(rt, alloc, live, act, times),
+    )
+}
+
+// Where an act is refused again the wait is ended, since nobody is to sleep for ever.
+fn disturb_to_the_end<N: LiveName, R: Wait + Clock>(
+    rt: &R,
+    alloc: Global,
+    live: &Live<N>,
+    act: Act,
+    times: u64,
+) -> Result<(), KvError> {
+    let disturbed = disturb(rt, alloc, live, act, times);
+    if disturbed.is_err() {
+        live.finish();
+    }
+    disturbed
 }
 
 fn disturb<N: LiveName, R: Wait + Clock>(
@@ -64,7 +94,7 @@ fn disturb<N: LiveName, R: Wait + Clock>(
 ) -> Result<(), KvError> {
     for _ in 0..times {
         pause(rt);
-        make(rt, alloc, live, one)?;
+        again(|| make(rt, alloc, live, one))?;
     }
     Ok(())
 }
@@ -79,17 +109,26 @@ const WOKEN: &[(Act, Woken)] = &[
 
 #[test]
 fn a_sleeper_is_woken_by_each_act(rt: HostRuntime) -> Result<(), Fail> {
-    for (act, woken) in WOKEN {
-        run(&rt, rt.alloc(), Row::Sleeper(*act, 1, Step::Wait(*woken)))?;
+    for &(act, woken) in WOKEN {
+        let sleep = Step::Wait(woken);
+        let times = 1;
+        let sleeper = Sleeper { act, times, sleep };
+        run_threaded(&rt, rt.alloc(), OPENING, Threaded::Sleeper(sleeper))?;
     }
     Ok(())
 }
 
 #[test]
 fn a_revision_of_another_thread_is_waited_for(rt: HostRuntime) -> Result<(), Fail> {
-    let sleep = Step::For(4, Some(4));
-    run(&rt, rt.alloc(), Row::Sleeper(Act::Put, 3, sleep))?;
-    Ok(())
+    let sleeper = Sleeper {
+        act: Act::Put,
+        times: 3,
+        sleep: Step::For {
+            revision: 4,
+            found: Some(4),
+        },
+    };
+    Ok(run_threaded(&rt, rt.alloc(), OPENING, Threaded::Sleeper(sleeper))?)
 }
 
 // A close ends while another thread sleeps, and wakes it.
@@ -112,11 +151,12 @@ fn close_beside<
             equal(rt, sleeper.join(rt), Woken::Closed);
             Ok(())
         }
-        None => Err(KvError::NoReader),
+        // no thread was to be had
+        None => Err(KvError::OutOfMemory),
     }
 }
 
-fn closed<R: Threads + Wait + Clock + Abort + Copy + Send + 'static>(
+fn closed_once<R: Threads + Wait + Clock + Abort + Copy + Send + 'static>(
     rt: &R,
     alloc: Global,
 ) -> Result<(), KvError> {
@@ -126,6 +166,5 @@ fn closed<R: Threads + Wait + Clock + Abort + Copy + Send + 'static>(
 
 #[test]
 fn a_sleeper_keeps_no_close_from_ending(rt: HostRuntime) -> Result<(), Fail> {
-    closed(&rt, rt.alloc())?;
-    Ok(())
+    Ok(again(|| closed_once(&rt, rt.alloc()))?)
 }

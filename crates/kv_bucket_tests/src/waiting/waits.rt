@@ -1,8 +1,8 @@
 //! Tests of waits: what ends them, and what they answer.
 
 use crate::equal::equal;
-use crate::following::{From, put, put_two, slot, watch};
-use crate::waiting::opening::{Row, run};
+use crate::following::{From, last, put, put_two, watch};
+use crate::opened::{Test, run};
 use kv_bucket::{Feed, Filters, KvError, Live, LiveName, Reader, Version, Woken};
 use std::alloc::Global;
 use std::process::Abort;
@@ -56,8 +56,8 @@ pub enum Step {
     Moment(Option<Woken>),
     // A wait without a limit.
     Wait(Woken),
-    // A wait for a revision, and the revision of the version that was found.
-    For(u64, Option<u64>),
+    // A wait for a revision, and the revision of the version that was found, if any.
+    For { revision: u64, found: Option<u64> },
 }
 
 // Long enough for who doesn't wait, and short enough for a test.
@@ -83,7 +83,7 @@ pub fn take_step<N: LiveName, R: Wait + Clock + Abort>(
             equal(rt, reader.wait(rt), woken);
             Ok(())
         }
-        Step::For(revision, found) => finds(rt, reader, revision, found),
+        Step::For { revision, found } => finds(rt, reader, revision, found),
     }
 }
 
@@ -113,16 +113,6 @@ pub fn steps<N: LiveName, R: Wait + Clock + Abort>(
     rt: &R,
     alloc: Global,
     live: &Live<N>,
-    all: &[Step],
-) -> Result<(), KvError> {
-    let mut reader = slot(rt, live)?;
-    steps_of(rt, alloc, live, &mut reader, all)
-}
-
-pub fn steps_of<N: LiveName, R: Wait + Clock + Abort>(
-    rt: &R,
-    alloc: Global,
-    live: &Live<N>,
     reader: &mut Reader<N>,
     all: &[Step],
 ) -> Result<(), KvError> {
@@ -130,6 +120,23 @@ pub fn steps_of<N: LiveName, R: Wait + Clock + Abort>(
         take_step(rt, alloc, live, reader, *one)?;
     }
     Ok(())
+}
+
+// A test of what a reader does, one step after another.
+#[derive(Clone, Copy)]
+struct InTurn(&'static [Step]);
+
+impl<R: Wait + Clock + Abort> Test<R> for InTurn {
+    fn run<N: LiveName>(
+        self,
+        rt: &R,
+        alloc: Global,
+        live: &Live<N>,
+        readers: &mut Vec<Reader<N>>,
+    ) -> Result<(), KvError> {
+        let mut reader = last(readers)?;
+        steps(rt, alloc, live, &mut reader, self.0)
+    }
 }
 
 // What is new goes before the end.
@@ -147,8 +154,7 @@ const TIMEOUTS: &[Step] = &[
 
 #[test]
 fn a_timeout_ends_a_wait(rt: HostRuntime) -> Result<(), Fail> {
-    run(&rt, rt.alloc(), Row::Reader(TIMEOUTS))?;
-    Ok(())
+    Ok(run(&rt, rt.alloc(), InTurn(TIMEOUTS))?)
 }
 
 // A seal is news, too.
@@ -165,107 +171,107 @@ const ENDS: &[Step] = &[
 
 #[test]
 fn a_wait_ends_by_news_and_by_the_end(rt: HostRuntime) -> Result<(), Fail> {
-    run(&rt, rt.alloc(), Row::Reader(ENDS))?;
-    Ok(())
+    Ok(run(&rt, rt.alloc(), InTurn(ENDS))?)
 }
 
 const REVISIONS: &[Step] = &[
-    Step::For(0, Some(0)),
+    Step::For {
+        revision: 0,
+        found: Some(0),
+    },
     Step::Do(Act::Put),
     Step::Do(Act::Put),
-    Step::For(1, Some(2)),
+    Step::For {
+        revision: 1,
+        found: Some(2),
+    },
     Step::Do(Act::Finish),
-    Step::For(3, None),
-    Step::For(2, Some(2)),
+    Step::For {
+        revision: 3,
+        found: None,
+    },
+    Step::For {
+        revision: 2,
+        found: Some(2),
+    },
 ];
 
 #[test]
 fn a_revision_is_waited_for_to_the_end(rt: HostRuntime) -> Result<(), Fail> {
-    run(&rt, rt.alloc(), Row::Reader(REVISIONS))?;
-    Ok(())
+    Ok(run(&rt, rt.alloc(), InTurn(REVISIONS))?)
 }
 
 // A look takes in all of a batch, and what is written behind it is news again.
 const BATCHES: &[Step] = &[
     Step::Do(Act::PutTwo),
     Step::Moment(Some(Woken::Changed)),
-    Step::For(1, Some(2)),
+    Step::For {
+        revision: 1,
+        found: Some(2),
+    },
     Step::Moment(None),
     Step::Do(Act::Put),
     Step::Moment(Some(Woken::Changed)),
-    Step::For(3, Some(3)),
+    Step::For {
+        revision: 3,
+        found: Some(3),
+    },
     Step::Do(Act::PutTwo),
-    Step::For(4, Some(5)),
+    Step::For {
+        revision: 4,
+        found: Some(5),
+    },
     Step::Moment(None),
 ];
 
 // Refutes a notifier that counts a batch as one write: who has looked behind the batch would sleep on behind the next.
 #[test]
 fn a_wait_counts_each_write_of_a_batch(rt: HostRuntime) -> Result<(), Fail> {
-    run(&rt, rt.alloc(), Row::Reader(BATCHES))?;
-    Ok(())
+    Ok(run(&rt, rt.alloc(), InTurn(BATCHES))?)
 }
 
-// Where a feed begins, and what its first wait is told.
+// A test of a feed that begins there, and is told this by its first wait.
 #[derive(Clone, Copy)]
-pub struct First {
+struct FirstWait {
     from: From,
     woken: Option<Woken>,
 }
 
+impl<R: Wait + Clock + Abort> Test<R> for FirstWait {
+    fn run<N: LiveName>(
+        self,
+        rt: &R,
+        alloc: Global,
+        live: &Live<N>,
+        readers: &mut Vec<Reader<N>>,
+    ) -> Result<(), KvError> {
+        let mut reader = last(readers)?;
+        steps(rt, alloc, live, &mut reader, SEEN)?;
+        let mut feed = watch(reader, &Filters::parse(alloc, "app.>")?, self.from)?;
+        feed_waits(rt, alloc, live, &mut feed, self.woken)
+    }
+}
+
 #[test]
 fn a_feed_waits_from_its_refresh_on(rt: HostRuntime) -> Result<(), Fail> {
-    let first = First {
+    let first = FirstWait {
         from: From::ItsReader,
         woken: None,
     };
-    run(&rt, rt.alloc(), Row::Feed(first))?;
-    Ok(())
+    Ok(run(&rt, rt.alloc(), first)?)
 }
 
 // The feed has yet to hand out what its reader has seen before.
 #[test]
 fn a_feed_from_the_empty_bucket_is_behind_what_its_reader_saw(rt: HostRuntime) -> Result<(), Fail> {
-    let first = First {
+    let first = FirstWait {
         from: From::EmptyBucket,
         woken: Some(Woken::Changed),
     };
-    run(&rt, rt.alloc(), Row::Feed(first))?;
-    Ok(())
+    Ok(run(&rt, rt.alloc(), first)?)
 }
 
 const SEEN: &[Step] = &[Step::Do(Act::Put), Step::Look, Step::Moment(None)];
-
-pub fn feed_waits_first<N: LiveName, R: Wait + Clock + Abort>(
-    rt: &R,
-    alloc: Global,
-    live: &Live<N>,
-    first: First,
-) -> Result<(), KvError> {
-    let mut feed = watch_what_is_seen(rt, alloc, live, first.from)?;
-    feed_waits(rt, alloc, live, &mut feed, first.woken)
-}
-
-// A feed of a reader that has seen a write.
-fn watch_what_is_seen<N: LiveName, R: Wait + Clock + Abort>(
-    rt: &R,
-    alloc: Global,
-    live: &Live<N>,
-    from: From,
-) -> Result<Feed<N>, KvError> {
-    let filters = Filters::parse(alloc, "app.>")?;
-    watch(see(rt, alloc, live)?, &filters, from)
-}
-
-fn see<N: LiveName, R: Wait + Clock + Abort>(
-    rt: &R,
-    alloc: Global,
-    live: &Live<N>,
-) -> Result<Reader<N>, KvError> {
-    let mut reader = slot(rt, live)?;
-    steps_of(rt, alloc, live, &mut reader, SEEN)?;
-    Ok(reader)
-}
 
 fn feed_waits<N: LiveName, R: Wait + Clock + Abort>(
     rt: &R,
