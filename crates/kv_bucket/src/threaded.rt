@@ -117,7 +117,8 @@ fn follow<N: LiveName + Send + Sync, R: Threads + Wait + Sync, S: ThreadedServic
     )
 }
 
-// The leader, and beside it the followers.
+// The leader, and beside it the followers. What `join` is handed first runs last where no thread can be made: so the leader,
+// whose end lets the followers end, is the second.
 fn run_seated<N: LiveName + Send + Sync, R: Threads + Wait + Sync, S: ThreadedService<R>>(
     rt: &R,
     service: &S,
@@ -130,16 +131,16 @@ fn run_seated<N: LiveName + Send + Sync, R: Threads + Wait + Sync, S: ThreadedSe
         (λ r. AnswersEach (S.follows service.now N.opening.config) (length seats.items) r.1.items) }
     ensures err { IfErr result (λ e. e ≡ OutOfMemory) }
 {
-    let (led, followed) = join(
+    let (followed, led) = join(
         rt,
-        || -> S::Answer
-            ensures { S.leads service.entry.now N.opening.config result }
-        { lead::<N, R, S>(rt, service, live) },
         || -> Result<Vec<S::Followed>, AllocError>
             requires { AreNumbered (λ seat. seat.number) seats.items }
             ensures { IfOk result
                 (λ answers. AnswersEach (S.follows service.entry.now N.opening.config) (length seats.items) answers.items) }
         { follow::<N, R, S>(rt, service, live, seats) },
+        || -> S::Answer
+            ensures { S.leads service.entry.now N.opening.config result }
+        { lead::<N, R, S>(rt, service, live) },
     );
     Ok((led, followed?))
 }
