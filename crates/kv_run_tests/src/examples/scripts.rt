@@ -27,7 +27,7 @@ fn run_script(rt: &impl Abort, alloc: Global) -> Result<(), KvError> {
 }
 
 #[test]
-fn a_script_through_replay(rt: HostRuntime) -> Result<(), Fail> {
+fn replay_answers_each_line_of_a_script(rt: HostRuntime) -> Result<(), Fail> {
     match run_script(&rt, rt.alloc()) {
         // (a vector that finds no memory for what is written to it is a device that takes no more)
         Err(KvError::OutOfMemory) | Err(KvError::WriteFault) => Ok(run_script(&rt, rt.alloc())?),

@@ -8,40 +8,108 @@ const BAD_COMMAND: &str = "{\"code\":16,\"error\":\"BadCommand\"}\n";
 
 const BAD_KEY: &str = "{\"code\":4,\"error\":\"BadKey\"}\n";
 
-// A script by its beginning, how often `a` comes then, and its end; and its text. A line has 1,400,000 bytes at most,
-// and a comment has no limit.
-const SCRIPTS: &[(&[u8], usize, &[u8], &str)] = &[
-    (b"", 0, b"", ""),
-    (b"\r\n", 0, b"", ""),
-    (b"put ", 1, b" -", WRITTEN),
-    (b"put ", 1, b" -\r", WRITTEN),
-    (b"put ", 1, b" -\r\n", WRITTEN),
-    (b"put ", 1, b" MQ==\r\r\n", BAD_COMMAND),
-    (b"get ", 1, b"\0\n", BAD_KEY),
-    (b"get ", 1_399_996, b"\n", BAD_KEY),
-    (b"get ", 1_399_996, b"\r\n", BAD_KEY),
-    (b"get ", 1_399_997, b"\n", BAD_COMMAND),
-    (b"get ", 1_399_997, b"\r\n", BAD_COMMAND),
-    (b"#", 2_000_000, b"\nput a -\n", WRITTEN),
-];
-
-fn script_once(
-    alloc: Global,
-    begin: &[u8],
-    count: usize,
-    end: &[u8],
-) -> Result<Vec<u8>, AllocError> {
-    let mut script = Vec::with_capacity(alloc, 2_100_000)?;
-    script.extend_from_slice(begin)?;
-    for _ in 0..count {
-        script.push(b'a')?;
-    }
-    script.extend_from_slice(end)?;
-    Ok(script)
+// A script of its beginning, so many letters `a`, and its end; and its text.
+#[derive(Clone, Copy)]
+struct Script {
+    begin: &'static [u8],
+    letters: usize,
+    end: &'static [u8],
+    text: &'static str,
 }
 
-fn script(alloc: Global, begin: &[u8], count: usize, end: &[u8]) -> Result<Vec<u8>, AllocError> {
-    again(|| script_once(alloc, begin, count, end))
+// So many bytes a line has at most.
+const LONGEST_LINE: usize = 1_400_000;
+
+// Behind `get `.
+const LONGEST_KEY: usize = LONGEST_LINE - 4;
+
+const SCRIPTS: &[Script] = &[
+    Script {
+        begin: b"",
+        letters: 0,
+        end: b"",
+        text: "",
+    },
+    Script {
+        begin: b"\r\n",
+        letters: 0,
+        end: b"",
+        text: "",
+    },
+    Script {
+        begin: b"put ",
+        letters: 1,
+        end: b" -",
+        text: WRITTEN,
+    },
+    Script {
+        begin: b"put ",
+        letters: 1,
+        end: b" -\r",
+        text: WRITTEN,
+    },
+    Script {
+        begin: b"put ",
+        letters: 1,
+        end: b" -\r\n",
+        text: WRITTEN,
+    },
+    Script {
+        begin: b"put ",
+        letters: 1,
+        end: b" MQ==\r\r\n",
+        text: BAD_COMMAND,
+    },
+    Script {
+        begin: b"get ",
+        letters: 1,
+        end: b"\0\n",
+        text: BAD_KEY,
+    },
+    Script {
+        begin: b"get ",
+        letters: LONGEST_KEY,
+        end: b"\n",
+        text: BAD_KEY,
+    },
+    Script {
+        begin: b"get ",
+        letters: LONGEST_KEY,
+        end: b"\r\n",
+        text: BAD_KEY,
+    },
+    Script {
+        begin: b"get ",
+        letters: LONGEST_KEY + 1,
+        end: b"\n",
+        text: BAD_COMMAND,
+    },
+    Script {
+        begin: b"get ",
+        letters: LONGEST_KEY + 1,
+        end: b"\r\n",
+        text: BAD_COMMAND,
+    },
+    // A comment has no limit.
+    Script {
+        begin: b"#",
+        letters: 2_000_000,
+        end: b"\nput a -\n",
+        text: WRITTEN,
+    },
+];
+
+// More than any of these scripts has.
+const ROOM: usize = 2_100_000;
+
+fn whole_once(alloc: Global, script: Script) -> Result<Vec<u8>, AllocError> {
+    let mut whole = Vec::with_capacity(alloc, ROOM)?;
+    whole.extend_from_slice(script.begin)?;
+    for _ in 0..script.letters {
+        whole.push(b'a')?;
+    }
+    whole.extend_from_slice(script.end)?;
+    Ok(whole)
 }
 
 // Runs a script to its end, and tells whether this text was written.
@@ -67,9 +135,9 @@ fn gives(alloc: Global, script: &[u8], text: &str) -> Result<bool, KvError> {
 
 #[test]
 fn a_line_ends_by_lf_or_at_the_end_of_input(rt: HostRuntime) -> Result<(), Fail> {
-    for (begin, count, end, text) in SCRIPTS {
-        let script = script(rt.alloc(), begin, *count, end)?;
-        equal(&rt, gives(rt.alloc(), &script, text), Ok(true));
+    for script in SCRIPTS {
+        let whole = again(|| whole_once(rt.alloc(), *script))?;
+        equal(&rt, gives(rt.alloc(), &whole, script.text), Ok(true));
     }
     Ok(())
 }

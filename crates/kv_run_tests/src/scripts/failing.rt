@@ -3,6 +3,9 @@
 use super::devices::{Given, is, replayed};
 use super::*;
 
+mod readers;
+mod writers;
+
 const SCRIPT: &[u8] = b"put b MQ==\nput a Mg==\nput b Mw==\nwatch >\ntake 1 4\n";
 
 const TEXT: &[u8] = b"{\"revision\":1}\n\
@@ -24,13 +27,6 @@ const PLAIN: Given<'static> = Given {
     calls: u64::MAX,
 };
 
-const SEAL: Given<'static> = Given {
-    script: b"seal\n",
-    text: b"{\"sealed\":true}\n",
-    read_most: 1,
-    ..PLAIN
-};
-
 const FIRST: Given<'static> = Given {
     script: b"put a MQ==\nget a\n",
     text: FIRST_TEXT,
@@ -39,30 +35,6 @@ const FIRST: Given<'static> = Given {
 
 const FIRST_TEXT: &[u8] = b"{\"revision\":1}\n\
     {\"key\":\"a\",\"op\":\"PUT\",\"revision\":1,\"size\":1,\"value\":\"MQ==\"}\n";
-
-// How many lines these bytes end.
-fn lines_in(bytes: &[u8]) -> usize {
-    bytes.iter().filter(|byte| **byte == b'\n').count()
-}
-
-// The beginning of the text that has so many lines.
-fn first_lines(lines: usize) -> &'static [u8] {
-    let mut left = lines;
-    for at in 0..TEXT.len() {
-        if left == 0 {
-            return &TEXT[..at];
-        }
-        if TEXT[at] == b'\n' {
-            left -= 1;
-        }
-    }
-    TEXT
-}
-
-// The text of so many lines of the script: the last of them, a take, has more than one answer.
-fn text_of_lines(lines: usize) -> &'static [u8] {
-    if lines < 5 { first_lines(lines) } else { TEXT }
-}
 
 #[test]
 fn one_byte_a_call_gives_the_text(rt: HostRuntime) -> Result<(), Fail> {
@@ -74,139 +46,5 @@ fn one_byte_a_call_gives_the_text(rt: HostRuntime) -> Result<(), Fail> {
     let ran = replayed(rt.alloc(), given)?;
     assert!(rt; is(&ran, Ok(()), TEXT));
     equal(&rt, ran.asked, SCRIPT.len() + 1);
-    Ok(())
-}
-
-#[test]
-fn nothing_is_read_after_the_end(rt: HostRuntime) -> Result<(), Fail> {
-    let ran = replayed(rt.alloc(), PLAIN)?;
-    assert!(rt; is(&ran, Ok(()), TEXT));
-    equal(&rt, ran.asked, 2);
-    Ok(())
-}
-
-// The reader fails at this call, in the midst of a script that it gives byte by byte.
-fn reader_fails_at(alloc: Global, call: usize) -> Result<bool, KvError> {
-    let given = Given {
-        read_most: 1,
-        read_fails_at: call,
-        ..PLAIN
-    };
-    let ran = replayed(alloc, given)?;
-    let read = call.saturating_sub(1).min(SCRIPT.len());
-    let text = text_of_lines(lines_in(&SCRIPT[..read]));
-    Ok(is(&ran, Err(KvError::ReadFault), text) && ran.asked == call)
-}
-
-#[test]
-fn a_reader_that_fails_ends_behind_whole_lines(rt: HostRuntime) -> Result<(), Fail> {
-    for call in 1..SCRIPT.len() + 2 {
-        assert!(rt; reader_fails_at(rt.alloc(), call)?);
-    }
-    Ok(())
-}
-
-// The writer takes one byte a call, and fails at this call.
-fn writer_fails_at(alloc: Global, call: usize) -> Result<bool, KvError> {
-    let before = call.saturating_sub(1).min(TEXT.len());
-    let given = Given {
-        write_most: 1,
-        write_calls: before,
-        ..PLAIN
-    };
-    Ok(is(
-        &replayed(alloc, given)?,
-        Err(KvError::WriteFault),
-        &TEXT[..before],
-    ))
-}
-
-#[test]
-fn a_writer_that_fails_has_the_bytes_before(rt: HostRuntime) -> Result<(), Fail> {
-    for call in 1..TEXT.len() + 1 {
-        assert!(rt; writer_fails_at(rt.alloc(), call)?);
-    }
-    Ok(())
-}
-
-// Within this many calls the script ends well, and has its text.
-fn calls_suffice(rt: &impl Abort, alloc: Global, given: Given<'_>) -> Result<(), KvError> {
-    assert!(rt; is(&replayed(alloc, given)?, Ok(()), given.text));
-    Ok(())
-}
-
-// This many calls, all of them made, are too few for the end of the script, and enough for this text.
-fn calls_end_at(
-    rt: &impl Abort,
-    alloc: Global,
-    given: Given<'_>,
-    text: &[u8],
-) -> Result<(), KvError> {
-    let ran = replayed(alloc, given)?;
-    assert!(rt; is(&ran, Err(KvError::ReadFault), text));
-    equal(rt, ran.asked as u64, given.calls);
-    Ok(())
-}
-
-#[test]
-fn a_bound_on_read_calls_ends_the_run(rt: HostRuntime) -> Result<(), Fail> {
-    calls_suffice(&rt, rt.alloc(), Given { calls: 6, ..SEAL })?;
-    for (calls, text) in [(5, SEAL.text), (4, b""), (0, b"")] {
-        calls_end_at(&rt, rt.alloc(), Given { calls, ..SEAL }, text)?;
-    }
-    let given = Given {
-        calls: 100,
-        ..FIRST
-    };
-    calls_suffice(&rt, rt.alloc(), given)?;
-    Ok(())
-}
-
-#[test]
-fn a_reader_that_fails_in_a_line_answers_those_before(rt: HostRuntime) -> Result<(), Fail> {
-    let given = Given {
-        script: b"put a MQ==\nput b",
-        read_fails_at: 2,
-        ..FIRST
-    };
-    let ran = replayed(rt.alloc(), given)?;
-    assert!(rt; is(&ran, Err(KvError::ReadFault), b"{\"revision\":1}\n"));
-    Ok(())
-}
-
-#[test]
-fn a_last_line_without_its_end_is_answered(rt: HostRuntime) -> Result<(), Fail> {
-    let given = Given {
-        script: b"put a MQ==\nget a",
-        ..FIRST
-    };
-    assert!(rt; is(&replayed(rt.alloc(), given)?, Ok(()), FIRST.text));
-    Ok(())
-}
-
-#[test]
-fn a_writer_that_fails_has_four_bytes(rt: HostRuntime) -> Result<(), Fail> {
-    let given = Given {
-        write_most: 4,
-        write_calls: 1,
-        ..FIRST
-    };
-    assert!(rt;
-        is(
-            &replayed(rt.alloc(), given)?,
-            Err(KvError::WriteFault),
-            b"{\"re"
-        )
-    );
-    Ok(())
-}
-
-#[test]
-fn a_writer_that_takes_nothing_ends_the_run(rt: HostRuntime) -> Result<(), Fail> {
-    let given = Given {
-        write_most: 0,
-        ..FIRST
-    };
-    assert!(rt; is(&replayed(rt.alloc(), given)?, Err(KvError::WriteFault), b""));
     Ok(())
 }

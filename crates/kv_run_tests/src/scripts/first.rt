@@ -43,19 +43,57 @@ const SHOWN_IN_TEXT: &str = "{\"revision\":1}\n\
 const REFUSED: &str = "{\"code\":16,\"error\":\"BadCommand\"}\n\
     {\"code\":12,\"error\":\"KeyNotFound\"}\n";
 
-const RUNS: &[(By, &str, &str)] = &[
-    (By::Replay, IN_BASE64, SHOWN_IN_BASE64),
-    (By::Replay, IN_TEXT, REFUSED),
-    (By::ReplayIn(Form::Base64), IN_BASE64, SHOWN_IN_BASE64),
-    (By::ReplayIn(Form::Text), IN_TEXT, SHOWN_IN_TEXT),
-    (By::ReplayBounded(100), IN_BASE64, SHOWN_IN_BASE64),
-    (By::ReplayBounded(100), IN_TEXT, REFUSED),
-    (
-        By::ReplayBoundedIn(100, Form::Base64),
-        IN_BASE64,
-        SHOWN_IN_BASE64,
-    ),
-    (By::ReplayBoundedIn(100, Form::Text), IN_TEXT, SHOWN_IN_TEXT),
+// More calls than a script makes here.
+const CALLS: u64 = 100;
+
+// A call, a script, and the text.
+struct Case {
+    by: By,
+    script: &'static str,
+    text: &'static str,
+}
+
+const CASES: &[Case] = &[
+    Case {
+        by: By::Replay,
+        script: IN_BASE64,
+        text: SHOWN_IN_BASE64,
+    },
+    Case {
+        by: By::Replay,
+        script: IN_TEXT,
+        text: REFUSED,
+    },
+    Case {
+        by: By::ReplayIn(Form::Base64),
+        script: IN_BASE64,
+        text: SHOWN_IN_BASE64,
+    },
+    Case {
+        by: By::ReplayIn(Form::Text),
+        script: IN_TEXT,
+        text: SHOWN_IN_TEXT,
+    },
+    Case {
+        by: By::ReplayBounded(CALLS),
+        script: IN_BASE64,
+        text: SHOWN_IN_BASE64,
+    },
+    Case {
+        by: By::ReplayBounded(CALLS),
+        script: IN_TEXT,
+        text: REFUSED,
+    },
+    Case {
+        by: By::ReplayBoundedIn(CALLS, Form::Base64),
+        script: IN_BASE64,
+        text: SHOWN_IN_BASE64,
+    },
+    Case {
+        by: By::ReplayBoundedIn(CALLS, Form::Text),
+        script: IN_TEXT,
+        text: SHOWN_IN_TEXT,
+    },
 ];
 
 // Runs a script to its end, and tells whether this text was written.
@@ -84,8 +122,8 @@ fn gives(alloc: Global, by: By, script: &[u8], text: &[u8]) -> Result<bool, KvEr
 
 #[test]
 fn each_call_answers_a_put_and_a_get(rt: HostRuntime) {
-    for (by, script, text) in RUNS {
-        let given = gives(rt.alloc(), *by, script.as_bytes(), text.as_bytes());
+    for it in CASES {
+        let given = gives(rt.alloc(), it.by, it.script.as_bytes(), it.text.as_bytes());
         equal(&rt, given, Ok(true));
     }
 }

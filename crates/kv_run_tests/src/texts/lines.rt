@@ -3,7 +3,7 @@
 use kv_keys::KvError;
 use kv_model::{Options, Request, Start};
 use kv_script::{Command, Form, is_skipped, parse, parse_write};
-use kv_test_tools::again;
+use kv_test_tools::{LATEST, again};
 use std::alloc::{AllocError, Global};
 use std::process::Abort;
 use std::test::Fail;
@@ -110,15 +110,54 @@ const COMMANDS: &[(Form, &str, Asked)] = &[
     (Form::Text, "batch 4", ("batch", "", b"", Some(4))),
 ];
 
-// Lines of watches, and of their options the start, whether markers are left out, and whether values are.
-const WATCHES: &[(&str, Start, bool, bool)] = &[
-    ("watch >", Start::Latest, false, false),
-    ("watch > history", Start::History, false, false),
-    ("watch > updates", Start::Updates, false, false),
-    ("watch > from=5", Start::From(5), false, false),
-    ("watch > nodeletes from=0 meta", Start::From(0), true, true),
-    ("watch > meta history", Start::History, false, true),
-    ("watch > updates nodeletes", Start::Updates, true, false),
+// Lines of watches, and their options.
+const WATCHES: &[(&str, Options)] = &[
+    ("watch >", LATEST),
+    (
+        "watch > history",
+        Options {
+            start: Start::History,
+            ..LATEST
+        },
+    ),
+    (
+        "watch > updates",
+        Options {
+            start: Start::Updates,
+            ..LATEST
+        },
+    ),
+    (
+        "watch > from=5",
+        Options {
+            start: Start::From(5),
+            ..LATEST
+        },
+    ),
+    (
+        "watch > nodeletes from=0 meta",
+        Options {
+            start: Start::From(0),
+            ignore_deletes: true,
+            headers_only: true,
+        },
+    ),
+    (
+        "watch > meta history",
+        Options {
+            start: Start::History,
+            headers_only: true,
+            ..LATEST
+        },
+    ),
+    (
+        "watch > updates nodeletes",
+        Options {
+            start: Start::Updates,
+            ignore_deletes: true,
+            ..LATEST
+        },
+    ),
 ];
 
 pub(crate) fn parsed(alloc: Global, form: Form, line: &[u8]) -> Result<Command, KvError> {
@@ -225,22 +264,25 @@ fn lines_ask_for_these_commands(rt: HostRuntime) -> Result<(), Fail> {
 
 #[test]
 fn watches_have_these_options(rt: HostRuntime) -> Result<(), Fail> {
-    for (line, start, ignore_deletes, headers_only) in WATCHES {
-        let options = Options {
-            start: *start,
-            ignore_deletes: *ignore_deletes,
-            headers_only: *headers_only,
-        };
-        holds(&rt, line, has_options(rt.alloc(), line, options)?);
+    for (line, options) in WATCHES {
+        holds(&rt, line, has_options(rt.alloc(), line, *options)?);
     }
     Ok(())
 }
 
+// Behind `put abc ` so many characters make the longest line that there may be, and their base64 is a value of so many bytes.
+const CHARACTERS: usize = 1_399_992;
+
+const BYTES: usize = 1_049_994;
+
+// More than any line here has.
+const ROOM: usize = 1_400_100;
+
 // A line that begins with this text, and then has characters of base64.
 fn long_line_once(alloc: Global, begin: &[u8]) -> Result<Vec<u8>, AllocError> {
-    let mut line = Vec::with_capacity(alloc, 1_400_100)?;
+    let mut line = Vec::with_capacity(alloc, ROOM)?;
     line.extend_from_slice(begin)?;
-    for _ in 0..1_399_992 {
+    for _ in 0..CHARACTERS {
         line.push(b'A')?;
     }
     Ok(line)
@@ -261,7 +303,7 @@ fn long_value(alloc: Global, begin: &[u8]) -> Result<usize, KvError> {
 #[test]
 fn a_line_has_at_most_1_400_000_bytes(rt: HostRuntime) {
     let alloc = rt.alloc();
-    assert!(rt; long_value(alloc, b"put abc ") == Ok(1_049_994));
+    assert!(rt; long_value(alloc, b"put abc ") == Ok(BYTES));
     assert!(rt; long_value(alloc, b"put abcd ") == Err(KvError::BadCommand));
 }
 
