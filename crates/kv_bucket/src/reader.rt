@@ -13,7 +13,9 @@ use crate::cached::Cached;
 use crate::progress::Progress;
 use crate::receipt::{Mark, Receipt};
 use kv_keys::KvError;
-use kv_publish::{Gets, LiveName, Notifier, Prefix, Publication, PublishRule, Side, Woken};
+use kv_publish::{
+    Gets, LastPublished, LiveName, Notifier, Prefix, Publication, PublishRule, Side, Woken,
+};
 use kv_store::Version;
 use kv_watch::Watch;
 use left_right::reader::{Reader as Slot, Reading};
@@ -58,52 +60,86 @@ impl<N: LiveName> Model for Reader<N> {
     ghost invariant = { λ r. IsSome r.slot × IsOf N.opening r.empty × (r.empty.raw_prefix.acts ≡ []) };
 }
 
-// The store's answer to a reader: inside, or the place with which it stays outside.
-type Entry<N> = Result<Reading<Side, (), PublishRule<N>>, Slot<Side, (), PublishRule<N>>>;
+// How often a reader looks where it is shown less than it knows: as good as for ever. It never is shown less, since what is
+// shown only grows, and a receipt is made behind that; but no contract of the store says so, and no refusal stands for it.
+const LOOKS: u64 = u64::MAX;
 
-// Enters the store, where that lets it.
-fn enter<N: LiveName>(slot: &mut Option<Slot<Side, (), PublishRule<N>>>) -> Entry<N>
+// Where a reader is that was let in: inside the store; or outside, on what was published last, once nobody enters there.
+type Entered<'a, N> = Result<
+    Reading<Side, (), PublishRule<N>>,
+    (Slot<Side, (), PublishRule<N>>, &'a LastPublished<N>),
+>;
+
+// Enters the store; where nobody enters there any more, what was published last. Where there is neither, no place lets the
+// reader enter.
+fn enter_once<'a, N: LiveName>(
+    slot: &mut Option<Slot<Side, (), PublishRule<N>>>,
+    notifier: &'a Notifier<N>,
+) -> Result<Entered<'a, N>, KvError>
     requires { IsSome slot.old }
-    ensures { IfOk result (λ reading. IsOf N.opening reading.part.value.publication) }
+    ensures of { IfOk result (λ entered. MatchResult entered
+        (λ reading. IsOf N.opening reading.part.value.publication)
+        (λ outside. IsOf N.opening outside.1.now.publication)) }
+    ensures seat { OnErr result (IsSome slot.new) }
+    ensures err { IfErr result (λ e. e ≡ NoReader) }
 {
     let Some(outside) = slot.take() else {
         unreachable!()
     };
-    outside.enter_as::<Gets<N>>()
-}
-
-// Leaves it, if it is inside.
-fn leave<N: LiveName>(entry: Entry<N>) -> Slot<Side, (), PublishRule<N>> {
-    match entry {
-        Ok(reading) => reading.leave(),
-        Err(outside) => outside,
+    match outside.enter_as::<Gets<N>>() {
+        Ok(reading) => Ok(Ok(reading)),
+        Err(outside) => match notifier.last() {
+            Some(last) => Ok(Err((outside, last))),
+            None => {
+                *slot = Some(outside);
+                Err(KvError::NoReader)
+            }
+        },
     }
 }
 
-// The publication that a reader of this progress enters on: what the store shows; where nobody enters there any more, what
-// was published last. It is let enter only on one that has all that it has seen and was told. Where there is none, no
-// place lets it enter.
-fn entered_on<'a, N: LiveName>(
-    entry: &'a Entry<N>,
+// The publication that it entered on.
+fn publication_of<'a, N: LiveName>(entered: &'a Entered<'a, N>) -> &'a Publication
+    ensures { MatchResult entered.now
+        (λ reading. result.now ≡ reading.part.value.publication)
+        (λ outside. result.now ≡ outside.1.now.publication) }
+{
+    match entered {
+        Ok(reading) => reading.get().publication(),
+        Err((_, last)) => last.publication(),
+    }
+}
+
+// Leaves the store, if it is inside.
+fn leave<N: LiveName>(entered: Entered<'_, N>) -> Slot<Side, (), PublishRule<N>> {
+    match entered {
+        Ok(reading) => reading.leave(),
+        Err((outside, _)) => outside,
+    }
+}
+
+// Enters on a publication that has all that the reader of this progress has seen and was told.
+fn enter<'a, N: LiveName>(
+    slot: &mut Option<Slot<Side, (), PublishRule<N>>>,
     notifier: &'a Notifier<N>,
     progress: &Progress<N>,
-) -> Result<&'a Publication, KvError>
-    requires { IfOk entry.now (λ reading. IsOf N.opening reading.part.value.publication) }
-    ensures ok { IfOk result
-        (λ publication. IsOf N.opening publication.now × IsWithin publication.now.raw_prefix.acts progress.now) }
+) -> Result<Entered<'a, N>, KvError>
+    requires { IsSome slot.old }
+    ensures of { IfOk result (λ entered. MatchResult entered
+        (λ reading. IsOf N.opening reading.part.value.publication)
+        (λ outside. IsOf N.opening outside.1.now.publication)) }
+    ensures within { IfOk result (λ entered. MatchResult entered
+        (λ reading. IsWithin reading.part.value.publication.raw_prefix.acts progress.now)
+        (λ outside. IsWithin outside.1.now.publication.raw_prefix.acts progress.now)) }
+    ensures seat { OnErr result (IsSome slot.new) }
     ensures err { IfErr result (λ e. e ≡ NoReader) }
 {
-    if let Ok(reading) = entry {
-        let publication = reading.get().publication();
-        if progress.is_within(publication) {
-            return Ok(publication);
+    for _ in 0..LOOKS {
+        let entered = enter_once(slot, notifier)?;
+        if progress.is_within(publication_of(&entered)) {
+            return Ok(entered);
         }
-    }
-    if let Some(last) = notifier.last() {
-        let publication = last.publication();
-        if progress.is_within(publication) {
-            return Ok(publication);
-        }
+        *slot = Some(leave(entered));
     }
     Err(KvError::NoReader)
 }
@@ -129,8 +165,8 @@ impl<N: LiveName> Reader<N> {
     }
 
     /// The version that is published; once the bucket was closed, the last one. It costs an entry, a snapshot and a
-    /// leave. `NoReader` where nobody lets the reader enter: neither the store, on what it shows, nor what was published
-    /// last, once there is that. Each lets it enter only on a version that has all that it has seen and was told.
+    /// leave. `NoReader` where nobody lets the reader enter: neither the store, nor what was published last, once there is
+    /// that. Shown less than it has seen or was told, which never comes, it would look again.
     pub fn version(&mut self) -> Result<Version, KvError>
         ensures later { IsPrefix self.old.seen self.new.seen }
         ensures told { self.new.told ≡ self.old.told }
@@ -181,18 +217,10 @@ impl<N: LiveName> Reader<N> {
         ensures unchanged { OnErr result (cached.new ≡ cached.old) }
         ensures err { IfErr result IsUnread }
     {
-        let entry = enter(&mut self.slot);
-        match entered_on(&entry, &self.notifier, &self.progress) {
-            Ok(publication) => {
-                let done = cached.go_on(&mut self.progress, publication);
-                self.slot = Some(leave(entry));
-                done
-            }
-            Err(refusal) => {
-                self.slot = Some(leave(entry));
-                Err(refusal)
-            }
-        }
+        let entered = enter(&mut self.slot, &self.notifier, &self.progress)?;
+        let left = cached.go_on(&mut self.progress, publication_of(&entered));
+        self.slot = Some(leave(entered));
+        left
     }
 
     /// Sleeps until something is published that it has not taken in, or the bucket is closed. It takes no lock.
@@ -288,18 +316,10 @@ impl<N: LiveName> Reader<N> {
         ensures err { IfErr result
             (IsNotShown (option_map (λ f. (f.0.now, f.1.now)) follower.entry) self.new.seen) }
     {
-        let entry = enter(&mut self.slot);
-        match entered_on(&entry, &self.notifier, &self.progress) {
-            Ok(publication) => {
-                let copy = self.progress.take_in(follower, publication);
-                self.slot = Some(leave(entry));
-                copy
-            }
-            Err(refusal) => {
-                self.slot = Some(leave(entry));
-                Err(refusal)
-            }
-        }
+        let entered = enter(&mut self.slot, &self.notifier, &self.progress)?;
+        let copy = self.progress.take_in(follower, publication_of(&entered));
+        self.slot = Some(leave(entered));
+        copy
     }
 
     pub(crate) fn seen(&self) -> &Prefix<N>

@@ -1,5 +1,6 @@
 //! What readers find once the store lets none of them enter.
 
+ghost use Rattle.std.specs.Prelude.{◌≡◌};
 ghost use Rattle.kv_publish.specs.Publications.{IsOf};
 
 use crate::protocol::LiveName;
@@ -27,7 +28,8 @@ impl<N: LiveName> LastPublished<N> {
 
     /// The last publication.
     pub fn publication(&self) -> &Publication
-        ensures { IsOf N.opening result.now }
+        ensures value { result.now ≡ self.now.publication }
+        ensures of { IsOf N.opening result.now }
     {
         &self.publication
     }

@@ -1,4 +1,4 @@
-use Rattle.std.proofs.Common.{◌≡◌, ◌++◌, ◌+◌, List, length, take, subst, sym, ap, ◌∙◌, arith, length-append}
+use Rattle.std.proofs.Common.{◌≡◌, ◌++◌, List, length, take, subst, sym, ap, ◌∙◌, arith, length-append}
 use Rattle.kv_model.specs.Acts.{Act}
 use Rattle.kv_publish.specs.Rules.{IsStepFrom, IsWhole, acts_in}
 use Rattle.kv_publish.specs.Steps.{acts_from, step_of}
