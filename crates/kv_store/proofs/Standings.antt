@@ -84,7 +84,7 @@ stands_for_seal acts version s =
 
 -- ---- a write
 
-last_or-push : (ws : List Write) (w : Write) (o : Option Write) → last_or o (ws ++ w ∷ []) ≡ Some w
+pub last_or-push : (ws : List Write) (w : Write) (o : Option Write) → last_or o (ws ++ w ∷ []) ≡ Some w
 last_or-push [] w o = refl
 last_or-push (v ∷ ws) w o = last_or-push ws w (Some v)
 
@@ -96,7 +96,7 @@ last_write-wrote key acts w = ap (last_or None) (writes_of_key-push key acts (Wr
     by_key true = last_or-push (writes_of_key key acts) w None
     by_key false = refl
 
-find-push : (r : ℕ) (ws : List Write) (w : Write) → ((v : Write) → Contains ws v → v.revision < w.revision) → find (λ v. v.revision == r) (ws ++ w ∷ []) ≡ cond (w.revision == r) (Some w) (find (λ v. v.revision == r) ws)
+pub find-push : (r : ℕ) (ws : List Write) (w : Write) → ((v : Write) → Contains ws v → v.revision < w.revision) → find (λ v. v.revision == r) (ws ++ w ∷ []) ≡ cond (w.revision == r) (Some w) (find (λ v. v.revision == r) ws)
 find-push r [] w h = refl
 find-push r (v ∷ ws) w h =
     ap (cond (v.revision == r) (Some v)) (find-push r ws w (λ u m. h u (Contains-there v ws u m)))
@@ -107,7 +107,7 @@ find-push r (v ∷ ws) w h =
     in_turn true p false q = refl
     in_turn false p b q = refl
 
-length-last_n : {X : Type 0} (n : ℕ) (xs : List X) (x : X) → 0 < n → 0 < length (last_n n (xs ++ x ∷ []))
+pub length-last_n : {X : Type 0} (n : ℕ) (xs : List X) (x : X) → 0 < n → 0 < length (last_n n (xs ++ x ∷ []))
 length-last_n n xs x some = omega (arith, length-drop (length (xs ++ x ∷ []) - n) (xs ++ x ∷ []), length-append xs (x ∷ []))
 
 -- at most one revision more is kept

@@ -1,6 +1,7 @@
 pub mod Asked
 pub mod Batches
 pub mod Places
+pub mod PuttingBack
 pub mod Standing
 pub mod Stored
 pub mod inside

@@ -7,6 +7,7 @@ mod compaction;
 mod key_history;
 pub mod laws;
 mod listing;
+mod put_back;
 mod read;
 mod rev;
 mod ring;

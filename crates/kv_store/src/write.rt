@@ -246,7 +246,7 @@ impl Version {
 
 // Puts the write into the trie of revisions, and into that of keys what is stored of its key then; it is the last of all
 // then, and there are so many entries. Or it changes nothing.
-fn put_pairs(
+pub(crate) fn put_pairs(
     alloc: Global,
     inner: &mut Inner,
     of_key: NewPair<Key, KeyHistory>,
