@@ -2,7 +2,7 @@
 use Rattle.std.proofs.Common.{◌≡◌, ℕ, ◌<◌, ◌==◌, nat_lt, Bool, true, false, cond, List, [], ◌∷◌, ◌++◌, length, append_assoc, append-nil, refl, ap, sym, ◌∙◌, inl, inr}
 use Rattle.std.specs.List.{onto_first}
 use Rattle.std.proofs.lemmas.Bool.{cases_Bool, ltb-true}
-use Rattle.kv_replay.specs.Lines.{lines_of, but_last, texts}
+use Rattle.kv_replay.specs.Lines.{behind, lines_of, but_last, texts}
 use Rattle.kv_replay.specs.inside.Reading.{Reading, beginning, step, said_by, after_bytes, said, closed, ended, line_ended}
 
 -- the line goes before the first of the lines
@@ -178,6 +178,48 @@ module _ {S : Type 0} (limit : ℕ) (text : S → List ℕ → List ℕ) (next :
   -- and of its lines that a line feed ends
   pub whole_texts-said : (s : S) (input : List ℕ) → Texts silent s (but_last (lines_of input)) ≡ Said (beginning s) input
   whole_texts-said s input = ap (λ lines. Texts silent s (but_last lines)) (sym (lines_of-onto input)) ∙ whole_of_bytes (beginning s) input
+
+  -- the state behind the lines, where one has begun
+  abbrev Behind : S → List (List ℕ) → S
+  Behind = behind next
+
+  abbrev past : Reading S → S
+  past r = next r.state r.line
+
+  behind_ended : (s : S) (line : List ℕ) (lines : List (List ℕ)) (end : S) → Behind (next s line) lines ≡ end → Behind s (onto line ([] ∷ lines)) ≡ end
+  behind_ended s line lines end h = rw (append-nil line) h
+
+  behind_skip : (s : S) (line : List ℕ) (byte : ℕ) (lines : List (List ℕ)) → limit < length line
+      → Behind s (onto line (onto_first byte lines)) ≡ Behind s (onto line lines)
+  behind_skip s line byte [] h = long_next s line (byte ∷ []) h
+  behind_skip s line byte (first ∷ lines) h = ap (λ state. Behind state lines) (long_next s line (byte ∷ first) h ∙ sym (long_next s line first h))
+
+  past-step : (r r' : Reading S) (byte : ℕ) (bytes : List ℕ) → Step r byte ≡ r' → past (After r (byte ∷ bytes)) ≡ past (After r' bytes)
+  past-step r r' byte bytes e = ap (λ state. past (After state bytes)) e
+
+  behind_bytes : (r : Reading S) (bytes : List ℕ) → Behind r.state (onto r.line (lines_of bytes)) ≡ past (After r bytes)
+  behind_bytes r [] = rw (append-nil r.line) refl
+  behind_bytes r (byte ∷ bytes) = elim (cases_Bool (byte == 10)) [
+    | inl feed ↦
+        ap (λ lines. Behind r.state (onto r.line lines)) (lines_of-feed byte bytes feed)
+        ∙ behind_ended r.state r.line (lines_of bytes) (past (After (LineEnded r) bytes))
+        (ap (Behind (next r.state r.line)) (sym (lines_of-onto bytes)) ∙ behind_bytes (LineEnded r) bytes)
+        ∙ sym (past-step r (LineEnded r) byte bytes (step-feed r byte feed))
+    | inr inside ↦
+        ap (λ lines. Behind r.state (onto r.line lines)) (lines_of-inside byte bytes inside)
+        ∙ elim (cases_Bool (nat_lt limit (length r.line))) [
+          | inl long ↦
+              behind_skip r.state r.line byte (lines_of bytes) (ltb-true limit (length r.line) long) ∙ behind_bytes r bytes
+              ∙ sym (past-step r r byte bytes (step-long r byte inside long))
+          | inr short ↦
+              ap (Behind r.state) (onto-onto_first r.line byte (lines_of bytes)) ∙ behind_bytes (grown r byte) bytes
+              ∙ sym (past-step r (grown r byte) byte bytes (step-short r byte inside short))
+        ]
+  ]
+
+  -- the state behind a whole script
+  pub behind_is : (s : S) (input : List ℕ) → Behind s (lines_of input) ≡ past (After (beginning s) input)
+  behind_is s input = ap (Behind s) (sym (lines_of-onto input)) ∙ behind_bytes (beginning s) input
 
   -- bytes that come in two parts
   pub after-append : (r : Reading S) (xs ys : List ℕ) → After r (xs ++ ys) ≡ After (After r xs) ys

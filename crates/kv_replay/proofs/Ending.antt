@@ -3,14 +3,15 @@ use Rattle.std.proofs.Common.{◌≡◌, ◌⊎◌, Bool, true, false, true≢fa
 use Rattle.std.specs.Prelude.{⊤, IsOk, IsErr, IfErr, OnOk}
 use Rattle.std.specs.Result.{IsErrAnd}
 use Rattle.std.proofs.KnownBytes.{Consumes-nil, Appends-nil}
+use Rattle.std.proofs.lemmas.Result.{IfErr-weaker}
 use Rattle.kv_keys.specs.Grammar.{is_name}
 use Rattle.kv_keys.specs.Outcome.{Refuses}
 use Rattle.kv_keys.specs.declared.error.KvError.{KvError}
 use Rattle.kv_keys.specs.declared.error.KvError.TheVariants.{OutOfMemory, BadBucket, BadConfig, BadKey, BadFilter, OptionsClash, ValueTooLarge, Sealed, JournalFull, KeyExists, WrongLastRevision, KeyNotFound, NoSuchWatch, TooManyWatches, NoReader, BadCommand, ReadFault, WriteFault, BadFloor, WatchBehind, Lagged}
 use Rattle.kv_script.specs.declared.form.Form.{Form}
 use Rattle.kv_replay.specs.Faults.{IsRunFault, EndsRun}
-use Rattle.kv_replay.specs.Replaying.{Ran}
-use Rattle.kv_replay.specs.Sessions.{script_text}
+use Rattle.kv_replay.specs.Replaying.{Ran, RanFrom}
+use Rattle.kv_replay.specs.Sessions.{Session, fresh, script_text, text_from}
 use Rattle.kv_replay.proofs.Progress.{starts}
 use Rattle.kv_model.specs.Configuration.{Configuration, configure, has_legal_numbers}
 
@@ -104,3 +105,25 @@ handed_on (Err x) e P is p = subst P (sym is) p
 pub on_ok : {P : Type 0} (result : Result ⊤ KvError) → P → OnOk result P
 on_ok {P} (Ok done) p = p
 on_ok {P} (Err e) p = tt
+
+-- nothing was read, and nothing was written, of a run that begins in a session
+pub nothing_done_from : (form : Form) (session : Session) (unread held : Option (List ℕ)) (result : Result ⊤ KvError) → IsErr result → IfErr result IsRunFault → RanFrom form session unread unread held held result
+nothing_done_from form session unread held (Ok done) bad fault = absurd (true≢false (sym bad))
+nothing_done_from form session unread held (Err e) bad fault = record {
+  ok = tt;
+  read_fault = λ _. record { input = []; read = Consumes-nil unread; written = Appends-nil held };
+  write_fault = λ _. record { input = []; read = Consumes-nil unread; text = []; begins = starts (text_from form session []) [] (text_from form session []) refl; written = Appends-nil held };
+  memory = λ _. record { input = []; read = Consumes-nil unread; text = []; begins = starts (text_from form session []) [] (text_from form session []) refl; whole = inl refl; written = Appends-nil held };
+  fault = fault;
+}
+
+-- a run on a new bucket, of a legal configuration
+pub ran_new : (form : Form) (config : Configuration) (unread left held holds : Option (List ℕ)) (result : Result ⊤ KvError) → configure config ≡ Ok config → RanFrom form (fresh config) unread left held holds result → Ran form config unread left held holds result
+ran_new form config unread left held holds result legal ran = record {
+  ok = ran.ok;
+  read_fault = ran.read_fault;
+  write_fault = ran.write_fault;
+  memory = ran.memory;
+  legal = on_ok result legal;
+  fault = IfErr-weaker result _ _ (λ e fault. ends_run e (configure config) fault (subst IsOk (sym legal) refl)) ran.fault;
+}

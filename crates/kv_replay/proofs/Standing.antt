@@ -1,5 +1,5 @@
 -- What a turn of a session comes to, where the session stands for what is kept of it.
-use Rattle.std.proofs.Common.{◌≡◌, ℕ, ◌-◌, true, false, cond, List, [], ◌∷◌, ◌++◌, Option, Some, None, Result, Err, refl, sym, ap, subst, ◌∙◌}
+use Rattle.std.proofs.Common.{◌≡◌, ℕ, ◌+◌, ◌-◌, true, false, cond, List, [], ◌∷◌, ◌++◌, Option, Some, None, Result, Ok, Err, refl, sym, ap, subst, ◌∙◌}
 use Rattle.std.specs.Prelude.{option_map}
 use Rattle.std.proofs.lemmas.Bool.{ne_eqb}
 use Rattle.kv_keys.specs.declared.error.KvError.{KvError}
@@ -10,8 +10,8 @@ use Rattle.kv_model.specs.State.{State}
 use Rattle.kv_model.specs.declared.batch.BatchRefused.{BatchRefused}
 use Rattle.kv_script.specs.Commands.{Meaning, is_skipped, line_command, line_write}
 use Rattle.kv_script.specs.declared.form.Form.{Form}
-use Rattle.kv_single.specs.Held.{Represents}
-use Rattle.kv_replay.specs.Batches.{Asks, all_asked, outcome, outcome_text}
+use Rattle.kv_single.specs.Held.{Bucketed, Represents}
+use Rattle.kv_replay.specs.Batches.{Asks, all_asked, behind_ask, outcome, outcome_text}
 use Rattle.kv_replay.specs.Sessions.{Begun, Session, Turn, batch_ends, batch_goes_on, batch_size, begins, counted_turn, end_text, made, turn}
 use Rattle.kv_replay.specs.Text.{steps_of}
 use Rattle.kv_replay.specs.inside.Gathering.{Gathered, asked_more, gathered}
@@ -104,3 +104,17 @@ end_none s is = rw is refl
 pub end_missing : (s : Session) (b : Begun) → s.batch ≡ Some b → end_text s ≡ outcome_text (outcome s.state (all_asked (b.asks ++ Err BadCommand ∷ [])))
 unfolding end_text
 end_missing s b is = rw is refl
+
+-- a batch whose next line is missing changes nothing
+all_refused : (asks : Asks) (e : KvError) → (r : BatchRefused) × (all_asked (asks ++ Err e ∷ []) ≡ Err r)
+all_refused [] e = (record { at = 0; error = e }, refl)
+all_refused (Err error ∷ asks) e = (record { at = 0; error = error }, refl)
+all_refused (Ok asked ∷ asks) e =
+    let rest = all_refused asks e in
+    (record { at = rest.0.at + 1; error = rest.0.error }, ap (behind_ask asked) rest.1)
+
+pub stays : (s : State) (b : Begun) (asked : Result (List Asked) BatchRefused) (bucket : Bucketed) → asked ≡ all_asked (b.asks ++ Err BadCommand ∷ [])
+    → Represents (after_batch s (outcome s asked)) bucket → Represents s bucket
+stays s b asked bucket is stands =
+    let refused = all_refused b.asks BadCommand in
+    subst (λ a. Represents (after_batch s (outcome s a)) bucket) (is ∙ refused.1) stands

@@ -17,3 +17,8 @@ module _ {S : Type 0} (text : S → List ℕ → List ℕ) (next : S → List �
   abbrev pub texts : S → List (List ℕ) → List ℕ
   texts s [] = ending s
   texts s (line ∷ lines) = text s line ++ texts (next s line) lines
+
+-- the state behind lines
+abbrev pub behind : {S : Type 0} → (S → List ℕ → S) → S → List (List ℕ) → S
+behind {S} next s [] = s
+behind {S} next s (line ∷ lines) = behind next (next s line) lines

@@ -3,9 +3,11 @@ use Rattle.std.specs.Prelude.{◌≡◌, ⊤, ℕ, List, Option, Result, Ok, IfE
 use Rattle.kv_keys.specs.declared.error.KvError.{KvError}
 use Rattle.kv_keys.specs.declared.error.KvError.TheVariants.{OutOfMemory, ReadFault, WriteFault}
 use Rattle.kv_script.specs.declared.form.Form.{Form}
-use Rattle.kv_replay.specs.Faults.{EndsRun}
+use Rattle.kv_replay.specs.Faults.{EndsRun, IsRunFault}
+use Rattle.std.specs.Io.KnownBytes.{Consumes}
+use Rattle.kv_single.specs.Held.{Bucketed, Represents}
 use Rattle.kv_replay.specs.Outcome.{Replays, Breaks, Stops, StopsWhole}
-use Rattle.kv_replay.specs.Sessions.{script_text, whole_text}
+use Rattle.kv_replay.specs.Sessions.{Session, script_text, state_behind, text_from, whole_from, whole_text}
 use Rattle.kv_model.specs.Configuration.{Configuration, configure}
 
 -- `unread` and `left` are the bytes that the source had and has, `held` and `holds` those of the sink, where they are
@@ -26,3 +28,21 @@ pub record Ran (form : Form) (config : Configuration) (unread left held holds : 
   -- a configuration that is not legal is answered by its refusal, and a legal one by no refusal of it
   pub legal : OnOk result (configure config ≡ Ok config)
   pub fault : IfErr result (λ e. EndsRun e (configure config))
+
+-- The same of a run that begins in a session, on whatever it runs on.
+pub record RanFrom (form : Form) (session : Session) (unread left held holds : Option (List ℕ))
+    (result : Result ⊤ KvError) : Type 0 where
+  pub ok : OnOk result (Replays (text_from form session) (whole_from form session) unread left held holds)
+  pub read_fault : IsErrOf result ReadFault → Breaks (text_from form session) (whole_from form session) unread left
+      held holds
+  pub write_fault : IsErrOf result WriteFault → Stops (text_from form session) (whole_from form session) unread left
+      held holds
+  pub memory : IsErrOf result OutOfMemory → StopsWhole (text_from form session) (whole_from form session) unread left
+      held holds
+  pub fault : IfErr result IsRunFault
+
+-- all was read, and the bucket is at the state that it leads to
+pub record EndsAt (form : Form) (session : Session) (unread left : Option (List ℕ)) (bucket : Bucketed) : Type 0 where
+  pub input : List ℕ
+  pub read : Consumes unread left input
+  pub stands : Represents (state_behind form session input) bucket

@@ -10,7 +10,7 @@ use Rattle.kv_model.specs.State.{State, empty}
 use Rattle.kv_script.specs.Commands.{Meaning, Batch, is_skipped, line_command, line_write}
 use Rattle.kv_script.specs.declared.form.Form.{Form}
 use Rattle.kv_replay.specs.Batches.{Asks, all_asked, outcome, outcome_text}
-use Rattle.kv_replay.specs.Lines.{lines_of, but_last, texts}
+use Rattle.kv_replay.specs.Lines.{behind, lines_of, but_last, texts}
 use Rattle.kv_replay.specs.Text.{Step, steps_of, steps_text, steps_next}
 
 -- a batch that has begun: how many of its lines are still to come, and what each of those that came asks for
@@ -84,11 +84,22 @@ missing_text s (Some begun) = outcome_text (outcome s (all_asked (begun.asks ++ 
 unfoldable pub end_text : Session → List ℕ
 end_text session = missing_text session.state session.batch
 
--- what is written for a script
-abbrev pub script_text : Form → Configuration → List ℕ → List ℕ
-script_text form config input = texts (line_text form) (line_next form) end_text (fresh config) (lines_of input)
+-- what is written for a script that begins in a session
+abbrev pub text_from : Form → Session → List ℕ → List ℕ
+text_from form session input = texts (line_text form) (line_next form) end_text session (lines_of input)
 
 -- what is written for its lines that a line feed ends, where the input breaks off
+abbrev pub whole_from : Form → Session → List ℕ → List ℕ
+whole_from form session input =
+    texts (line_text form) (line_next form) (λ session. []) session (but_last (lines_of input))
+
+-- the state that it leads to: a batch whose lines are not all there is refused
+abbrev pub state_behind : Form → Session → List ℕ → State
+state_behind form session input = (behind (line_next form) session (lines_of input)).state
+
+-- what is written for a script on a new bucket
+abbrev pub script_text : Form → Configuration → List ℕ → List ℕ
+script_text form config input = text_from form (fresh config) input
+
 abbrev pub whole_text : Form → Configuration → List ℕ → List ℕ
-whole_text form config input =
-    texts (line_text form) (line_next form) (λ session. []) (fresh config) (but_last (lines_of input))
+whole_text form config input = whole_from form (fresh config) input

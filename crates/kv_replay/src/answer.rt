@@ -19,6 +19,7 @@ use crate::reads::{
 };
 use crate::refusals::answer_refusal;
 use crate::takes::{answer_takes, pour_takes};
+use crate::target::Target;
 use crate::watches::{answer_stop, answer_watch};
 use crate::writes::{answer_compact, answer_seal, answer_write};
 use kv_keys::KvError;
@@ -27,34 +28,42 @@ use kv_single::Bucket;
 use std::alloc::Global;
 
 /// Does one command, and appends its answer lines.
-fn answer_command(
+fn answer_command<T: Target>(
     alloc: Global,
     form: Form,
-    bucket: &mut Bucket,
+    target: &mut T,
     command: &Command,
     out: &mut Vec<u8>,
 ) -> Result<(), KvError>
-    ensures ok { OnOk result ((state : State) → Represents state bucket.old →
-        Does state (steps form state (meaning_of command.now)) out.old.items out.new.items bucket.new) }
-    ensures err { OnErr result ((state : State) → Represents state bucket.old →
-        EndsEarly state (steps form state (meaning_of command.now)) out.old.items out.new.items bucket.new) }
+    ensures kept { T.goes_on target.old target.new }
+    ensures ok { OnOk result ((state : State) → Represents state (T.bucket target.old) →
+        Does state (steps form state (meaning_of command.now)) out.old.items out.new.items (T.bucket target.new)) }
+    ensures err { OnErr result ((state : State) → Represents state (T.bucket target.old) →
+        EndsEarly state (steps form state (meaning_of command.now)) out.old.items out.new.items (T.bucket target.new)) }
     ensures shown { OnErr result ((watch count : ℕ) → meaning_of command.now ≡ Take watch count → (state : State) →
-        Represents state bucket.old →
-        EndsBetween state (takes form watch count state) out.old.items out.new.items bucket.new) }
+        Represents state (T.bucket target.old) →
+        EndsBetween state (takes form watch count state) out.old.items out.new.items (T.bucket target.new)) }
     ensures memory { IfErr result (λ e. e ≡ OutOfMemory) }
 {
     match command {
-        Command::Write(request) => answer_write(alloc, bucket, request, out),
-        Command::Get(key) => answer_get(alloc, form, bucket, key, out),
-        Command::GetAt(key, revision) => answer_get_at(alloc, form, bucket, key, *revision, out),
-        Command::History(key) => answer_history(alloc, form, bucket, key, out),
-        Command::Keys(filters) => answer_keys(alloc, bucket, filters, out),
-        Command::Watch(filters, options) => answer_watch(alloc, bucket, filters, *options, out),
-        Command::Take { watch, count } => answer_takes(alloc, form, bucket, *watch, *count, out),
-        Command::Stop(watch) => answer_stop(alloc, bucket, *watch, out),
-        Command::Status => answer_status(alloc, bucket, out),
-        Command::Seal => answer_seal(alloc, bucket, out),
-        Command::Compact(floor) => answer_compact(alloc, bucket, *floor, out),
+        Command::Write(request) => answer_write(alloc, target, request, out),
+        Command::Get(key) => answer_get(alloc, form, target.as_bucket(), key, out),
+        Command::GetAt(key, revision) => answer_get_at(
+            alloc,
+            form,
+            target.as_bucket(),
+            key,
+            *revision,
+            out,
+        ),
+        Command::History(key) => answer_history(alloc, form, target.as_bucket(), key, out),
+        Command::Keys(filters) => answer_keys(alloc, target.as_bucket(), filters, out),
+        Command::Watch(filters, options) => answer_watch(alloc, target, filters, *options, out),
+        Command::Take { watch, count } => answer_takes(alloc, form, target, *watch, *count, out),
+        Command::Stop(watch) => answer_stop(alloc, target, *watch, out),
+        Command::Status => answer_status(alloc, target.as_bucket(), out),
+        Command::Seal => answer_seal(alloc, target, out),
+        Command::Compact(floor) => answer_compact(alloc, target, *floor, out),
         Command::Place(key) => answer_place(alloc, key, out),
         Command::Batch(_) => answer_refusal(alloc, KvError::BadCommand, out),
     }
@@ -114,32 +123,33 @@ pub fn answer_line_in(
 }
 
 /// Does one command. Its answers wait behind others, and are written where they are many.
-pub(crate) fn pour_command<K: Output>(
+pub(crate) fn pour_command<T: Target, K: Output>(
     alloc: Global,
     form: Form,
-    bucket: &mut Bucket,
+    target: &mut T,
     command: &Command,
     out: &mut Vec<u8>,
     sink: &mut K,
 ) -> Result<(), KvError>
+    ensures kept { T.goes_on target.old target.new }
     ensures same { K.goes_on sink.old sink.new }
-    ensures ok { OnOk result ((state : State) → Represents state bucket.old →
+    ensures ok { OnOk result ((state : State) → Represents state (T.bucket target.old) →
         Pours (steps_text (steps form state (meaning_of command.now))) (K.held sink.old) out.old.items
         (K.held sink.new) out.new.items
-        × Represents (steps_next state (steps form state (meaning_of command.now))) bucket.new) }
+        × Represents (steps_next state (steps form state (meaning_of command.now))) (T.bucket target.new)) }
     ensures write_fault { IsErrOf result KvError.WriteFault →
-        K.failed_between sink.old sink.new × ((state : State) → Represents state bucket.old →
+        K.failed_between sink.old sink.new × ((state : State) → Represents state (T.bucket target.old) →
         Puts (out.old.items ++ steps_text (steps form state (meaning_of command.now))) (K.held sink.old)
         (K.held sink.new)) }
-    ensures memory { IsErrOf result KvError.OutOfMemory → (state : State) → Represents state bucket.old →
+    ensures memory { IsErrOf result KvError.OutOfMemory → (state : State) → Represents state (T.bucket target.old) →
         PoursFront (steps_text (steps form state (meaning_of command.now)))
         (K.held sink.old) out.old.items (K.held sink.new) out.new.items }
     ensures fault { IfErr result IsWriteOrMemory }
 {
     if let Command::Take { watch, count } = command {
-        return pour_takes(alloc, form, bucket, *watch, *count, out, sink);
+        return pour_takes(alloc, form, target, *watch, *count, out, sink);
     }
-    answer_command(alloc, form, bucket, command, out)?;
+    answer_command(alloc, form, target, command, out)?;
     pour_many(out, sink)
 }
 

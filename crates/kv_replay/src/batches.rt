@@ -14,9 +14,10 @@ ghost use Rattle.kv_replay.specs.inside.Written.{Pours, Puts};
 use crate::batch::Batch;
 use crate::output::Output;
 use crate::pouring::pour_many;
+use crate::target::Target;
 use kv_keys::KvError;
 use kv_script::{append_batch_refusal, append_revisions};
-use kv_single::{Bucket, Request};
+use kv_single::Request;
 use std::alloc::Global;
 
 /// The place from 1 of the request at a place from 0 of so many.
@@ -48,23 +49,25 @@ fn answer_refused(
 }
 
 /// Does all that is asked in one step, or nothing. After want of memory nothing was appended.
-fn answer_requests(
+fn answer_requests<T: Target>(
     alloc: Global,
-    bucket: &mut Bucket,
+    target: &mut T,
     requests: &[Request],
     out: &mut Vec<u8>,
 ) -> Result<(), KvError>
-    ensures ok { OnOk result ((state : State) → Represents state bucket.old →
+    ensures kept { T.goes_on target.old target.new }
+    ensures ok { OnOk result ((state : State) → Represents state (T.bucket target.old) →
         (out.new.items
         ≡ out.old.items ++ outcome_text (accept_all state.config (map asked requests.now) state.acts))
-        × Represents (after_batch state (accept_all state.config (map asked requests.now) state.acts)) bucket.new) }
+        × Represents (after_batch state (accept_all state.config (map asked requests.now) state.acts)) (T.bucket target.new)) }
     ensures err { OnErr result (out.new.items ≡ out.old.items) }
     ensures memory { IfErr result (λ e. e ≡ OutOfMemory) }
 {
-    let before = bucket.version().revision();
-    match bucket.write_all(requests) {
+    let before = target.as_bucket().version().revision();
+    match target.write_all(requests) {
         Ok(_) => {
-            append_revisions(alloc, out, before, bucket.version().revision())?;
+            let last = target.as_bucket().version().revision();
+            append_revisions(alloc, out, before, last)?;
             Ok(())
         }
         Err(refused) => {
@@ -91,44 +94,46 @@ fn answer_unread(
 }
 
 /// Ends a batch: does what its lines ask for. After want of memory nothing was appended.
-fn answer_batch(
+fn answer_batch<T: Target>(
     alloc: Global,
-    bucket: &mut Bucket,
+    target: &mut T,
     batch: &Batch,
     out: &mut Vec<u8>,
 ) -> Result<(), KvError>
-    ensures ok { OnOk result ((state : State) → Represents state bucket.old →
+    ensures kept { T.goes_on target.old target.new }
+    ensures ok { OnOk result ((state : State) → Represents state (T.bucket target.old) →
         (out.new.items ≡ out.old.items ++ outcome_text (outcome state batch.now.asked))
-        × Represents (after_batch state (outcome state batch.now.asked)) bucket.new) }
+        × Represents (after_batch state (outcome state batch.now.asked)) (T.bucket target.new)) }
     ensures err { OnErr result (out.new.items ≡ out.old.items) }
     ensures memory { IfErr result (λ e. e ≡ OutOfMemory) }
 {
     match batch.asked() {
-        (requests, None) => answer_requests(alloc, bucket, requests, out),
+        (requests, None) => answer_requests(alloc, target, requests, out),
         (before, Some(error)) => answer_unread(alloc, before, error, out),
     }
 }
 
 /// Ends a batch. Its answer waits behind others, and is written where they are many.
-pub(crate) fn pour_batch<K: Output>(
+pub(crate) fn pour_batch<T: Target, K: Output>(
     alloc: Global,
-    bucket: &mut Bucket,
+    target: &mut T,
     batch: &Batch,
     out: &mut Vec<u8>,
     sink: &mut K,
 ) -> Result<(), KvError>
+    ensures kept { T.goes_on target.old target.new }
     ensures same { K.goes_on sink.old sink.new }
-    ensures ok { OnOk result ((state : State) → Represents state bucket.old →
+    ensures ok { OnOk result ((state : State) → Represents state (T.bucket target.old) →
         Pours (outcome_text (outcome state batch.now.asked)) (K.held sink.old) out.old.items
         (K.held sink.new) out.new.items
-        × Represents (after_batch state (outcome state batch.now.asked)) bucket.new) }
+        × Represents (after_batch state (outcome state batch.now.asked)) (T.bucket target.new)) }
     ensures write_fault { IsErrOf result KvError.WriteFault →
-        K.failed_between sink.old sink.new × ((state : State) → Represents state bucket.old →
+        K.failed_between sink.old sink.new × ((state : State) → Represents state (T.bucket target.old) →
         Puts (out.old.items ++ outcome_text (outcome state batch.now.asked)) (K.held sink.old) (K.held sink.new)) }
     ensures memory { IsErrOf result KvError.OutOfMemory →
         Pours [] (K.held sink.old) out.old.items (K.held sink.new) out.new.items }
     ensures fault { IfErr result IsWriteOrMemory }
 {
-    answer_batch(alloc, bucket, batch, out)?;
+    answer_batch(alloc, target, batch, out)?;
     pour_many(out, sink)
 }

@@ -1,4 +1,4 @@
-//! What the lines of a script have come to: the bucket, and the batch that has begun.
+//! What the lines of a script have come to: what it runs on, and the batch that has begun.
 
 ghost use Rattle.std.specs.Prelude.{◌≡◌, ◌++◌, [], None, Some, Ok, OnOk, IfErr, IsErrOf};
 ghost use Rattle.kv_single.specs.Held.{Represents};
@@ -8,41 +8,23 @@ ghost use Rattle.kv_replay.specs.Batches.{Asks, all_asked};
 ghost use Rattle.kv_replay.specs.Faults.{IsWriteOrMemory};
 ghost use Rattle.kv_replay.specs.Sessions.{Begun, Session, batch_goes_on, batch_size, counted_turn, end_text, turn};
 ghost use Rattle.kv_replay.specs.inside.Gathering.{gathered};
-ghost use Rattle.kv_replay.specs.inside.Scripted.{Stands};
+ghost use Rattle.kv_replay.specs.inside.Scripted.{Stands, held};
 ghost use Rattle.kv_replay.specs.inside.Written.{Pours, PoursFront, Puts};
 
 use crate::answer::{pour_command, pour_refusal};
 use crate::batch::Batch;
 use crate::batches::pour_batch;
 use crate::output::Output;
+use crate::target::Target;
 use kv_keys::KvError;
 use kv_script::{Command, Form, is_skipped, parse};
-use kv_single::Bucket;
 use std::alloc::Global;
-use std::marker::Model;
 
-/// What the lines of a script have come to: the bucket, and the batch that has begun, if one has.
-pub(crate) struct Interpreter {
-    bucket: Bucket,
-    batch: Option<Batch>,
-}
-
-// Field by field: a derived drop makes each proof longer that owns one.
-impl Drop for Interpreter {
-    fn drop(self) {
-        let Self {
-            bucket: _,
-            batch: _,
-        } = self;
-    }
-}
-
-impl Model for Interpreter {
-    ghost use Rattle.kv_replay.specs.inside.Scripted.{Sessioned};
-
-    ghost Value = { Sessioned };
-
-    ghost view = { λ s. record { bucket = s.bucket; batch = s.batch } };
+/// What the lines of a script have come to: what it runs on, and the batch that has begun, if one has.
+#[derive(Drop)]
+pub(crate) struct Interpreter<T: Target> {
+    pub(crate) target: T,
+    pub(crate) batch: Option<Batch>,
 }
 
 /// How many lines a batch has that a command begins.
@@ -55,14 +37,14 @@ fn batch_size(command: &Command) -> Option<u64>
     }
 }
 
-impl Interpreter {
+impl<T: Target> Interpreter<T> {
     /// Before the first line.
-    pub(crate) fn new(bucket: Bucket) -> Interpreter
-        ensures bucket { result.bucket ≡ bucket }
+    pub(crate) fn new(target: T) -> Interpreter<T>
+        ensures target { result.target ≡ target }
         ensures batch { result.batch ≡ None }
     {
         Interpreter {
-            bucket,
+            target,
             batch: None,
         }
     }
@@ -76,12 +58,13 @@ impl Interpreter {
         sink: &mut K,
     ) -> Result<(), KvError>
         ensures same { K.goes_on sink.old sink.new }
-        ensures ok { OnOk result ((s : State) (asks : Asks) → Represents s self.old.bucket → batch.asked ≡ all_asked asks →
+        ensures kept { T.goes_on self.old.target self.new.target }
+        ensures ok { OnOk result ((s : State) (asks : Asks) → Represents s (T.bucket self.old.target) → batch.asked ≡ all_asked asks →
             Pours (batch_goes_on s batch.awaited asks).0 (K.held sink.old) out.old.items
             (K.held sink.new) out.new.items
-            × Stands (batch_goes_on s batch.awaited asks).1 self.new) }
+            × Stands (batch_goes_on s batch.awaited asks).1 (held T.bucket self.new)) }
         ensures write_fault { IsErrOf result KvError.WriteFault →
-            K.failed_between sink.old sink.new × ((s : State) (asks : Asks) → Represents s self.old.bucket →
+            K.failed_between sink.old sink.new × ((s : State) (asks : Asks) → Represents s (T.bucket self.old.target) →
             batch.asked ≡ all_asked asks →
             Puts (out.old.items ++ (batch_goes_on s batch.awaited asks).0) (K.held sink.old) (K.held sink.new)) }
         ensures memory { IsErrOf result KvError.OutOfMemory →
@@ -90,7 +73,7 @@ impl Interpreter {
     {
         if batch.awaited() == 0 {
             self.batch = None;
-            return pour_batch(alloc, &mut self.bucket, &batch, out, sink);
+            return pour_batch(alloc, &mut self.target, &batch, out, sink);
         }
         self.batch = Some(batch);
         Ok(())
@@ -107,12 +90,13 @@ impl Interpreter {
         sink: &mut K,
     ) -> Result<(), KvError>
         ensures same { K.goes_on sink.old sink.new }
-        ensures ok { OnOk result ((s : State) (b : Begun) → Represents s self.old.bucket → begun ≡ gathered b →
+        ensures kept { T.goes_on self.old.target self.new.target }
+        ensures ok { OnOk result ((s : State) (b : Begun) → Represents s (T.bucket self.old.target) → begun ≡ gathered b →
             Pours (counted_turn form s (Some b) line.now).0 (K.held sink.old) out.old.items
             (K.held sink.new) out.new.items
-            × Stands (counted_turn form s (Some b) line.now).1 self.new) }
+            × Stands (counted_turn form s (Some b) line.now).1 (held T.bucket self.new)) }
         ensures write_fault { IsErrOf result KvError.WriteFault →
-            K.failed_between sink.old sink.new × ((s : State) (b : Begun) → Represents s self.old.bucket →
+            K.failed_between sink.old sink.new × ((s : State) (b : Begun) → Represents s (T.bucket self.old.target) →
             begun ≡ gathered b →
             Puts (out.old.items ++ (counted_turn form s (Some b) line.now).0) (K.held sink.old) (K.held sink.new)) }
         ensures memory { IsErrOf result KvError.OutOfMemory →
@@ -134,14 +118,15 @@ impl Interpreter {
         sink: &mut K,
     ) -> Result<(), KvError>
         ensures same { K.goes_on sink.old sink.new }
-        ensures ok { OnOk result ((s : State) → Represents s self.old.bucket → self.old.batch ≡ None →
+        ensures kept { T.goes_on self.old.target self.new.target }
+        ensures ok { OnOk result ((s : State) → Represents s (T.bucket self.old.target) → self.old.batch ≡ None →
             Pours (counted_turn form s None line.now).0 (K.held sink.old) out.old.items
             (K.held sink.new) out.new.items
-            × Stands (counted_turn form s None line.now).1 self.new) }
+            × Stands (counted_turn form s None line.now).1 (held T.bucket self.new)) }
         ensures write_fault { IsErrOf result KvError.WriteFault →
-            K.failed_between sink.old sink.new × ((s : State) → Represents s self.old.bucket →
+            K.failed_between sink.old sink.new × ((s : State) → Represents s (T.bucket self.old.target) →
             Puts (out.old.items ++ (counted_turn form s None line.now).0) (K.held sink.old) (K.held sink.new)) }
-        ensures memory { IsErrOf result KvError.OutOfMemory → (s : State) → Represents s self.old.bucket →
+        ensures memory { IsErrOf result KvError.OutOfMemory → (s : State) → Represents s (T.bucket self.old.target) →
             PoursFront (counted_turn form s None line.now).0
             (K.held sink.old) out.old.items (K.held sink.new) out.new.items }
         ensures fault { IfErr result IsWriteOrMemory }
@@ -149,7 +134,7 @@ impl Interpreter {
         match parse(alloc, form, line) {
             Ok(command) => match batch_size(&command) {
                 Some(count) => self.go_on(alloc, Batch::new(alloc, count), out, sink),
-                None => pour_command(alloc, form, &mut self.bucket, &command, out, sink),
+                None => pour_command(alloc, form, &mut self.target, &command, out, sink),
             },
             Err(error) => pour_refusal(alloc, error, out, sink),
         }
@@ -166,13 +151,14 @@ impl Interpreter {
         sink: &mut K,
     ) -> Result<(), KvError>
         ensures same { K.goes_on sink.old sink.new }
-        ensures ok { OnOk result ((s : Session) → Stands s self.old →
+        ensures kept { T.goes_on self.old.target self.new.target }
+        ensures ok { OnOk result ((s : Session) → Stands s (held T.bucket self.old) →
             Pours (turn form s line.now).0 (K.held sink.old) out.old.items (K.held sink.new) out.new.items
-            × Stands (turn form s line.now).1 self.new) }
+            × Stands (turn form s line.now).1 (held T.bucket self.new)) }
         ensures write_fault { IsErrOf result KvError.WriteFault →
-            K.failed_between sink.old sink.new × ((s : Session) → Stands s self.old →
+            K.failed_between sink.old sink.new × ((s : Session) → Stands s (held T.bucket self.old) →
             Puts (out.old.items ++ (turn form s line.now).0) (K.held sink.old) (K.held sink.new)) }
-        ensures memory { IsErrOf result KvError.OutOfMemory → (s : Session) → Stands s self.old →
+        ensures memory { IsErrOf result KvError.OutOfMemory → (s : Session) → Stands s (held T.bucket self.old) →
             PoursFront (turn form s line.now).0
             (K.held sink.old) out.old.items (K.held sink.new) out.new.items }
         ensures fault { IfErr result IsWriteOrMemory }
@@ -194,20 +180,23 @@ impl Interpreter {
         sink: &mut K,
     ) -> Result<(), KvError>
         ensures same { K.goes_on sink.old sink.new }
-        ensures ok { OnOk result ((s : Session) → Stands s self.old →
+        ensures kept { T.goes_on self.old.target self.new.target }
+        ensures ok { OnOk result ((s : Session) → Stands s (held T.bucket self.old) →
             Pours (end_text s) (K.held sink.old) out.old.items (K.held sink.new) out.new.items) }
         ensures write_fault { IsErrOf result KvError.WriteFault →
-            K.failed_between sink.old sink.new × ((s : Session) → Stands s self.old →
+            K.failed_between sink.old sink.new × ((s : Session) → Stands s (held T.bucket self.old) →
             Puts (out.old.items ++ end_text s) (K.held sink.old) (K.held sink.new)) }
         ensures memory { IsErrOf result KvError.OutOfMemory →
             Pours [] (K.held sink.old) out.old.items (K.held sink.new) out.new.items }
+        ensures stands { OnOk result ((s : Session) → Stands s (held T.bucket self.old) →
+            Represents s.state (T.bucket self.new.target)) }
         ensures fault { IfErr result IsWriteOrMemory }
     {
         match self.batch.take() {
             Some(begun) => {
                 let mut batch = begun;
                 batch.refuse(KvError::BadCommand);
-                pour_batch(alloc, &mut self.bucket, &batch, out, sink)
+                pour_batch(alloc, &mut self.target, &batch, out, sink)
             }
             None => Ok(()),
         }

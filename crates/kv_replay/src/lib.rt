@@ -16,12 +16,13 @@ mod reads;
 mod refusals;
 mod streams;
 mod takes;
+mod target;
 mod watches;
 mod writes;
 
 pub use answer::{answer_line, answer_line_in};
 pub use bounded_input::{Bounded, BoundedInput};
-pub use engine::{BUFFER_BYTES, new_buffer, run_script};
+pub use engine::{BUFFER_BYTES, Ended, new_buffer, run_on, run_script};
 pub use input::{CountedReader, Input};
 pub use kv_script::Form;
 pub use kv_single::{
@@ -31,3 +32,4 @@ pub use kv_single::{
 pub use lines::KEPT_BYTES;
 pub use output::{CountedWriter, Output};
 pub use streams::{READ_CALLS, replay, replay_bounded, replay_bounded_in, replay_in};
+pub use target::Target;

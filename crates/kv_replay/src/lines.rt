@@ -1,57 +1,50 @@
 //! A script that is being read: the session so far, and the line that has begun.
 
 ghost use Rattle.std.specs.Prelude.{◌≡◌, ◌++◌, [], OnOk, IfErr, IsErrOf};
+ghost use Rattle.kv_single.specs.Held.{Represents};
 ghost use Rattle.kv_replay.specs.Faults.{IsWriteOrMemory};
 ghost use Rattle.kv_replay.specs.inside.Reading.{Reading, after_bytes, closed, ended, grown, line_ended, said, within};
-ghost use Rattle.kv_replay.specs.inside.Scripted.{Holds, Stands};
+ghost use Rattle.kv_replay.specs.inside.Scripted.{Holds, Stands, held, scripted};
 ghost use Rattle.kv_replay.specs.Sessions.{Session, end_text, line_text, line_next};
 ghost use Rattle.kv_replay.specs.inside.Written.{Pours, PoursFront, Puts};
 
 use crate::interpreter::Interpreter;
 use crate::output::Output;
+use crate::target::Target;
 use kv_keys::KvError;
 use kv_script::{Form, without_return};
 use memchr::memchr;
 use std::alloc::{AllocError, Global};
-use std::marker::Model;
 
 /// How many bytes of a line are looked at. A longer one is no command, with or without a carriage return at its end.
 pub const KEPT_BYTES: usize = 1_400_001;
 
 /// A script that is being read.
-pub(crate) struct Script {
-    session: Interpreter,
-    line: Vec<u8>,
+#[derive(Drop)]
+pub(crate) struct Script<T: Target> {
+    pub(crate) session: Interpreter<T>,
+    pub(crate) line: Vec<u8>,
 }
 
-// Field by field: a derived drop makes each proof longer that owns one.
-impl Drop for Script {
-    fn drop(self) {
-        let Self {
-            session: _,
-            line: _,
-        } = self;
-    }
-}
-
-impl Model for Script {
-    ghost use Rattle.kv_replay.specs.inside.Scripted.{Scripted};
-
-    ghost Value = { Scripted };
-
-    ghost view = { λ s. record { session = s.session; line = s.line.items } };
-}
-
-impl Script {
+impl<T: Target> Script<T> {
     /// Before the first line.
-    pub(crate) fn new(alloc: Global, session: Interpreter) -> Script
+    pub(crate) fn new(alloc: Global, session: Interpreter<T>) -> Script<T>
         ensures session { result.session ≡ session }
-        ensures line { result.line ≡ [] }
+        ensures line { result.line.items ≡ [] }
     {
         Script {
             session,
             line: Vec::new(alloc),
         }
+    }
+
+    /// What it ran on.
+    pub(crate) fn into_target(self) -> T
+        ensures { result ≡ self.session.target }
+    {
+        let Script { session, line: _ } = self;
+        let Interpreter { target, batch: _ } = session;
+        target
     }
 
     /// Answers the line that has begun. Its answers wait behind others, and are written where they are many.
@@ -64,15 +57,16 @@ impl Script {
         sink: &mut K,
     ) -> Result<(), KvError>
         ensures same { K.goes_on sink.old sink.new }
-        ensures ok { OnOk result ((r : Reading Session) → Holds r self.old →
+        ensures kept { T.goes_on self.old.session.target self.new.session.target }
+        ensures ok { OnOk result ((r : Reading Session) → Holds r (scripted T.bucket self.old) →
             Pours (ended KEPT_BYTES (line_text form) (line_next form) r)
             (K.held sink.old) out.old.items (K.held sink.new) out.new.items
-            × Holds (line_ended KEPT_BYTES (line_text form) (line_next form) r) self.new) }
+            × Holds (line_ended KEPT_BYTES (line_text form) (line_next form) r) (scripted T.bucket self.new)) }
         ensures write_fault { IsErrOf result KvError.WriteFault →
-            K.failed_between sink.old sink.new × ((r : Reading Session) → Holds r self.old →
+            K.failed_between sink.old sink.new × ((r : Reading Session) → Holds r (scripted T.bucket self.old) →
             Puts (out.old.items ++ ended KEPT_BYTES (line_text form) (line_next form) r) (K.held sink.old)
             (K.held sink.new)) }
-        ensures memory { IsErrOf result KvError.OutOfMemory → (r : Reading Session) → Holds r self.old →
+        ensures memory { IsErrOf result KvError.OutOfMemory → (r : Reading Session) → Holds r (scripted T.bucket self.old) →
             PoursFront (ended KEPT_BYTES (line_text form) (line_next form) r)
             (K.held sink.old) out.old.items (K.held sink.new) out.new.items }
         ensures fault { IfErr result IsWriteOrMemory }
@@ -92,16 +86,19 @@ impl Script {
         sink: &mut K,
     ) -> Result<(), KvError>
         ensures same { K.goes_on sink.old sink.new }
-        ensures ok { OnOk result ((r : Reading Session) → Holds r self.old →
+        ensures kept { T.goes_on self.old.session.target self.new.session.target }
+        ensures ok { OnOk result ((r : Reading Session) → Holds r (scripted T.bucket self.old) →
             Pours (closed KEPT_BYTES (line_text form) (line_next form) end_text r)
             (K.held sink.old) out.old.items (K.held sink.new) out.new.items) }
         ensures write_fault { IsErrOf result KvError.WriteFault →
-            K.failed_between sink.old sink.new × ((r : Reading Session) → Holds r self.old →
+            K.failed_between sink.old sink.new × ((r : Reading Session) → Holds r (scripted T.bucket self.old) →
             Puts (out.old.items ++ closed KEPT_BYTES (line_text form) (line_next form) end_text r) (K.held sink.old)
             (K.held sink.new)) }
-        ensures memory { IsErrOf result KvError.OutOfMemory → (r : Reading Session) → Holds r self.old →
+        ensures memory { IsErrOf result KvError.OutOfMemory → (r : Reading Session) → Holds r (scripted T.bucket self.old) →
             PoursFront (closed KEPT_BYTES (line_text form) (line_next form) end_text r)
             (K.held sink.old) out.old.items (K.held sink.new) out.new.items }
+        ensures stands { OnOk result ((r : Reading Session) → Holds r (scripted T.bucket self.old) →
+            Represents (line_next form r.state r.line).state (T.bucket self.new.session.target)) }
         ensures fault { IfErr result IsWriteOrMemory }
     {
         self.end_line(alloc, form, out, sink)?;
@@ -119,13 +116,14 @@ impl Script {
         sink: &mut K,
     ) -> Result<(), KvError>
         ensures same { K.goes_on sink.old sink.new }
-        ensures ok { OnOk result ((s : Session) → Stands s self.old.session →
+        ensures kept { T.goes_on self.old.session.target self.new.session.target }
+        ensures ok { OnOk result ((s : Session) → Stands s (held T.bucket self.old.session) →
             Pours (line_text form s line.now) (K.held sink.old) out.old.items (K.held sink.new) out.new.items
-            × (Stands (line_next form s line.now) self.new.session × (self.new.line ≡ self.old.line))) }
+            × (Stands (line_next form s line.now) (held T.bucket self.new.session) × (self.new.line.items ≡ self.old.line.items))) }
         ensures write_fault { IsErrOf result KvError.WriteFault →
-            K.failed_between sink.old sink.new × ((s : Session) → Stands s self.old.session →
+            K.failed_between sink.old sink.new × ((s : Session) → Stands s (held T.bucket self.old.session) →
             Puts (out.old.items ++ line_text form s line.now) (K.held sink.old) (K.held sink.new)) }
-        ensures memory { IsErrOf result KvError.OutOfMemory → (s : Session) → Stands s self.old.session →
+        ensures memory { IsErrOf result KvError.OutOfMemory → (s : Session) → Stands s (held T.bucket self.old.session) →
             PoursFront (line_text form s line.now)
             (K.held sink.old) out.old.items (K.held sink.new) out.new.items }
         ensures fault { IfErr result IsWriteOrMemory }
@@ -136,7 +134,9 @@ impl Script {
 
     /// Takes bytes of the line that has begun. No more are kept than show that it is too long.
     fn take_part(&mut self, part: &[u8]) -> Result<(), AllocError>
-        ensures { OnOk result (self.new ≡ record self.old { line = grown KEPT_BYTES self.old.line part.now }) }
+        ensures line { OnOk result (scripted T.bucket self.new
+            ≡ record (scripted T.bucket self.old) { line = grown KEPT_BYTES self.old.line.items part.now }) }
+        ensures session { self.new.session ≡ self.old.session }
     {
         let room = (KEPT_BYTES + 1).saturating_sub(self.line.len());
         if part.len() <= room {
@@ -156,15 +156,16 @@ impl Script {
         sink: &mut K,
     ) -> Result<(), KvError>
         ensures same { K.goes_on sink.old sink.new }
-        ensures ok { OnOk result ((r : Reading Session) → Holds r self.old →
+        ensures kept { T.goes_on self.old.session.target self.new.session.target }
+        ensures ok { OnOk result ((r : Reading Session) → Holds r (scripted T.bucket self.old) →
             Pours (ended KEPT_BYTES (line_text form) (line_next form) (within KEPT_BYTES r rest.now))
             (K.held sink.old) out.old.items (K.held sink.new) out.new.items
-            × Holds (line_ended KEPT_BYTES (line_text form) (line_next form) (within KEPT_BYTES r rest.now)) self.new) }
+            × Holds (line_ended KEPT_BYTES (line_text form) (line_next form) (within KEPT_BYTES r rest.now)) (scripted T.bucket self.new)) }
         ensures write_fault { IsErrOf result KvError.WriteFault →
-            K.failed_between sink.old sink.new × ((r : Reading Session) → Holds r self.old →
+            K.failed_between sink.old sink.new × ((r : Reading Session) → Holds r (scripted T.bucket self.old) →
             Puts (out.old.items ++ ended KEPT_BYTES (line_text form) (line_next form) (within KEPT_BYTES r rest.now))
             (K.held sink.old) (K.held sink.new)) }
-        ensures memory { IsErrOf result KvError.OutOfMemory → (r : Reading Session) → Holds r self.old →
+        ensures memory { IsErrOf result KvError.OutOfMemory → (r : Reading Session) → Holds r (scripted T.bucket self.old) →
             PoursFront (ended KEPT_BYTES (line_text form) (line_next form) (within KEPT_BYTES r rest.now))
             (K.held sink.old) out.old.items (K.held sink.new) out.new.items }
         ensures fault { IfErr result IsWriteOrMemory }
@@ -186,15 +187,16 @@ impl Script {
         sink: &mut K,
     ) -> Result<(), KvError>
         ensures same { K.goes_on sink.old sink.new }
-        ensures ok { OnOk result ((r : Reading Session) → Holds r self.old →
+        ensures kept { T.goes_on self.old.session.target self.new.session.target }
+        ensures ok { OnOk result ((r : Reading Session) → Holds r (scripted T.bucket self.old) →
             Pours (said KEPT_BYTES (line_text form) (line_next form) r bytes.now)
             (K.held sink.old) out.old.items (K.held sink.new) out.new.items
-            × Holds (after_bytes KEPT_BYTES (line_text form) (line_next form) r bytes.now) self.new) }
+            × Holds (after_bytes KEPT_BYTES (line_text form) (line_next form) r bytes.now) (scripted T.bucket self.new)) }
         ensures write_fault { IsErrOf result KvError.WriteFault →
-            K.failed_between sink.old sink.new × ((r : Reading Session) → Holds r self.old →
+            K.failed_between sink.old sink.new × ((r : Reading Session) → Holds r (scripted T.bucket self.old) →
             Puts (out.old.items ++ said KEPT_BYTES (line_text form) (line_next form) r bytes.now)
             (K.held sink.old) (K.held sink.new)) }
-        ensures memory { IsErrOf result KvError.OutOfMemory → (r : Reading Session) → Holds r self.old →
+        ensures memory { IsErrOf result KvError.OutOfMemory → (r : Reading Session) → Holds r (scripted T.bucket self.old) →
             PoursFront (said KEPT_BYTES (line_text form) (line_next form) r bytes.now)
             (K.held sink.old) out.old.items (K.held sink.new) out.new.items }
         ensures fault { IfErr result IsWriteOrMemory }

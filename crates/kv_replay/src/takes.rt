@@ -16,6 +16,7 @@ ghost use Rattle.kv_replay.specs.inside.Written.{Pours, PoursFront, Puts};
 
 use crate::output::Output;
 use crate::pouring::pour_many;
+use crate::target::Target;
 use kv_keys::KvError;
 use kv_script::{Form, append_empty, append_marker, append_refusal, append_taken_entry};
 use kv_single::{Bucket, Event};
@@ -55,22 +56,23 @@ pub(crate) fn append_taken(
 
 /// Shows what a take would hand out, and then makes it, so that nothing is taken that can't be shown. It tells whether
 /// an item was handed out.
-fn answer_take(
+fn answer_take<T: Target>(
     alloc: Global,
     form: Form,
-    bucket: &mut Bucket,
+    target: &mut T,
     watch: u64,
     out: &mut Vec<u8>,
 ) -> Result<bool, KvError>
-    ensures ok { IfOk result (λ goes_on. (state : State) → Represents state bucket.old →
+    ensures kept { T.goes_on target.old target.new }
+    ensures ok { IfOk result (λ goes_on. (state : State) → Represents state (T.bucket target.old) →
         (goes_on ≡ hands_out (answer_to state (Take watch)))
         × ((out.new.items ≡ out.old.items ++ taken_text form watch (answer_to state (Take watch)))
-        × Represents (after state (Take watch)) bucket.new)) }
-    ensures err { OnErr result ((out.new.items ≡ out.old.items) × (bucket.new ≡ bucket.old)) }
+        × Represents (after state (Take watch)) (T.bucket target.new))) }
+    ensures err { OnErr result ((out.new.items ≡ out.old.items) × ((T.bucket target.new) ≡ (T.bucket target.old))) }
     ensures memory { IfErr result (λ e. e ≡ OutOfMemory) }
 {
-    let shown = show_taken(alloc, form, bucket, watch, out)?;
-    bucket.pass(watch);
+    let shown = show_taken(alloc, form, target.as_bucket(), watch, out)?;
+    target.pass(watch);
     Ok(shown.is_some())
 }
 
@@ -101,22 +103,23 @@ fn show_taken(
 }
 
 /// Makes so many takes, up to the first that hands out no item. None is made that is not shown.
-pub(crate) fn answer_takes(
+pub(crate) fn answer_takes<T: Target>(
     alloc: Global,
     form: Form,
-    bucket: &mut Bucket,
+    target: &mut T,
     watch: u64,
     count: u64,
     out: &mut Vec<u8>,
 ) -> Result<(), KvError>
-    ensures ok { OnOk result ((state : State) → Represents state bucket.old →
-        Does state (takes form watch count state) out.old.items out.new.items bucket.new) }
-    ensures err { OnErr result ((state : State) → Represents state bucket.old →
-        EndsBetween state (takes form watch count state) out.old.items out.new.items bucket.new) }
+    ensures kept { T.goes_on target.old target.new }
+    ensures ok { OnOk result ((state : State) → Represents state (T.bucket target.old) →
+        Does state (takes form watch count state) out.old.items out.new.items (T.bucket target.new)) }
+    ensures err { OnErr result ((state : State) → Represents state (T.bucket target.old) →
+        EndsBetween state (takes form watch count state) out.old.items out.new.items (T.bucket target.new)) }
     ensures memory { IfErr result (λ e. e ≡ OutOfMemory) }
 {
     for _ in 0..count {
-        if !answer_take(alloc, form, bucket, watch, out)? {
+        if !answer_take(alloc, form, target, watch, out)? {
             return Ok(());
         }
     }
@@ -125,30 +128,31 @@ pub(crate) fn answer_takes(
 
 /// Makes so many takes, up to the first that hands out no item. The answers wait behind others, and are written where
 /// they are many.
-pub(crate) fn pour_takes<K: Output>(
+pub(crate) fn pour_takes<T: Target, K: Output>(
     alloc: Global,
     form: Form,
-    bucket: &mut Bucket,
+    target: &mut T,
     watch: u64,
     count: u64,
     out: &mut Vec<u8>,
     sink: &mut K,
 ) -> Result<(), KvError>
+    ensures kept { T.goes_on target.old target.new }
     ensures same { K.goes_on sink.old sink.new }
-    ensures ok { OnOk result ((state : State) → Represents state bucket.old →
+    ensures ok { OnOk result ((state : State) → Represents state (T.bucket target.old) →
         Pours (steps_text (takes form watch count state)) (K.held sink.old) out.old.items
         (K.held sink.new) out.new.items
-        × Represents (steps_next state (takes form watch count state)) bucket.new) }
+        × Represents (steps_next state (takes form watch count state)) (T.bucket target.new)) }
     ensures write_fault { IsErrOf result KvError.WriteFault →
-        K.failed_between sink.old sink.new × ((state : State) → Represents state bucket.old →
+        K.failed_between sink.old sink.new × ((state : State) → Represents state (T.bucket target.old) →
         Puts (out.old.items ++ steps_text (takes form watch count state)) (K.held sink.old) (K.held sink.new)) }
-    ensures memory { IsErrOf result KvError.OutOfMemory → (state : State) → Represents state bucket.old →
+    ensures memory { IsErrOf result KvError.OutOfMemory → (state : State) → Represents state (T.bucket target.old) →
         PoursFront (steps_text (takes form watch count state)) (K.held sink.old) out.old.items
         (K.held sink.new) out.new.items }
     ensures fault { IfErr result IsWriteOrMemory }
 {
     for _ in 0..count {
-        let goes_on = answer_take(alloc, form, bucket, watch, out)?;
+        let goes_on = answer_take(alloc, form, target, watch, out)?;
         pour_many(out, sink)?;
         if !goes_on {
             return Ok(());

@@ -7,29 +7,30 @@ ghost use Rattle.kv_model.specs.declared.call.Call.TheVariants.{Watch, Stop};
 ghost use Rattle.kv_keys.specs.declared.error.KvError.TheVariants.{OutOfMemory};
 ghost use Rattle.kv_script.specs.Answered.{answer_text, ended_text};
 
+use crate::target::Target;
 use kv_keys::{Filters, KvError};
 use kv_model::Options;
 use kv_script::{Form, append_refusal, append_stopped, append_watch};
-use kv_single::Bucket;
 use std::alloc::Global;
 
 /// Opens a watch. After want of memory nothing was appended, and the watch was opened or not.
-pub(crate) fn answer_watch(
+pub(crate) fn answer_watch<T: Target>(
     alloc: Global,
-    bucket: &mut Bucket,
+    target: &mut T,
     filters: &Filters,
     options: Options,
     out: &mut Vec<u8>,
 ) -> Result<(), KvError>
-    ensures ok { OnOk result ((form : Form) (state : State) → Represents state bucket.old →
+    ensures kept { T.goes_on target.old target.new }
+    ensures ok { OnOk result ((form : Form) (state : State) → Represents state (T.bucket target.old) →
         (out.new.items ≡ out.old.items ++ answer_text form state.config.bucket
         (answer_to state (Watch filters.now options)))
-        × Represents (after state (Watch filters.now options)) bucket.new) }
-    ensures err { OnErr result ((out.new.items ≡ out.old.items) × ((state : State) → Represents state bucket.old →
-        Represents state bucket.new ⊎ Represents (after state (Watch filters.now options)) bucket.new)) }
+        × Represents (after state (Watch filters.now options)) (T.bucket target.new)) }
+    ensures err { OnErr result ((out.new.items ≡ out.old.items) × ((state : State) → Represents state (T.bucket target.old) →
+        Represents state (T.bucket target.new) ⊎ Represents (after state (Watch filters.now options)) (T.bucket target.new))) }
     ensures memory { IfErr result (λ e. e ≡ OutOfMemory) }
 {
-    match bucket.watch(filters, options) {
+    match target.watch(filters, options) {
         Ok(number) => {
             append_watch(alloc, out, number)?;
             Ok(())
@@ -43,20 +44,21 @@ pub(crate) fn answer_watch(
 }
 
 /// Stops a watch. After want of memory nothing was appended, and the watch was stopped or not.
-pub(crate) fn answer_stop(
+pub(crate) fn answer_stop<T: Target>(
     alloc: Global,
-    bucket: &mut Bucket,
+    target: &mut T,
     watch: u64,
     out: &mut Vec<u8>,
 ) -> Result<(), KvError>
-    ensures ok { OnOk result ((state : State) → Represents state bucket.old →
+    ensures kept { T.goes_on target.old target.new }
+    ensures ok { OnOk result ((state : State) → Represents state (T.bucket target.old) →
         (out.new.items ≡ out.old.items ++ ended_text watch (answer_to state (Stop watch)))
-        × Represents (after state (Stop watch)) bucket.new) }
-    ensures err { OnErr result ((out.new.items ≡ out.old.items) × ((state : State) → Represents state bucket.old →
-        Represents state bucket.new ⊎ Represents (after state (Stop watch)) bucket.new)) }
+        × Represents (after state (Stop watch)) (T.bucket target.new)) }
+    ensures err { OnErr result ((out.new.items ≡ out.old.items) × ((state : State) → Represents state (T.bucket target.old) →
+        Represents state (T.bucket target.new) ⊎ Represents (after state (Stop watch)) (T.bucket target.new))) }
     ensures memory { IfErr result (λ e. e ≡ OutOfMemory) }
 {
-    match bucket.stop(watch) {
+    match target.stop(watch) {
         Ok(stopped) => {
             append_stopped(alloc, out, watch, stopped.handed)?;
             Ok(())

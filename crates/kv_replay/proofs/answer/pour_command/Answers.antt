@@ -13,6 +13,7 @@ returns-in_err-answer_command g c =
     let ends = c.from_residual in
     let memory = lacking ends.result _ ends.ensures.0 ends.ensures.1 c.in_err-answer_command.ensures.memory in
     record {
+      kept = c.in_err-answer_command.ensures.kept;
       same = g.met.K.Output.goes_on_itself _;
       ok = lacking-ok _ ends.result memory;
       write_fault = λ fault. lacking-write ends.result memory fault;
@@ -24,6 +25,7 @@ returns-in_err-answer_command g c =
 
 pub returns : goal.returns
 returns g c = record {
+  kept = c.in_ok-answer_command.ensures.kept;
   same = c.pour_many.ensures.same;
   ok = on_ok_weaker c.pour_many.result (λ pours state stands.
       let does = c.in_ok-answer_command.ensures.ok state stands in

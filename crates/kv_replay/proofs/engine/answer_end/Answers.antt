@@ -37,3 +37,6 @@ returns-in-Err-OutOfMemory-clause-same g c =
 
 pub returns-in-Ok-clause-same : goal.returns-in-Ok-clause-same
 returns-in-Ok-clause-same g c = g.met.K.Output.goes_on_later _ _ _ c.in-Ok.ensures.same c.write.ensures.same
+
+pub returns-in-Ok-clause-stands : goal.returns-in-Ok-clause-stands
+returns-in-Ok-clause-stands g c = on_ok_weaker c.write.result (λ wrote. c.in-Ok.ensures.stands) c.write.ensures.ok

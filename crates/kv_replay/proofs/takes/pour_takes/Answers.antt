@@ -5,6 +5,7 @@ use Rattle.kv_replay.proofs.takes.pour_takes.Goals as goal
 pub loop-init : goal.loop-init
 loop-init g c = record {
   same = g.met.K.Output.goes_on_itself _;
+  kept = g.met.T.Target.goes_on_itself _;
   poured = λ state stands. poured_none state _ _ _ _ _ stands;
 }
 
@@ -26,6 +27,7 @@ returns-then-not-goes_on-clause-ok g c = λ state stands.
 pub loop-preserved : goal.loop-preserved
 loop-preserved g c = record {
   same = g.met.K.Output.goes_on_later _ _ _ c.loop.invariant.same c.in_ok-pour_many.ensures.same;
+  kept = g.met.T.Target.goes_on_later _ _ _ c.loop.invariant.kept c.in_ok-goes_on.ensures.kept;
   poured = λ state stands.
       let so_far = c.loop.invariant.poured state stands in
       let took = c.in_ok-goes_on.ensures.ok so_far.took.current so_far.took.stands in
@@ -52,3 +54,18 @@ returns-then-not-goes_on-clause-same g c =
 
 pub returns-clause-same : goal.returns-clause-same
 returns-clause-same g c = c.loop.invariant.same
+
+pub returns-in_err-goes_on-clause-kept : goal.returns-in_err-goes_on-clause-kept
+returns-in_err-goes_on-clause-kept g c =
+    g.met.T.Target.goes_on_later _ _ _ c.loop.invariant.kept c.in_err-goes_on.ensures.kept
+
+pub returns-in_err-pour_many-clause-kept : goal.returns-in_err-pour_many-clause-kept
+returns-in_err-pour_many-clause-kept g c =
+    g.met.T.Target.goes_on_later _ _ _ c.loop.invariant.kept c.in_ok-goes_on.ensures.kept
+
+pub returns-then-not-goes_on-clause-kept : goal.returns-then-not-goes_on-clause-kept
+returns-then-not-goes_on-clause-kept g c =
+    g.met.T.Target.goes_on_later _ _ _ c.loop.invariant.kept c.in_ok-goes_on.ensures.kept
+
+pub returns-clause-kept : goal.returns-clause-kept
+returns-clause-kept g c = c.loop.invariant.kept

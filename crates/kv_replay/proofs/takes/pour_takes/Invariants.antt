@@ -7,6 +7,7 @@ use Rattle.kv_replay.proofs.takes.pour_takes.Given as goal
 abbrev pub invariant-loop : goal.invariant-loop
 invariant-loop g l = record {
   same : g.K.Output.goes_on l.initial.sink l.sink;
-  poured : (state : State) → Represents state l.initial.bucket
-      → Poured l.form state l.watch l.count l.counter (g.K.Output.held l.initial.sink) l.initial.out.items (g.K.Output.held l.sink) l.out.items l.bucket;
+  kept : g.T.Target.goes_on l.initial.target l.target;
+  poured : (state : State) → Represents state (g.T.Target.bucket l.initial.target)
+      → Poured l.form state l.watch l.count l.counter (g.K.Output.held l.initial.sink) l.initial.out.items (g.K.Output.held l.sink) l.out.items (g.T.Target.bucket l.target);
 }

@@ -5,6 +5,7 @@ use Rattle.kv_replay.proofs.lines.Script.take_bytes.Goals as goal
 pub lines-init : goal.lines-init
 lines-init g c = record {
   same = g.met.K.Output.goes_on_itself _;
+  kept = g.met.T.Target.goes_on_itself _;
   took = λ r holding. took_none r _ _ _ _ holding;
   shorter = omega arith;
 }
@@ -14,6 +15,7 @@ lines-preserved g c =
     let line = first_line c.lines.left.now c.in-Some.at c.in-Some.ensures in
     record {
       same = g.met.K.Output.goes_on_later _ _ _ c.lines.invariant.same c.in_ok-take_line.ensures.same;
+      kept = g.met.T.Target.goes_on_later _ _ _ c.lines.invariant.kept c.in_ok-take_line.ensures.kept;
       took = λ r holding.
           let so_far = c.lines.invariant.took r holding in
           took_line r _ _ _ _ _ _ _ _ _ so_far line _ _ _ (c.in_ok-take_line.ensures.ok so_far.reading so_far.holds) _ (rest_is c.lines.left.now (c.in-Some.at + 1));
@@ -28,7 +30,7 @@ overflow_add-left g c =
 
 pub returns-in_default-clause-ok : goal.returns-in_default-clause-ok
 returns-in_default-clause-ok g c = λ r holding.
-    took_all r _ _ _ _ _ _ _ (c.lines.invariant.took r holding) (no_line c.lines.left.now c.in_default.ensures) _ c.in_ok-take_part.ensures
+    took_all r _ _ _ _ _ _ _ (c.lines.invariant.took r holding) (no_line c.lines.left.now c.in_default.ensures) _ c.in_ok-take_part.ensures.line
 
 pub returns-in_err-take_line-clause-write_fault : goal.returns-in_err-take_line-clause-write_fault
 returns-in_err-take_line-clause-write_fault g c = λ fault.
@@ -45,3 +47,7 @@ returns-in_err-take_line-clause-memory g c = λ fault r holding.
     let line = first_line c.lines.left.now c.in-Some.at c.in-Some.ensures in
     let so_far = c.lines.invariant.took r holding in
     took_part r _ _ _ _ _ _ _ _ _ so_far line _ _ (c.in_err-take_line.ensures.memory (search rules) so_far.reading so_far.holds)
+
+pub returns-in_err-take_line-clause-kept : goal.returns-in_err-take_line-clause-kept
+returns-in_err-take_line-clause-kept g c =
+    g.met.T.Target.goes_on_later _ _ _ c.lines.invariant.kept c.in_err-take_line.ensures.kept
