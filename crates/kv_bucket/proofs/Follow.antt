@@ -21,57 +21,57 @@ take_push : (xs : List Item) (n : ℕ) (x : Item) → slice_get xs n ≡ Some x 
 take_push xs n x at =
     take_more xs n x (slice_get_within xs n x at) ∙ ap (λ y. take n xs ++ y ∷ []) (get_or_from_slice_get xs n x x at)
 
-went_on : (h : ℕ) (before after : Feeding) (items : List Item) → WentOn before after → HandsOut h before items → HandsOut h after items
-went_on h before after items step hands =
+went_on : (before after : Feeding) (items : List Item) → WentOn before after → HandsOut before items → HandsOut after items
+went_on before after items step hands =
     let to : Feeding = record before { reader = after.reader; acts = after.acts } in
-    let more = still_first before.handed items (given_by h before) (given_by h to)
-    (given_goes_on h before.began before.acts after.acts before.filters before.options hands.prefix step.grows) hands.within hands.first in
-    let there : HandsOut h to items = record {
+    let more = still_first before.handed items (given_by before) (given_by to)
+    (given_goes_on before.config.history before.began before.acts after.acts before.filters before.options hands.prefix step.grows) hands.within hands.first in
+    let there : HandsOut to items = record {
       prefix = prefix_trans before.began before.acts after.acts hands.prefix step.grows;
       within = more.0;
       first = more.1;
     } in
-    subst (λ (f : Feeding). HandsOut h f items) (sym step.same) there
+    subst (λ (f : Feeding). HandsOut f items) (sym step.same) there
 
-refreshed : (h : ℕ) (before after : Feeding) (items : List Item) → IsRefreshed before after → HandsOut h before items → HandsOut h after items
-refreshed h before after items step hands = went_on h before after items (went_by_refresh before after step) hands
+refreshed : (before after : Feeding) (items : List Item) → IsRefreshed before after → HandsOut before items → HandsOut after items
+refreshed before after items step hands = went_on before after items (went_by_refresh before after step) hands
 
 -- another reader changes nothing of what was handed out
-with_reader : (h : ℕ) (before after : Feeding) (items : List Item) → after ≡ record before { reader = after.reader } → HandsOut h before items → HandsOut h after items
-with_reader h before after items same hands =
-    let there : HandsOut h (record before { reader = after.reader }) items = record { prefix = hands.prefix; within = hands.within; first = hands.first } in
-    subst (λ (f : Feeding). HandsOut h f items) (sym same) there
+with_reader : (before after : Feeding) (items : List Item) → after ≡ record before { reader = after.reader } → HandsOut before items → HandsOut after items
+with_reader before after items same hands =
+    let there : HandsOut (record before { reader = after.reader }) items = record { prefix = hands.prefix; within = hands.within; first = hands.first } in
+    subst (λ (f : Feeding). HandsOut f items) (sym same) there
 
-taken : (h : ℕ) (before : Feeding) (items : List Item) (item : Option Item) → item ≡ next_of h before → HandsOut h before items → HandsOut h (after_item before item) (items ++ option_to_list item)
-taken h before items None is hands = subst (λ (xs : List Item). HandsOut h before xs) (sym (append-nil items)) hands
-taken h before items (Some x) is hands =
-    let at : slice_get (given_by h before) before.handed ≡ Some x = sym is in
-    let inside = slice_get_within (given_by h before) before.handed x at in record {
+taken : (before : Feeding) (items : List Item) (item : Option Item) → item ≡ next_of before → HandsOut before items → HandsOut (after_item before item) (items ++ option_to_list item)
+taken before items None is hands = subst (λ (xs : List Item). HandsOut before xs) (sym (append-nil items)) hands
+taken before items (Some x) is hands =
+    let at : slice_get (given_by before) before.handed ≡ Some x = sym is in
+    let inside = slice_get_within (given_by before) before.handed x at in record {
       prefix = hands.prefix;
       within = omega arith;
-      first = ap (λ xs. xs ++ x ∷ []) hands.first ∙ sym (take_push (given_by h before) before.handed x at);
+      first = ap (λ xs. xs ++ x ∷ []) hands.first ∙ sym (take_push (given_by before) before.handed x at);
     }
 
-nothing_more : (h : ℕ) (feed : Feeding) (items : List Item) (item : Option Item) → item ≡ None → HandsOut h feed items → HandsOut h feed (items ++ option_to_list item)
-nothing_more h feed items item none hands =
-    subst (λ (i : Option Item). HandsOut h feed (items ++ option_to_list i)) (sym none) (subst (λ (xs : List Item). HandsOut h feed xs) (sym (append-nil items)) hands)
+nothing_more : (feed : Feeding) (items : List Item) (item : Option Item) → item ≡ None → HandsOut feed items → HandsOut feed (items ++ option_to_list item)
+nothing_more feed items item none hands =
+    subst (λ (i : Option Item). HandsOut feed (items ++ option_to_list i)) (sym none) (subst (λ (xs : List Item). HandsOut feed xs) (sym (append-nil items)) hands)
 
-one_step : (h : ℕ) (before after : Feeding) (items : List Item) (item : Option Item) → IsStep h before item after → HandsOut h before items → HandsOut h after (items ++ option_to_list item)
-one_step h before after items item step hands =
-    let Goal : Type 0 = HandsOut h after (items ++ option_to_list item) in
+one_step : (before after : Feeding) (items : List Item) (item : Option Item) → IsStep before item after → HandsOut before items → HandsOut after (items ++ option_to_list item)
+one_step before after items item step hands =
+    let Goal : Type 0 = HandsOut after (items ++ option_to_list item) in
     let Passed : Type 0 = (item ≡ None) × WentOn before after in
-    let Next : Type 0 = HandsNext h before item after in
-    let Taken : Type 0 = (item ≡ next_of h before) × (after ≡ after_item before item) in
+    let Next : Type 0 = HandsNext before item after in
+    let Taken : Type 0 = (item ≡ next_of before) × (after ≡ after_item before item) in
     let Learned : Type 0 = (item ≡ None) × ((told : List Act) × HasLearned told before after) in
     let Refused : Type 0 = (item ≡ None) × IsNotRefreshed before after in
     let Refreshed : Type 0 = (item ≡ None) × IsRefreshed before after in
-    let by_passed : Passed → Goal = λ s. nothing_more h after items item s.0 (went_on h before after items s.1 hands) in
+    let by_passed : Passed → Goal = λ s. nothing_more after items item s.0 (went_on before after items s.1 hands) in
     let by_next : Next → Goal = λ s.
-    subst (λ (f : Feeding). HandsOut h f (items ++ option_to_list item)) (sym s.counts) (taken h s.went items item s.value (went_on h before s.went items s.goes hands)) in
-    let by_taken : Taken → Goal = λ s. subst (λ (f : Feeding). HandsOut h f (items ++ option_to_list item)) (sym s.1) (taken h before items item s.0 hands) in
-    let by_learned : Learned → Goal = λ s. nothing_more h after items item s.0 (with_reader h before after items s.1.1.same hands) in
-    let by_refused : Refused → Goal = λ s. nothing_more h after items item s.0 (with_reader h before after items s.1.same hands) in
-    let by_refreshed : Refreshed → Goal = λ s. nothing_more h after items item s.0 (refreshed h before after items s.1 hands) in
+    subst (λ (f : Feeding). HandsOut f (items ++ option_to_list item)) (sym s.counts) (taken s.went items item s.value (went_on before s.went items s.goes hands)) in
+    let by_taken : Taken → Goal = λ s. subst (λ (f : Feeding). HandsOut f (items ++ option_to_list item)) (sym s.1) (taken before items item s.0 hands) in
+    let by_learned : Learned → Goal = λ s. nothing_more after items item s.0 (with_reader before after items s.1.1.same hands) in
+    let by_refused : Refused → Goal = λ s. nothing_more after items item s.0 (with_reader before after items s.1.same hands) in
+    let by_refreshed : Refreshed → Goal = λ s. nothing_more after items item s.0 (refreshed before after items s.1 hands) in
     let by_waited : Next ⊎ Passed → Goal = ⊎_elim by_next by_passed in
     let by_handed : Taken ⊎ (Next ⊎ Passed) → Goal = ⊎_elim by_taken by_waited in
     let by_stayed : Learned ⊎ (Taken ⊎ (Next ⊎ Passed)) → Goal = ⊎_elim by_learned by_handed in
@@ -81,21 +81,21 @@ items_of_first : (item : Option Item) (after : Feeding) (steps : List Step) → 
 items_of_first None after steps = refl
 items_of_first (Some x) after steps = refl
 
-run_from : (h : ℕ) (feed : Feeding) (steps : List Step) (items : List Item) → IsRun h feed steps → HandsOut h feed items → HandsOut h (last_of feed steps) (items ++ items_of steps)
-run_from h feed [] items run hands = subst (λ (xs : List Item). HandsOut h feed xs) (sym (append-nil items)) hands
-run_from h feed (step ∷ steps) items run hands =
-    let rest = run_from h step.after steps (items ++ option_to_list step.item) run.1 (one_step h feed step.after items step.item run.0 hands) in
-    subst (λ (xs : List Item). HandsOut h (last_of step.after steps) xs) (joined items step.item (items_of steps) ∙ ap (λ xs. items ++ xs) (items_of_first step.item step.after steps)) rest
+run_from : (feed : Feeding) (steps : List Step) (items : List Item) → IsRun feed steps → HandsOut feed items → HandsOut (last_of feed steps) (items ++ items_of steps)
+run_from feed [] items run hands = subst (λ (xs : List Item). HandsOut feed xs) (sym (append-nil items)) hands
+run_from feed (step ∷ steps) items run hands =
+    let rest = run_from step.after steps (items ++ option_to_list step.item) run.1 (one_step feed step.after items step.item run.0 hands) in
+    subst (λ (xs : List Item). HandsOut (last_of step.after steps) xs) (joined items step.item (items_of steps) ∙ ap (λ xs. items ++ xs) (items_of_first step.item step.after steps)) rest
   where
     joined : (items : List Item) (item : Option Item) (more : List Item) → (items ++ option_to_list item) ++ more ≡ items ++ (option_to_list item ++ more)
     joined items item more = append_assoc items (option_to_list item) more
 
 -- calls on a feed that has handed out nothing
-pub run_hands_out : (h : ℕ) (feed : Feeding) (steps : List Step) → IsPrefix feed.began feed.acts → feed.handed ≡ 0 → IsRun h feed steps → HandsOut h (last_of feed steps) (items_of steps)
-run_hands_out h feed steps prefix none run =
-    let begun : HandsOut h feed [] = record {
+pub run_hands_out : (feed : Feeding) (steps : List Step) → IsPrefix feed.began feed.acts → feed.handed ≡ 0 → IsRun feed steps → HandsOut (last_of feed steps) (items_of steps)
+run_hands_out feed steps prefix none run =
+    let begun : HandsOut feed [] = record {
       prefix = prefix;
       within = omega arith;
       first = rw none refl;
     } in
-    run_from h feed steps [] run begun
+    run_from feed steps [] run begun

@@ -152,9 +152,9 @@ module _ (h : ℕ) (began acts : List Act) (filters : List (List ℕ)) (options 
       ∙ (ap (λ (items : List Item). items ++ items_of_revision w.revision lively) (ending_none w.revision options.start) ∙ live_once one none p is)))
 
 -- where a feed has handed out all that it is given, what it handed out has the write once
-pub all_has_once : (config : Configuration) (feed : Feeding) (told : List Act) (w : Write) → IsLawful config feed.acts → IsPrefix feed.began feed.acts → feed.handed ≡ length (given_by config.history feed) → Owes feed told w
-    → HasOnce feed w (take feed.handed (given_by config.history feed))
+pub all_has_once : (config : Configuration) (feed : Feeding) (told : List Act) (w : Write) → IsLawful config feed.acts → IsPrefix feed.began feed.acts → feed.handed ≡ length (given_by feed) → Owes feed told w
+    → HasOnce feed w (take feed.handed (given_by feed))
 all_has_once config feed told w lawful prefix all owes =
-    let given_all = given_by config.history feed in
+    let given_all = given_by feed in
     ap (items_of_revision w.revision) (ap (λ (n : ℕ). take n given_all) all ∙ take_all (length given_all) given_all (omega arith))
-    ∙ given_once config.history feed.began feed.acts feed.filters feed.options w (counts_from_lawful config feed.acts lawful) prefix told owes.reached owes.live owes.shown
+    ∙ given_once feed.config.history feed.began feed.acts feed.filters feed.options w (counts_from_lawful config feed.acts lawful) prefix told owes.reached owes.live owes.shown

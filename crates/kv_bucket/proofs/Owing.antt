@@ -1,8 +1,7 @@
 -- What a feed learned is reached, and handed out.
-use Rattle.std.proofs.Common.{◌≡◌, ℕ, ◌⊎◌, ⊎_elim, List, [], ◌∷◌, Option, None, Some, length, ◌<◌, sym, ap, subst, arith}
+use Rattle.std.proofs.Common.{◌≡◌, ◌⊎◌, ⊎_elim, List, [], ◌∷◌, Option, None, Some, length, ◌<◌, sym, ap, subst, arith}
 use Rattle.kv_model.specs.Acceptance.{IsLawful}
 use Rattle.kv_model.specs.Acts.{Act, Write, IsPrefix}
-use Rattle.kv_model.specs.Configuration.{Configuration}
 use Rattle.kv_model.specs.Given.{Item}
 use Rattle.kv_bucket.specs.Feeding.{Feeding, given_by, next_of, IsRefreshed, IsNotRefreshed, HasLearned, WentOn, HandsNext, HasGoneOn, after_item, IsStep, Step, IsRun, last_of, items_of}
 use Rattle.kv_bucket.specs.Owed.{Owes, HasOnce}
@@ -28,11 +27,11 @@ after_grown before (Some item) = (prefix_self before.reader.told, prefix_self be
 went_grown : (before after : Feeding) → WentOn before after → HasGrown before after
 went_grown before after step = (subst (λ (xs : List Act). IsPrefix before.reader.told xs) (sym step.reader.1) (prefix_self before.reader.told), step.grows)
 
-step_grown : (h : ℕ) (before after : Feeding) (item : Option Item) → IsStep h before item after → HasGrown before after
-step_grown h before after item step =
+step_grown : (before after : Feeding) (item : Option Item) → IsStep before item after → HasGrown before after
+step_grown before after item step =
     let Passed : Type 0 = (item ≡ None) × WentOn before after in
-    let Next : Type 0 = HandsNext h before item after in
-    let Taken : Type 0 = (item ≡ next_of h before) × (after ≡ after_item before item) in
+    let Next : Type 0 = HandsNext before item after in
+    let Taken : Type 0 = (item ≡ next_of before) × (after ≡ after_item before item) in
     let Learned : Type 0 = (item ≡ None) × ((told : List Act) × HasLearned told before after) in
     let Refused : Type 0 = (item ≡ None) × IsNotRefreshed before after in
     let Refreshed : Type 0 = (item ≡ None) × IsRefreshed before after in
@@ -56,11 +55,11 @@ step_grown h before after item step =
     let by_stayed : Learned ⊎ (Taken ⊎ (Next ⊎ Passed)) → Goal = ⊎_elim by_learned by_handed in
     ⊎_elim by_refreshed (⊎_elim by_refused by_stayed) step
 
-run_grown : (h : ℕ) (feed : Feeding) (steps : List Step) → IsRun h feed steps → HasGrown feed (last_of feed steps)
-run_grown h feed [] run = (prefix_self feed.reader.told, prefix_self feed.acts)
-run_grown h feed (step ∷ steps) run =
-    let first = step_grown h feed step.after step.item run.0 in
-    let rest = run_grown h step.after steps run.1 in (
+run_grown : (feed : Feeding) (steps : List Step) → IsRun feed steps → HasGrown feed (last_of feed steps)
+run_grown feed [] run = (prefix_self feed.reader.told, prefix_self feed.acts)
+run_grown feed (step ∷ steps) run =
+    let first = step_grown feed step.after step.item run.0 in
+    let rest = run_grown step.after steps run.1 in (
       prefix_trans feed.reader.told step.after.reader.told (last_of step.after steps).reader.told first.0 rest.0,
       prefix_trans feed.acts step.after.acts (last_of step.after steps).acts first.1 rest.1,
     )
@@ -70,18 +69,18 @@ reaches before after gone =
     ⊎_elim (λ (step : IsRefreshed before after). step.told) (λ (step : WentOn before after × (length before.acts < length after.acts)).
     ⊎_elim (λ (told : IsPrefix before.reader.told after.acts). told) (λ (stayed : after.acts ≡ before.acts). absurd (omega (arith, step.1, ap (λ (acts : List Act). length acts) stayed))) step.0.told) gone
 
-pub reached : (h : ℕ) (receipt : List Act) (feed learned refreshed : Feeding) (between later : List Step) → HasLearned receipt feed learned → IsRun h learned between → HasGoneOn (last_of learned between) refreshed → IsRun h refreshed later
+pub reached : (receipt : List Act) (feed learned refreshed : Feeding) (between later : List Step) → HasLearned receipt feed learned → IsRun learned between → HasGoneOn (last_of learned between) refreshed → IsRun refreshed later
     → IsPrefix receipt (last_of refreshed later).acts
-reached h receipt feed learned refreshed between later learning run went more =
+reached receipt feed learned refreshed between later learning run went more =
     let middle = last_of learned between in
-    let told : IsPrefix receipt middle.reader.told = prefix_trans receipt learned.reader.told middle.reader.told learning.learned (run_grown h learned between run).0 in
+    let told : IsPrefix receipt middle.reader.told = prefix_trans receipt learned.reader.told middle.reader.told learning.learned (run_grown learned between run).0 in
     let there : IsPrefix receipt refreshed.acts = prefix_trans receipt middle.reader.told refreshed.acts told (reaches middle refreshed went) in
-    prefix_trans receipt refreshed.acts (last_of refreshed later).acts there (run_grown h refreshed later more).1
+    prefix_trans receipt refreshed.acts (last_of refreshed later).acts there (run_grown refreshed later more).1
 
-pub told_once : (config : Configuration) (feed : Feeding) (steps : List Step) (told : List Act) (w : Write) → IsPrefix feed.began feed.acts → feed.handed ≡ 0 → IsRun config.history feed steps → IsLawful config (last_of feed steps).acts
-    → next_of config.history (last_of feed steps) ≡ None → Owes (last_of feed steps) told w → HasOnce (last_of feed steps) w (items_of steps)
-told_once config feed steps told w prefix none run lawful end owes =
+pub told_once : (feed : Feeding) (steps : List Step) (told : List Act) (w : Write) → IsPrefix feed.began feed.acts → feed.handed ≡ 0 → IsRun feed steps → IsLawful feed.config (last_of feed steps).acts
+    → next_of (last_of feed steps) ≡ None → Owes (last_of feed steps) told w → HasOnce (last_of feed steps) w (items_of steps)
+told_once feed steps told w prefix none run lawful end owes =
     let last = last_of feed steps in
-    let hands = run_hands_out config.history feed steps prefix none run in
-    let all : last.handed ≡ length (given_by config.history last) = (ends (given_by config.history last) last.handed hands.within).0 end in
-    subst (λ (items : List Item). HasOnce last w items) (sym hands.first) (all_has_once config last told w lawful hands.prefix all owes)
+    let hands = run_hands_out feed steps prefix none run in
+    let all : last.handed ≡ length (given_by last) = (ends (given_by last) last.handed hands.within).0 end in
+    subst (λ (items : List Item). HasOnce last w items) (sym hands.first) (all_has_once feed.config last told w lawful hands.prefix all owes)

@@ -4,13 +4,15 @@ use Rattle.std.specs.List.{filter_map}
 use Rattle.kv_keys.specs.declared.error.KvError.{KvError}
 use Rattle.kv_keys.specs.declared.error.KvError.TheVariants.{Lagged, NoReader, OutOfMemory}
 use Rattle.kv_model.specs.Acts.{Act, IsPrefix, floor_of, writes_of}
+use Rattle.kv_model.specs.Configuration.{Configuration}
 use Rattle.kv_model.specs.declared.options.Options.{Options}
 use Rattle.kv_model.specs.Given.{Item, given, is_behind}
 use Rattle.kv_bucket.specs.Known.{Known}
 
--- a feed: its reader, the acts when it was opened, those that its version stands for, what it matches and how it shows
--- it, and how many items it handed out
+-- a feed: the configuration of its bucket, its reader, the acts when it was opened, those that its version stands for,
+-- what it matches and how it shows it, and how many items it handed out
 pub record Feeding : Type 0 where
+  pub config : Configuration
   pub reader : Known
   pub began : List Act
   pub acts : List Act
@@ -19,18 +21,18 @@ pub record Feeding : Type 0 where
   pub handed : ℕ
 
 -- all that it is given by the acts that its version stands for
-abbrev pub given_by : ℕ → Feeding → List Item
-given_by h feed = given h feed.began feed.acts feed.filters feed.options
+abbrev pub given_by : Feeding → List Item
+given_by feed = given feed.config.history feed.began feed.acts feed.filters feed.options
 
 -- the item that it hands out next, if any
-abbrev pub next_of : ℕ → Feeding → Option Item
-next_of h feed = slice_get (given_by h feed) feed.handed
+abbrev pub next_of : Feeding → Option Item
+next_of feed = slice_get (given_by feed) feed.handed
 
 -- a feed lags behind a floor where the floor is above the last revision of the feed's acts, or a live item at or below
 -- it is still to be handed out
-abbrev pub lags : ℕ → ℕ → Feeding → Bool
-lags h floor feed = nat_lt (length (writes_of feed.acts)) floor || is_behind floor feed.handed h feed.began feed.acts
-    feed.filters feed.options
+abbrev pub lags : ℕ → Feeding → Bool
+lags floor feed = nat_lt (length (writes_of feed.acts)) floor
+    || is_behind floor feed.handed feed.config.history feed.began feed.acts feed.filters feed.options
 
 -- a reader has seen more, or as much as before
 abbrev pub HasSeenMore : Known → Known → Type 0
@@ -51,11 +53,11 @@ pub record IsNotRefreshed (before after : Feeding) : Type 0 where
 
 -- why a feed stays where it is: nowhere was its reader let enter; or it lags behind the floor of what its reader has seen by
 -- now; or memory was refused, where it doesn't
-abbrev pub IsStopped : ℕ → Feeding → Feeding → KvError → Type 0
-IsStopped h before after error =
+abbrev pub IsStopped : Feeding → Feeding → KvError → Type 0
+IsStopped before after error =
     (error ≡ NoReader)
-    ⊎ (((error ≡ Lagged (floor_of after.reader.seen)) × (lags h (floor_of after.reader.seen) before ≡ true))
-    ⊎ ((error ≡ OutOfMemory) × (lags h (floor_of after.reader.seen) before ≡ false)))
+    ⊎ (((error ≡ Lagged (floor_of after.reader.seen)) × (lags (floor_of after.reader.seen) before ≡ true))
+    ⊎ ((error ≡ OutOfMemory) × (lags (floor_of after.reader.seen) before ≡ false)))
 
 -- what was told was added to what its reader knows; nothing else of it changed
 pub record HasLearned (told : List Act) (before after : Feeding) : Type 0 where
@@ -78,21 +80,21 @@ pub record WentOn (before after : Feeding) : Type 0 where
   pub same : after ≡ record before { reader = after.reader; acts = after.acts }
 
 -- a feed went on, and handed out the next item of what it is given by the acts that it went on to
-pub record HandsNext (h : ℕ) (before : Feeding) (item : Option Item) (after : Feeding) : Type 0 where
+pub record HandsNext (before : Feeding) (item : Option Item) (after : Feeding) : Type 0 where
   pub went : Feeding
   pub goes : WentOn before went
-  pub value : item ≡ next_of h went
+  pub value : item ≡ next_of went
   pub counts : after ≡ after_item went item
 
 -- a call on a feed, and what it handed out: a refresh that was accepted or refused, a receipt that was learned, a take,
 -- or a `next`, which handed out an item or was refused
-abbrev pub IsStep : ℕ → Feeding → Option Item → Feeding → Type 0
-IsStep h before item after =
+abbrev pub IsStep : Feeding → Option Item → Feeding → Type 0
+IsStep before item after =
     ((item ≡ None) × IsRefreshed before after)
     ⊎ (((item ≡ None) × IsNotRefreshed before after)
     ⊎ (((item ≡ None) × ((told : List Act) × HasLearned told before after))
-    ⊎ (((item ≡ next_of h before) × (after ≡ after_item before item))
-    ⊎ (HandsNext h before item after
+    ⊎ (((item ≡ next_of before) × (after ≡ after_item before item))
+    ⊎ (HandsNext before item after
     ⊎ ((item ≡ None) × WentOn before after)))))
 
 -- a feed went on to acts that begin with all that its reader was told of: by a refresh that was accepted, or by at
@@ -106,9 +108,9 @@ pub record Step : Type 0 where
   pub after : Feeding
 
 -- calls in a row, each on the feed that the one before it left
-abbrev pub IsRun : ℕ → Feeding → List Step → Type 0
-IsRun h feed [] = Unit {0}
-IsRun h feed (step ∷ steps) = IsStep h feed step.item step.after × IsRun h step.after steps
+abbrev pub IsRun : Feeding → List Step → Type 0
+IsRun feed [] = Unit {0}
+IsRun feed (step ∷ steps) = IsStep feed step.item step.after × IsRun step.after steps
 
 abbrev pub last_of : Feeding → List Step → Feeding
 last_of feed [] = feed
@@ -120,7 +122,7 @@ items_of steps = filter_map (λ step. step.item) steps
 
 -- the watch theorem for a feed: what it handed out are, in order, the first items of what it is given from its
 -- beginning by the acts that it last went on to, and it counts them
-pub record HandsOut (h : ℕ) (feed : Feeding) (items : List Item) : Type 0 where
+pub record HandsOut (feed : Feeding) (items : List Item) : Type 0 where
   pub prefix : IsPrefix feed.began feed.acts
-  pub within : feed.handed ≤ length (given_by h feed)
-  pub first : items ≡ take feed.handed (given_by h feed)
+  pub within : feed.handed ≤ length (given_by feed)
+  pub first : items ≡ take feed.handed (given_by feed)

@@ -56,7 +56,7 @@ impl<N: LiveName> Model for Feed<N> {
 
     ghost Value = { Feeding };
 
-    ghost view = { λ f. feeding_of f.reader f.began.value.acts f.current f.watch.cursor };
+    ghost view = { λ f. feeding_of N.opening.config f.reader f.began.value.acts f.current f.watch.cursor };
 
     ghost invariant = { λ f. IsFed N.opening.config f.reader f.began.value.acts f.current f.watch };
 }
@@ -70,7 +70,7 @@ fn begin<N: LiveName>(
 ) -> Result<Feed<N>, (Reader<N>, KvError)>
     requires of { IsOf N.opening publication }
     requires seen { IsPrefix (acts_on publication) reader.seen }
-    ensures ok { IfOk result (λ feed. feed ≡ opened reader (acts_on publication) filters.now options) }
+    ensures ok { IfOk result (λ feed. feed ≡ opened N.opening.config reader (acts_on publication) filters.now options) }
     ensures err { IfErr result (λ e. (e.0 ≡ reader) × (e.1 ≡ OutOfMemory)) }
 {
     match Watch::open(reader.alloc(), publication.version(), filters, options) {
@@ -89,7 +89,7 @@ impl<N: LiveName> Reader<N> {
     /// Where it is refused the reader comes back.
     pub fn watch(self, filters: &Filters, options: Options) -> Result<Feed<N>, (Reader<N>, KvError)>
         ensures reader { IfOk result (λ feed. HasSeenMore self feed.reader × IsPrefix self.told feed.reader.seen) }
-        ensures ok { IfOk result (λ feed. feed ≡ opened feed.reader feed.reader.seen filters.now options) }
+        ensures ok { IfOk result (λ feed. feed ≡ opened N.opening.config feed.reader feed.reader.seen filters.now options) }
         ensures err { IfErr result (λ e. HasSeenMore self e.0 × IsUnread e.1) }
     {
         let mut reader = self;
@@ -106,7 +106,7 @@ impl<N: LiveName> Reader<N> {
         filters: &Filters,
         options: Options,
     ) -> Result<Feed<N>, (Reader<N>, KvError)>
-        ensures ok { IfOk result (λ feed. feed ≡ opened self [] filters.now options) }
+        ensures ok { IfOk result (λ feed. feed ≡ opened N.opening.config self [] filters.now options) }
         ensures err { IfErr result (λ e. (e.0 ≡ self) × (e.1 ≡ OutOfMemory)) }
     {
         match self.empty_publication() {
@@ -126,9 +126,8 @@ impl<N: LiveName> Feed<N> {
     /// holds; `refresh_keeping` hands that out.
     pub fn refresh(&mut self) -> Result<(), KvError>
         ensures ok { IfOk result (λ _. IsRefreshed self.old self.new) }
-        ensures ahead { IfOk result (λ _. lags N.opening.config.history (floor_of self.new.acts) self.old ≡ false) }
-        ensures refused { IfErr result
-            (λ e. IsStopped N.opening.config.history self.old self.new e × IsNotRefreshed self.old self.new) }
+        ensures ahead { IfOk result (λ _. lags (floor_of self.new.acts) self.old ≡ false) }
+        ensures refused { IfErr result (λ e. IsStopped self.old self.new e × IsNotRefreshed self.old self.new) }
     {
         self.refresh_keeping()?;
         Ok(())
@@ -138,10 +137,9 @@ impl<N: LiveName> Feed<N> {
     /// where there is time for that.
     pub fn refresh_keeping(&mut self) -> Result<Version, KvError>
         ensures ok { OnOk result (IsRefreshed self.old self.new) }
-        ensures ahead { OnOk result (lags N.opening.config.history (floor_of self.new.acts) self.old ≡ false) }
+        ensures ahead { OnOk result (lags (floor_of self.new.acts) self.old ≡ false) }
         ensures left { IfOk result (λ left. StandsFor self.old.acts left × (left.config ≡ N.opening.config)) }
-        ensures refused { IfErr result
-            (λ e. IsStopped N.opening.config.history self.old self.new e × IsNotRefreshed self.old self.new) }
+        ensures refused { IfErr result (λ e. IsStopped self.old self.new e × IsNotRefreshed self.old self.new) }
     {
         let publication = self.reader.publication_ahead(&self.current, &self.watch)?;
         let left = mem::replace(&mut self.current, publication);
@@ -158,7 +156,7 @@ impl<N: LiveName> Feed<N> {
 
     /// What `take` would hand out.
     pub fn peek(&self) -> Taken<'_>
-        ensures { item_taken result ≡ next_of N.opening.config.history self.now }
+        ensures { item_taken result ≡ next_of self.now }
     {
         self.watch.peek(self.current.version())
     }
@@ -170,10 +168,9 @@ impl<N: LiveName> Feed<N> {
             self.entry.ghost_name none (λ _ _. ⊤)
             (λ left. left ≡ after_item self.old (item_taken result))) }
         ensures once { item_taken result ≡ None → (told : List Act) (w : Write) → Owes self.old told w →
-            HasOnce self.old w (take self.old.handed (given_by N.opening.config.history self.old)) }
-        ensures value { item_taken result ≡ next_of N.opening.config.history self.old }
-        ensures end { (item_taken result ≡ None) ↔ (self.old.handed
-            ≡ length (given_by N.opening.config.history self.old)) }
+            HasOnce self.old w (take self.old.handed (given_by self.old)) }
+        ensures value { item_taken result ≡ next_of self.old }
+        ensures end { (item_taken result ≡ None) ↔ (self.old.handed ≡ length (given_by self.old)) }
     {
         self.watch.take(self.current.version())
     }
@@ -181,9 +178,9 @@ impl<N: LiveName> Feed<N> {
     /// Moves on behind the next item, as `take` does, and lends nothing: so that what was peeked can be copied first, and
     /// want of memory loses no item.
     pub fn pass(&mut self)
-        ensures after { self.new ≡ after_item self.old (next_of N.opening.config.history self.old) }
-        ensures once { next_of N.opening.config.history self.old ≡ None → (told : List Act) (w : Write) →
-            Owes self.old told w → HasOnce self.old w (take self.old.handed (given_by N.opening.config.history self.old)) }
+        ensures after { self.new ≡ after_item self.old (next_of self.old) }
+        ensures once { next_of self.old ≡ None → (told : List Act) (w : Write) → Owes self.old told w →
+            HasOnce self.old w (take self.old.handed (given_by self.old)) }
     {
         self.watch.pass(self.current.version());
     }
@@ -205,7 +202,7 @@ impl<N: LiveName> Feed<N> {
     // again, and a take of the item finds it at once.
     fn settle(&mut self) -> bool
         ensures same { self.new ≡ self.old }
-        ensures found { result ≡ is_some (next_of N.opening.config.history self.old) }
+        ensures found { result ≡ is_some (next_of self.old) }
     {
         self.watch.settle(self.current.version())
     }
@@ -213,7 +210,7 @@ impl<N: LiveName> Feed<N> {
     // Goes on until there is a next item, or the bucket was closed and there will never be one.
     fn go_on<R: Wait>(&mut self, rt: &R) -> Result<(), KvError>
         ensures goes { WentOn self.old self.new }
-        ensures refused { IfErr result (λ e. IsStopped N.opening.config.history self.new self.new e) }
+        ensures refused { IfErr result (λ e. IsStopped self.new self.new e) }
     {
         for _ in rt.forever() {
             if self.settle() {
@@ -234,8 +231,8 @@ impl<N: LiveName> Feed<N> {
         ensures* after { sem 𝓛 (follows_so (the_row N.row N.LiveName) (the_row N.row N.LiveName)
             self.entry.ghost_name none (λ _ _. ⊤)
             (λ left. MatchResult result
-            (λ taken. HandsNext N.opening.config.history self.old (item_taken taken) left)
-            (λ e. WentOn self.old left × IsStopped N.opening.config.history left left e))) }
+            (λ taken. HandsNext self.old (item_taken taken) left)
+            (λ e. WentOn self.old left × IsStopped left left e))) }
     {
         self.go_on(rt)?;
         Ok(self.take())
@@ -244,7 +241,8 @@ impl<N: LiveName> Feed<N> {
     /// How many items were handed out, the end marker counted.
     pub fn handed(&self) -> u64
         ensures value { result ≡ self.now.handed }
-        ensures within { result ≤ length (given_by N.opening.config.history self.now) }
+        ensures config { self.now.config ≡ N.opening.config }
+        ensures within { result ≤ length (given_by self.now) }
         ensures prefix { IsPrefix self.now.began self.now.acts }
         ensures seen { IsPrefix self.now.acts self.now.reader.seen }
         ensures lawful { IsLawful N.opening.config self.now.acts }

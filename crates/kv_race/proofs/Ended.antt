@@ -14,7 +14,7 @@ use Rattle.kv_race.proofs.Fed.{went_on}
 use Rattle.kv_race.proofs.Hearing.{begin_all_later}
 
 abbrev pub watch_of : Feeding → Watch
-watch_of feed = record { began = feed.began; filters = feed.filters; options = feed.options }
+watch_of feed = record { config = feed.config; began = feed.began; filters = feed.filters; options = feed.options }
 
 abbrev pub place_of : Feeding → Place
 place_of feed = record { acts = feed.acts; seen = feed.reader.seen; told = feed.reader.told }
@@ -42,37 +42,40 @@ module _ (config : Configuration) (answers : List (List Answered)) (first heard 
   pub seen_is : last.acts ≡ seen
   seen_is = ap (λ (p : Place). p.acts) place ∙ (ap (λ (f : Feeding). f.acts) goes.same ∙ (sym (ap (λ (p : Place). p.seen) place) ∙ sym handed_back))
 
-  same_given : watch_of last ≡ watch_of went → given_by config.history last ≡ given config.history first.began last.acts first.filters first.options
+  same_given : watch_of last ≡ watch_of went → given_by last ≡ given_by (record first { acts = last.acts })
   same_given watch =
+      let same : last.config ≡ first.config = ap (λ (w : Watch). w.config) watch ∙ (ap (λ (f : Feeding). f.config) goes.same ∙ ap (λ (f : Feeding). f.config) hears.same) in
       let began : last.began ≡ first.began = ap (λ (w : Watch). w.began) watch ∙ (ap (λ (f : Feeding). f.began) goes.same ∙ ap (λ (f : Feeding). f.began) hears.same) in
       let filters : last.filters ≡ first.filters = ap (λ (w : Watch). w.filters) watch ∙ (ap (λ (f : Feeding). f.filters) goes.same ∙ ap (λ (f : Feeding). f.filters) hears.same) in
       let options : last.options ≡ first.options = ap (λ (w : Watch). w.options) watch ∙ (ap (λ (f : Feeding). f.options) goes.same ∙ ap (λ (f : Feeding). f.options) hears.same) in
-      ap (λ (acts : List Act). given config.history acts last.acts last.filters last.options) began
-      ∙ (ap (λ (fs : List (List ℕ)). given config.history first.began last.acts fs last.options) filters
-      ∙ ap (λ (o : Options). given config.history first.began last.acts first.filters o) options)
+      ap (λ (c : Configuration). given c.history last.began last.acts last.filters last.options) same
+      ∙ (ap (λ (acts : List Act). given first.config.history acts last.acts last.filters last.options) began
+      ∙ (ap (λ (fs : List (List ℕ)). given first.config.history first.began last.acts fs last.options) filters
+      ∙ ap (λ (o : Options). given first.config.history first.began last.acts first.filters o) options))
 
   same_acts : last.acts ≡ went.acts
   same_acts = ap (λ (p : Place). p.acts) place
 
   pub ended : (before after : List Reply) (version : Stored) → StandsFor last.acts version × (version.config ≡ config)
-      → IsPrefix heard.began heard.acts → heard.handed ≤ length (given_by config.history heard) → watch_of last ≡ watch_of went
-      → WritesDown (take went.handed (given_by config.history went)) before (take last.handed (given_by config.history last)) after
-      → length (given_by config.history last) - last.handed ≡ 0
+      → IsPrefix heard.began heard.acts → heard.handed ≤ length (given_by heard) → watch_of last ≡ watch_of went
+      → WritesDown (take went.handed (given_by went)) before (take last.handed (given_by last)) after
+      → length (given_by last) - last.handed ≡ 0
       → IsEnded config answers first before seen version after
   ended before after version shows began within watch writes none = subst (λ (acts : List Act). IsEnded config answers first before acts version after) seen_is record {
     shown = subst (λ (acts : List Act). IsShown config answers acts version) (sym same_acts)
         (shown config answers heard went version tells goes (subst (λ (acts : List Act). StandsFor acts version) same_acts shows.0, shows.1));
     all = λ h.
-        let e₁ : take heard.handed (given_by config.history heard) ≡ take first.handed (given_by config.history first) = ap (λ (f : Feeding). take f.handed (given_by config.history f)) hears.same in
-        let e₂ = went_on config.history heard went began within goes in
-        let h₂ : Are before (take went.handed (given_by config.history went)) = h ∙ ap (map reply_to) (sym (e₂ ∙ e₁)) in
-        writes h₂ ∙ ap (map reply_to) (take_all last.handed (given_by config.history last) (omega (arith, none)) ∙ same_given watch);
+        let e₁ : take heard.handed (given_by heard) ≡ take first.handed (given_by first) = ap (λ (f : Feeding). take f.handed (given_by f)) hears.same in
+        let e₂ = went_on heard went began within goes in
+        let h₂ : Are before (take went.handed (given_by went)) = h ∙ ap (map reply_to) (sym (e₂ ∙ e₁)) in
+        writes h₂ ∙ ap (map reply_to) (take_all last.handed (given_by last) (omega (arith, none)) ∙ same_given watch);
   }
 
 -- a watch was followed
-pub followed : (h : ℕ) (before after : Feeding) (seen : List Reply) → watch_of after ≡ watch_of before
-    → WritesDown (take before.handed (given_by h before)) [] (take after.handed (given_by h after)) seen → IsFollowed h before after seen
-followed h before after seen watch writes = record {
+pub followed : (before after : Feeding) (seen : List Reply) → watch_of after ≡ watch_of before
+    → WritesDown (take before.handed (given_by before)) [] (take after.handed (given_by after)) seen → IsFollowed before after seen
+followed before after seen watch writes = record {
+  config = ap (λ (w : Watch). w.config) watch;
   began = ap (λ (w : Watch). w.began) watch;
   filters = ap (λ (w : Watch). w.filters) watch;
   options = ap (λ (w : Watch). w.options) watch;

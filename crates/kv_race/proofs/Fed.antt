@@ -18,29 +18,29 @@ take_prefix (suc n) [] ys l = absurd (omega arith)
 take_prefix (suc n) (x ∷ xs) ys l = ap (λ zs. x ∷ zs) (take_prefix n xs ys (omega arith))
 
 -- what was handed out stays
-pub went_on : (h : ℕ) (before after : Feeding) → IsPrefix before.began before.acts → before.handed ≤ length (given_by h before) → IsRefreshed before after
-    → take after.handed (given_by h after) ≡ take before.handed (given_by h before)
-went_on h before after began within r =
+pub went_on : (before after : Feeding) → IsPrefix before.began before.acts → before.handed ≤ length (given_by before) → IsRefreshed before after
+    → take after.handed (given_by after) ≡ take before.handed (given_by before)
+went_on before after began within r =
     let later = after.reader.seen in
     let grows : IsPrefix before.acts later = subst (λ (acts : List Act). IsPrefix before.acts acts) (ap (λ (f : Feeding). f.acts) r.same) r.grows in
-    let more = given_goes_on h before.began before.acts later before.filters before.options began grows in
-    ap (λ (f : Feeding). take f.handed (given_by h f)) r.same
-    ∙ (ap (take before.handed) (sym more.1) ∙ take_prefix before.handed (given_by h before) more.0 within)
+    let more = given_goes_on before.config.history before.began before.acts later before.filters before.options began grows in
+    ap (λ (f : Feeding). take f.handed (given_by f)) r.same
+    ∙ (ap (take before.handed) (sym more.1) ∙ take_prefix before.handed (given_by before) more.0 within)
 
-pub stayed : (h : ℕ) (before after : Feeding) → IsNotRefreshed before after → take after.handed (given_by h after) ≡ take before.handed (given_by h before)
-stayed h before after r = ap (λ (f : Feeding). take f.handed (given_by h f)) r.same
+pub stayed : (before after : Feeding) → IsNotRefreshed before after → take after.handed (given_by after) ≡ take before.handed (given_by before)
+stayed before after r = ap (λ (f : Feeding). take f.handed (given_by f)) r.same
 
-handed_next : (h : ℕ) (feed : Feeding) (reply : Option Reply) (next : Option Item) → slice_get (given_by h feed) feed.handed ≡ next → option_map answer_of reply ≡ option_map reply_to next
-    → ((x : Item) × (feed.handed < length (given_by h feed)) × (slice_get (given_by h feed) feed.handed ≡ Some x) × (get_or (given_by h feed) feed.handed x ≡ x)) ⊎ ((length (given_by h feed) ≤ feed.handed) × (slice_get (given_by h feed) feed.handed ≡ None))
-    → HandsOut (take feed.handed (given_by h feed)) (length (given_by h feed) - feed.handed) reply (take (after_item feed next).handed (given_by h (after_item feed next))) (length (given_by h (after_item feed next)) - (after_item feed next).handed)
-handed_next h feed None None is e cases =
-    let some : ((x : Item) × (feed.handed < length (given_by h feed)) × (slice_get (given_by h feed) feed.handed ≡ Some x) × (get_or (given_by h feed) feed.handed x ≡ x)) → length (given_by h feed) - feed.handed ≡ 0 = λ t. absurd (cc (t.2, is)) in
-    let past : ((length (given_by h feed) ≤ feed.handed) × (slice_get (given_by h feed) feed.handed ≡ None)) → length (given_by h feed) - feed.handed ≡ 0 = λ p. omega (arith, p.0) in
+handed_next : (feed : Feeding) (reply : Option Reply) (next : Option Item) → slice_get (given_by feed) feed.handed ≡ next → option_map answer_of reply ≡ option_map reply_to next
+    → ((x : Item) × (feed.handed < length (given_by feed)) × (slice_get (given_by feed) feed.handed ≡ Some x) × (get_or (given_by feed) feed.handed x ≡ x)) ⊎ ((length (given_by feed) ≤ feed.handed) × (slice_get (given_by feed) feed.handed ≡ None))
+    → HandsOut (take feed.handed (given_by feed)) (length (given_by feed) - feed.handed) reply (take (after_item feed next).handed (given_by (after_item feed next))) (length (given_by (after_item feed next)) - (after_item feed next).handed)
+handed_next feed None None is e cases =
+    let some : ((x : Item) × (feed.handed < length (given_by feed)) × (slice_get (given_by feed) feed.handed ≡ Some x) × (get_or (given_by feed) feed.handed x ≡ x)) → length (given_by feed) - feed.handed ≡ 0 = λ t. absurd (cc (t.2, is)) in
+    let past : ((length (given_by feed) ≤ feed.handed) × (slice_get (given_by feed) feed.handed ≡ None)) → length (given_by feed) - feed.handed ≡ 0 = λ p. omega (arith, p.0) in
     (refl, ⊎_elim some past cases)
-handed_next h feed None (Some item) is e cases = absurd (cc e)
-handed_next h feed (Some reply) None is e cases = absurd (cc e)
-handed_next h feed (Some reply) (Some item) is e cases =
-    let xs = given_by h feed in
+handed_next feed None (Some item) is e cases = absurd (cc e)
+handed_next feed (Some reply) None is e cases = absurd (cc e)
+handed_next feed (Some reply) (Some item) is e cases =
+    let xs = given_by feed in
     let Out : Type 0 = HandsOut (take feed.handed xs) (length xs - feed.handed) (Some reply) (take (feed.handed + 1) xs) (length xs - (feed.handed + 1)) in
     let some : ((x : Item) × (feed.handed < length xs) × (slice_get xs feed.handed ≡ Some x) × (get_or xs feed.handed x ≡ x)) → Out = λ t.
     let same : t.0 ≡ item = cc (t.2, is) in (
@@ -51,8 +51,8 @@ handed_next h feed (Some reply) (Some item) is e cases =
     ⊎_elim some past cases
 
 -- one item more was handed out, or there was none
-pub handed_on : (h : ℕ) (feed after : Feeding) (reply : Option Reply) → after ≡ after_item feed (next_of h feed) → option_map answer_of reply ≡ option_map reply_to (next_of h feed)
-    → HandsOut (take feed.handed (given_by h feed)) (length (given_by h feed) - feed.handed) reply (take after.handed (given_by h after)) (length (given_by h after) - after.handed)
-handed_on h feed after reply same e =
-    subst (λ (f : Feeding). HandsOut (take feed.handed (given_by h feed)) (length (given_by h feed) - feed.handed) reply (take f.handed (given_by h f)) (length (given_by h f) - f.handed)) (sym same)
-    (handed_next h feed reply (next_of h feed) refl e (slice_get_cases (given_by h feed) feed.handed).1)
+pub handed_on : (feed after : Feeding) (reply : Option Reply) → after ≡ after_item feed (next_of feed) → option_map answer_of reply ≡ option_map reply_to (next_of feed)
+    → HandsOut (take feed.handed (given_by feed)) (length (given_by feed) - feed.handed) reply (take after.handed (given_by after)) (length (given_by after) - after.handed)
+handed_on feed after reply same e =
+    subst (λ (f : Feeding). HandsOut (take feed.handed (given_by feed)) (length (given_by feed) - feed.handed) reply (take f.handed (given_by f)) (length (given_by f) - f.handed)) (sym same)
+    (handed_next feed reply (next_of feed) refl e (slice_get_cases (given_by feed) feed.handed).1)

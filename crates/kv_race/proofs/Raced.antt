@@ -64,31 +64,33 @@ lawful_shown config answers acts version shows = subst (λ (c : Configuration). 
 module _ (config : Configuration) (acts : List Act) (scripts : List (List Asked)) (answers : List (List Answered)) (told_all : AllZip (AllZip (IsTold config)) scripts answers) {W E : Type 0} (feed_of : W → Feeding) (before_of : W → List Reply) (acts_of : E → List Act) (version_of : E → Stored) (seen_of : E → List Reply) where
   -- a watch that was followed from its beginning
   abbrev pub Begun : List (List ℕ) × Options → W → Type 0
-  Begun watch w = ((feed_of w).began ≡ []) × (((feed_of w).filters ≡ watch.0) × (((feed_of w).options ≡ watch.1) × Are (before_of w) (take (feed_of w).handed (given_by config.history (feed_of w)))))
+  Begun watch w = ((feed_of w).config ≡ config) × (((feed_of w).began ≡ []) × (((feed_of w).filters ≡ watch.0) × (((feed_of w).options ≡ watch.1) × Are (before_of w) (take (feed_of w).handed (given_by (feed_of w))))))
 
-  begun : (watch : List (List ℕ) × Options) (feed : Feeding) (w : W) → IsFresh watch feed → IsFollowed config.history feed (feed_of w) (before_of w) → Begun watch w
-  begun watch feed w fresh followed = (followed.began ∙ fresh.began, (followed.filters ∙ fresh.filters, (followed.options ∙ fresh.options, followed.written fresh.handed)))
+  begun : (watch : List (List ℕ) × Options) (feed : Feeding) (w : W) → IsFresh config watch feed → IsFollowed feed (feed_of w) (before_of w) → Begun watch w
+  begun watch feed w fresh followed =
+      (followed.config ∙ fresh.same_config, (followed.began ∙ fresh.began, (followed.filters ∙ fresh.filters, (followed.options ∙ fresh.options, followed.written fresh.handed))))
 
   ended : (watch : List (List ℕ) × Options) (w : W) (e : E) → Begun watch w → IsEnded config answers (feed_of w) (before_of w) acts (version_of e) (seen_of e) → IsWatched config acts scripts (map (map reply_of) answers) watch (map answer_of (seen_of e))
   ended watch w e b ends =
       let feed = feed_of w in
-      let same : given config.history feed.began acts feed.filters feed.options ≡ given config.history [] acts watch.0 watch.1 =
-      ap (λ (began : List Act). given config.history began acts feed.filters feed.options) b.0
-      ∙ (ap (λ (filters : List (List ℕ)). given config.history [] acts filters feed.options) b.1.0
-      ∙ ap (λ (options : Options). given config.history [] acts watch.0 options) b.1.1.0) in record {
-        all = ends.all b.1.1.1 ∙ ap (map reply_to) same;
+      let same : given_by (record feed { acts = acts }) ≡ given config.history [] acts watch.0 watch.1 =
+      ap (λ (c : Configuration). given c.history feed.began acts feed.filters feed.options) b.0
+      ∙ (ap (λ (began : List Act). given config.history began acts feed.filters feed.options) b.1.0
+      ∙ (ap (λ (filters : List (List ℕ)). given config.history [] acts filters feed.options) b.1.1.0
+      ∙ ap (λ (options : Options). given config.history [] acts watch.0 options) b.1.1.1.0)) in record {
+        all = ends.all b.1.1.1.1 ∙ ap (map reply_to) same;
         once = all_seen config acts watch.0 watch.1 scripts answers (lawful_shown config answers acts (version_of e) ends.shown) told_all ends.shown.told;
       }
 
-  pub all_watched : (watches : List (List (List ℕ) × Options)) (feeds : List Feeding) (ws : List W) (es : List E) → AllZip IsFresh watches feeds
-      → AllZip (λ feed w. IsFollowed config.history feed (feed_of w) (before_of w)) feeds ws
+  pub all_watched : (watches : List (List (List ℕ) × Options)) (feeds : List Feeding) (ws : List W) (es : List E) → AllZip (IsFresh config) watches feeds
+      → AllZip (λ feed w. IsFollowed feed (feed_of w) (before_of w)) feeds ws
       → AllZip (λ w e. IsEnded config answers (feed_of w) (before_of w) (acts_of e) (version_of e) (seen_of e)) ws es
       → All (λ seen. seen ≡ acts) (map acts_of es)
       → AllZip (IsWatched config acts scripts (map (map reply_of) answers)) watches (map (λ e. map answer_of (seen_of e)) es)
   all_watched watches feeds ws es fresh followed ends same =
       zip_map_right (IsWatched config acts scripts (map (map reply_of) answers)) (λ e. map answer_of (seen_of e)) watches es
       (zip_trans Begun (λ w e. IsEnded config answers (feed_of w) (before_of w) acts (version_of e) (seen_of e)) (λ watch e. IsWatched config acts scripts (map (map reply_of) answers) watch (map answer_of (seen_of e))) ended watches ws es
-      (zip_trans IsFresh (λ feed w. IsFollowed config.history feed (feed_of w) (before_of w)) Begun begun watches feeds ws fresh followed)
+      (zip_trans (IsFresh config) (λ feed w. IsFollowed feed (feed_of w) (before_of w)) Begun begun watches feeds ws fresh followed)
       (zip_same (λ w e seen. IsEnded config answers (feed_of w) (before_of w) seen (version_of e) (seen_of e)) acts_of acts ws es ends same))
 
 -- ---- all of it
@@ -111,9 +113,9 @@ module _ (config : Configuration) {S A : Type 0} (script_of : S → List Asked) 
   -- what the parts of a race did comes to what it promises
   pub raced : {R W E V : Type 0} (replies_of : R → List (Result ℕ KvError)) (feed_of : W → Feeding) (before_of : W → List Reply) (acts_of : E → List Act) (version_of : E → Stored) (seen_of : E → List Reply) (items_of : V → List Reply)
       (scripts : List S) (watches : List (List (List ℕ) × Options)) (feeds : List Feeding) (worked : List (Result A KvError)) (ws : List W) (answers : List A) (es : List E) (ss : List V) (version : Stored) (replies : List R)
-      → AllZip IsFresh watches feeds
+      → AllZip (IsFresh config) watches feeds
       → AllZip (λ script one. IfOk one (λ some. AllZip (IsTold config) (script_of script) (answers_of some))) scripts worked → worked ≡ map Ok answers
-      → AllZip (λ feed w. IsFollowed config.history feed (feed_of w) (before_of w)) feeds ws
+      → AllZip (λ feed w. IsFollowed feed (feed_of w) (before_of w)) feeds ws
       → AllZip (λ w e. IsEnded config (map answers_of answers) (feed_of w) (before_of w) (acts_of e) (version_of e) (seen_of e)) ws es
       → HasLast config (map answers_of answers) (map acts_of es) version
       → AreNumbered (map replies_of replies) version.last

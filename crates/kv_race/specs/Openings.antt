@@ -25,8 +25,9 @@ may_race config workers watches = then_race workers watches (configure config)
 abbrev pub RefusesRace : KvError → Result Configuration KvError → Type 0
 RefusesRace error outcome = Refuses error outcome ⊎ ((error ≡ NoReader) × IsOk outcome)
 
--- a feed of a watch that began on the empty bucket and has handed out nothing
-pub record IsFresh (watch : List (List ℕ) × Options) (feed : Feeding) : Type 0 where
+-- a feed of a watch that began on the empty bucket of this configuration and has handed out nothing
+pub record IsFresh (config : Configuration) (watch : List (List ℕ) × Options) (feed : Feeding) : Type 0 where
+  pub same_config : feed.config ≡ config
   pub began : feed.began ≡ []
   pub filters : feed.filters ≡ watch.0
   pub options : feed.options ≡ watch.1

@@ -8,7 +8,6 @@ use Rattle.kv_store.specs.Standing.{StandsFor}
 use Rattle.kv_store.specs.Stored.{Stored}
 use Rattle.kv_single.specs.declared.reply.Reply.{Reply}
 use Rattle.kv_bucket.specs.Keeping.{PublishesWrite, RefusedSomewhere}
-use Rattle.kv_model.specs.Given.{given}
 use Rattle.kv_bucket.specs.Feeding.{Feeding, given_by}
 use Rattle.kv_race.specs.Watching.{Are}
 
@@ -33,11 +32,12 @@ Begin acts answers = All (λ answer. IfOk answer (λ told. IsPrefix told.1 acts)
 
 -- a feed was followed: it is the same watch, and where it had handed out nothing, all that it has handed out by now was
 -- written down
-pub record IsFollowed (h : ℕ) (before after : Feeding) (seen : List Reply) : Type 0 where
+pub record IsFollowed (before after : Feeding) (seen : List Reply) : Type 0 where
+  pub config : after.config ≡ before.config
   pub began : after.began ≡ before.began
   pub filters : after.filters ≡ before.filters
   pub options : after.options ≡ before.options
-  pub written : before.handed ≡ 0 → Are seen (take after.handed (given_by h after))
+  pub written : before.handed ≡ 0 → Are seen (take after.handed (given_by after))
 
 -- the acts begin with those that all receipts tell
 abbrev pub BeginAll : List Act → List (List Answered) → Type 0
@@ -55,8 +55,7 @@ pub record IsShown (config : Configuration) (answers : List (List Answered)) (ac
 pub record IsEnded (config : Configuration) (answers : List (List Answered)) (feed : Feeding) (before : List Reply)
     (acts : List Act) (version : Stored) (seen : List Reply) : Type 0 where
   pub shown : IsShown config answers acts version
-  pub all : Are before (take feed.handed (given_by config.history feed)) →
-      Are seen (given config.history feed.began acts feed.filters feed.options)
+  pub all : Are before (take feed.handed (given_by feed)) → Are seen (given_by (record feed { acts = acts }))
 
 -- the last version: each of these has seen its acts, and nothing else
 pub record HasLast (config : Configuration) (answers : List (List Answered)) (each : List (List Act))

@@ -1,14 +1,16 @@
 -- What a watcher writes down.
 use Rattle.std.specs.Prelude.{◌≡◌, ◌<◌, ℕ, List, [], ◌∷◌, ◌++◌, Option, Some, None, map}
 use Rattle.kv_model.specs.Acts.{Act}
+use Rattle.kv_model.specs.Configuration.{Configuration}
 use Rattle.kv_model.specs.declared.options.Options.{Options}
 use Rattle.kv_model.specs.Given.{Item}
 use Rattle.kv_single.specs.Replies.{answer_of}
 use Rattle.kv_model.specs.Answers.{Answer, answer_item}
 use Rattle.kv_single.specs.declared.reply.Reply.{Reply}
 
--- what is watched: the acts when the watch began, the filters, and how entries are shown
+-- what is watched: the configuration of the bucket, the acts when the watch began, the filters, and how entries are shown
 pub record Watch : Type 0 where
+  pub config : Configuration
   pub began : List Act
   pub filters : List (List ℕ)
   pub options : Options

@@ -47,20 +47,20 @@ pub(crate) fn refresh<N: LiveName, R: Wait>(rt: &R, feed: &mut Feed<N>) -> Resul
 
 // It does nothing: who calls it knows that the feed has handed out no more than it is given.
 pub(crate) fn is_within<N: LiveName>(feed: &Feed<N>)
-    ensures within { feed.now.handed ≤ length (given_by N.opening.config.history feed.now) }
+    ensures within { feed.now.handed ≤ length (given_by feed.now) }
     ensures prefix { IsPrefix feed.now.began feed.now.acts }
 {
     feed.handed();
 }
 
 impl<N: LiveName> Follows for Feed<N> {
-    ghost watch = { λ feed. record { began = feed.began; filters = feed.filters; options = feed.options } };
+    ghost watch = { λ feed. record { config = feed.config; began = feed.began; filters = feed.filters; options = feed.options } };
 
     ghost place = { λ feed. record { acts = feed.acts; seen = feed.reader.seen; told = feed.reader.told } };
 
-    ghost handed_out = { λ feed. take feed.handed (given_by N.opening.config.history feed) };
+    ghost handed_out = { λ feed. take feed.handed (given_by feed) };
 
-    ghost left = { λ feed. length (given_by N.opening.config.history feed) - feed.handed };
+    ghost left = { λ feed. length (given_by feed) - feed.handed };
 
     fn rest<R: Wait>(&self, rt: &R) {
         self.wait(rt);

@@ -19,7 +19,7 @@ pub(crate) fn open_feed<N: LiveName>(
     filters: &Filters,
     options: Options,
 ) -> Result<Feed<N>, KvError>
-    ensures ok { IfOk result (λ feed. IsFresh (filters.now, options) feed) }
+    ensures ok { IfOk result (λ feed. IsFresh N.opening.config (filters.now, options) feed) }
     ensures err { IfErr result (λ e. e ≡ OutOfMemory) }
 {
     match reader.watch_from_empty(filters, options) {
@@ -36,7 +36,7 @@ pub(crate) fn open_feeds<N: LiveName, R: Wait>(
     mut readers: Vec<Reader<N>>,
     watches: &[(Filters, Options)],
 ) -> Result<(Vec<Feed<N>>, Option<Reader<N>>), KvError>
-    ensures ok { IfOk result (λ opened. AllZip IsFresh watches.now opened.0.items) }
+    ensures ok { IfOk result (λ opened. AllZip (IsFresh N.opening.config) watches.now opened.0.items) }
     ensures err { IfErr result IsUnread }
 {
     let mut feeds = Vec::new(alloc);

@@ -45,7 +45,7 @@ impl<N: LiveName> Promise<Worked<N>> for Script<N> {
 struct Followed<N: LiveName>(Snapshot<Feed<N>>);
 
 impl<N: LiveName> Promise<Watched<N>> for Followed<N> {
-    ghost kept_by = { λ p watched. IsFollowed N.opening.config.history p.0.value watched.feed watched.seen.items };
+    ghost kept_by = { λ p watched. IsFollowed p.0.value watched.feed watched.seen.items };
 }
 
 // Ends the sleeps of the watchers where it is dropped: no worker writes any more, or the race is given up.
@@ -81,7 +81,7 @@ fn run_watcher<N: LiveName, R: Wait, G: Gate>(
     feed: Feed<N>,
     gate: &G,
 ) -> Watched<N>
-    ensures { IsFollowed N.opening.config.history feed result.feed result.seen.items }
+    ensures { IsFollowed feed result.feed result.seen.items }
 {
     let mut feed = feed;
     let mut seen = Vec::new(alloc);
@@ -164,7 +164,7 @@ fn join_all<N: LiveName, R: Threads>(
         (map (λ worker. worker.promise.0.value) workers.items) done.0.items) }
     ensures watchers { IfOk result
         (λ done. AllZip
-        (λ feed watched. IsFollowed N.opening.config.history feed watched.feed watched.seen.items)
+        (λ feed watched. IsFollowed feed watched.feed watched.seen.items)
         (map (λ watcher. watcher.promise.0.value) watchers.items) done.1.items) }
     ensures err { IfErr result (λ e. e ≡ OutOfMemory) }
 {
@@ -191,7 +191,7 @@ pub(crate) fn run_all<N: LiveName + Send + Sync, R: Threads + Wait + Sync, G: Ga
         done.0.items) }
     ensures watchers { IfOk result
         (λ done. AllZip
-        (λ feed watched. IsFollowed N.opening.config.history feed watched.feed watched.seen.items) feeds.items
+        (λ feed watched. IsFollowed feed watched.feed watched.seen.items) feeds.items
         done.1.items) }
     ensures err { IfErr result (λ e. e ≡ OutOfMemory) }
 {
@@ -207,7 +207,7 @@ pub(crate) fn run_all<N: LiveName + Send + Sync, R: Threads + Wait + Sync, G: Ga
                 scripts.entry.now done.0.items) }
             ensures watchers { IfOk result
                 (λ done. AllZip
-                (λ feed watched. IsFollowed N.opening.config.history feed watched.feed watched.seen.items)
+                (λ feed watched. IsFollowed feed watched.feed watched.seen.items)
                 feeds.items done.1.items) }
             ensures err { IfErr result (λ e. e ≡ OutOfMemory) }
         {

@@ -22,8 +22,9 @@ pub record IsFed (config : Configuration) (reader : Known) (began : List Act) (c
   pub seen : IsPrefix (acts_on current) reader.seen
   pub reach : HasHanded began (acts_on current) watch.cursor.handed current.version watch
 
-abbrev pub feeding_of : Known → List Act → Published → Following → Feeding
-feeding_of reader began current cursor = record {
+abbrev pub feeding_of : Configuration → Known → List Act → Published → Following → Feeding
+feeding_of config reader began current cursor = record {
+  config = config;
   reader = reader;
   began = began;
   acts = acts_on current;
@@ -33,8 +34,9 @@ feeding_of reader began current cursor = record {
 }
 
 -- a feed that begins with these acts and has handed out nothing
-abbrev pub opened : Known → List Act → List (List ℕ) → Options → Feeding
-opened reader acts filters options = record {
+abbrev pub opened : Configuration → Known → List Act → List (List ℕ) → Options → Feeding
+opened config reader acts filters options = record {
+  config = config;
   reader = reader;
   began = acts;
   acts = acts;
@@ -45,10 +47,9 @@ opened reader acts filters options = record {
 
 -- whether a feed that is on this publication with this watch lags behind a floor
 abbrev pub TellsLag : Published → Watching → ℕ → Bool → Type 0
-TellsLag current watch floor answer = (feed : Feeding) → feed.acts ≡ acts_on current →
-    feed.filters ≡ watch.cursor.filters → feed.options ≡ watch.cursor.options →
-    HasHanded feed.began feed.acts feed.handed current.version watch →
-    answer ≡ lags watch.opening.config.history floor feed
+TellsLag current watch floor answer = (feed : Feeding) → feed.config ≡ watch.opening.config →
+    feed.acts ≡ acts_on current → feed.filters ≡ watch.cursor.filters → feed.options ≡ watch.cursor.options →
+    HasHanded feed.began feed.acts feed.handed current.version watch → answer ≡ lags floor feed
 
 -- the same where there may be no feed, which lags behind nothing
 abbrev pub TellsLagOf : Option (Published × Watching) → ℕ → Bool → Type 0

@@ -25,7 +25,7 @@ returns-clause-ok g c =
     let heard = c.hear_all.new.feed in
     let went = c.refresh.new.feed in
     let last = c.collect.new.feed in
-    let within : heard.handed ≤ length (given_by config.history heard) = c.is_within.ensures.within in
+    let within : heard.handed ≤ length (given_by heard) = c.is_within.ensures.within in
     IfOk-weaker c.version.result _ (λ version. IsEnded config _ c.args.feed.now c.args.seen.now.items last.reader.seen version c.collect.new.seen.items)
     (λ version shows. ended config _ c.args.feed.now heard went last last.reader.seen
     c.hear_all.ensures.heard c.hear_all.ensures.told c.in_ok-refresh.ensures.ok c.collect.ensures.place refl

@@ -5,4 +5,4 @@ use Rattle.kv_race.proofs.opening.open_feeds.Given as goal
 
 -- the watches so far have begun
 abbrev pub invariant-loop-n : goal.invariant-loop-n
-invariant-loop-n g l = AllZip IsFresh (take l.n l.watches) l.feeds.items
+invariant-loop-n g l = AllZip (IsFresh g.N.LiveName.opening.config) (take l.n l.watches) l.feeds.items

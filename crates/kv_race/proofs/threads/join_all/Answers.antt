@@ -17,10 +17,9 @@ returns-clause-workers g c =
 
 pub returns-clause-watchers : goal.returns-clause-watchers
 returns-clause-watchers g c =
-    let config = g.N.LiveName.opening.config in
     let watchers = c.args.watchers in
     let watched = c.in_ok-watched.watched in
     let all_followed : length watched.items ≡ length watchers.items = omega (arith, c.in_ok-watched.ensures.len) in
     let each_watcher : length watchers.items ≤ vec_len watchers = omega arith in
-    zip_kept _ (λ p. p.0.value) (λ feed one. IsFollowed config.history feed one.feed one.seen.items) _ watchers.items watched.items (vec_len watchers)
+    zip_kept _ (λ p. p.0.value) (λ feed one. IsFollowed feed one.feed one.seen.items) _ watchers.items watched.items (vec_len watchers)
     refl all_followed each_watcher c.in_ok-watched.ensures.each (λ p r kept. kept)
