@@ -1,19 +1,21 @@
 -- How many members and items an answer has.
-use Rattle.std.proofs.Common.{◌≡◌, ℕ, zero, suc, ◌+◌, ◌-◌, ◌<◌, ◌≤◌, List, [], ◌∷◌, length, map, refl, ap, arith}
+use Rattle.std.proofs.Common.{◌≡◌, ℕ, zero, suc, ◌+◌, ◌-◌, ◌<◌, ◌≤◌, List, [], ◌∷◌, Some, None, length, filter, map, refl, ap, arith}
 use Rattle.serde_json.specs.Data.{number, unsigned, item, no_items}
 use Rattle.serde_json.specs.Events.{items_len, members_len}
 use Rattle.kv_model.specs.Given.{Entry}
 use Rattle.kv_script.specs.declared.answering.field.Field.{Field}
-use Rattle.kv_script.specs.declared.answering.field.Field.TheVariants.{Number, Text, Truth}
+use Rattle.kv_script.specs.declared.answering.field.Field.TheVariants.{Number, Optional, Text, Truth}
 use Rattle.kv_script.specs.declared.form.Form.{Form}
 use Rattle.kv_script.specs.inside.Fields.{entry_items, key_items, number_items}
-use Rattle.kv_script.specs.inside.Objects.{fields_of}
+use Rattle.kv_script.specs.inside.Objects.{fields_of, is_there}
 use Rattle.kv_script.specs.inside.Showing.{listed_revisions}
 use Rattle.kv_script.specs.Text.{revisions_behind}
 
-pub fields_count : (fields : List Field) → length fields ≡ members_len (fields_of fields)
+pub fields_count : (fields : List Field) → length (filter is_there fields) ≡ members_len (fields_of fields)
 fields_count [] = refl
 fields_count (Number name n ∷ fields) = ap suc (fields_count fields)
+fields_count (Optional name None ∷ fields) = fields_count fields
+fields_count (Optional name (Some n) ∷ fields) = ap suc (fields_count fields)
 fields_count (Text name text ∷ fields) = ap suc (fields_count fields)
 fields_count (Truth name truth ∷ fields) = ap suc (fields_count fields)
 

@@ -11,7 +11,7 @@ use Rattle.kv_keys.specs.declared.error.KvError.{KvError}
 use Rattle.kv_keys.specs.declared.error.KvError.TheVariants.{OutOfMemory, BadBucket, BadConfig, BadKey, BadFilter, OptionsClash, ValueTooLarge, Sealed, JournalFull, KeyExists, WrongLastRevision, KeyNotFound, NoSuchWatch, TooManyWatches, NoReader, BadCommand, ReadFault, WriteFault, BadFloor, WatchBehind, Lagged}
 use Rattle.kv_model.specs.declared.status.Status.{Status}
 use Rattle.kv_model.specs.Given.{Entry}
-use Rattle.kv_script.specs.inside.Fields.{number_field, base64_field, base64_fields, value_field, value_fields, entry_fields, entry_object, entry_items, key_items, watch_field, worker_field, sealed_fields, compacted_fields, marker_fields, empty_fields, stopped_fields, status_fields, place_fields, detail_fields, refusal_fields, placed_fields, number_items, list_fields}
+use Rattle.kv_script.specs.inside.Fields.{number_field, base64_field, base64_fields, value_field, value_fields, entry_fields, entry_object, entry_items, key_items, watch_field, worker_field, sealed_fields, compacted_fields, marker_fields, empty_fields, stopped_fields, status_fields, place_fields, detail_fields, refusal_fields, told_fields, number_items, list_fields}
 use Rattle.kv_script.specs.declared.form.Form.{Form}
 use Rattle.kv_script.specs.declared.form.Form.TheVariants.{Base64, Text}
 use Rattle.kv_script.specs.Line.{Member, object_text, array_text, line}
@@ -162,10 +162,10 @@ pub worker_refusal_line : (worker : ℕ) (error : KvError) → line (compact_tex
 unfolding serde_json_on_literals worker_refusal_text
 worker_refusal_line worker error = ap line (refusal_compact error (worker_field worker) (worker_members worker) (refl, refl, tt))
 
-pub batch_refusal_line : (place : ℕ) (error : KvError) → line (compact_text (object (placed_fields place error))) ≡ batch_refusal_text place error
+pub batch_refusal_line : (place : ℕ) (error : KvError) → line (compact_text (object (told_fields (Some place) error None))) ≡ batch_refusal_text place error
 unfolding serde_json_on_literals batch_refusal_text
 batch_refusal_line place error =
-    ap line (compact-object (placed_fields place error) ((codes "at", decimal place) ∷ refusal_members error [])
+    ap line (compact-object (told_fields (Some place) error None) ((codes "at", decimal place) ∷ refusal_members error [])
     (refl, refl, (refl, refl, (refl, refl, detail_are error no_members [] tt))))
 
 numbers_are : (ns : List ℕ) → AreItems (number_items ns) (map decimal ns)

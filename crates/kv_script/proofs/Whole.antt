@@ -5,7 +5,7 @@ use Rattle.serde_json.specs.Data.{Members, no_members, object}
 use Rattle.serde_json.specs.Written.{has_float, members_have_float, items_have_float}
 use Rattle.kv_model.specs.Given.{Entry}
 use Rattle.kv_script.specs.declared.answering.field.Field.{Field}
-use Rattle.kv_script.specs.declared.answering.field.Field.TheVariants.{Number, Truth}
+use Rattle.kv_script.specs.declared.answering.field.Field.TheVariants.{Number, Optional, Truth}
 use Rattle.kv_script.specs.declared.answering.field.Field.TheVariants as fields
 use Rattle.kv_script.specs.declared.form.Form.{Form}
 use Rattle.kv_script.specs.declared.form.Form.TheVariants.{Base64, Text}
@@ -15,6 +15,8 @@ use Rattle.kv_script.specs.inside.Objects.{fields_of}
 pub fields_whole : (fields : List Field) → members_have_float (fields_of fields) ≡ false
 fields_whole [] = refl
 fields_whole (Number name n ∷ fields) = fields_whole fields
+fields_whole (Optional name None ∷ fields) = fields_whole fields
+fields_whole (Optional name (Some n) ∷ fields) = fields_whole fields
 fields_whole (fields.Text name text ∷ fields) = fields_whole fields
 fields_whole (Truth name truth ∷ fields) = fields_whole fields
 

@@ -17,6 +17,11 @@ use Rattle.kv_script.specs.declared.form.Form.TheVariants.{Base64, Text}
 abbrev pub number_field : List ℕ → ℕ → Members → Members
 number_field name n more = member name (number (unsigned n)) more
 
+-- a number, where there is one
+abbrev pub optional_field : List ℕ → Option ℕ → Members → Members
+optional_field name None more = more
+optional_field name (Some n) more = number_field name n more
+
 -- what an entry has but for its value
 abbrev pub head_fields : List ℕ → Op → ℕ → ℕ → Members → Members
 head_fields key op revision size more =
@@ -100,31 +105,21 @@ status_fields bucket status watches =
 abbrev pub place_fields : ℕ → Members
 place_fields place = member (codes "place") (string (place_digits place)) no_members
 
-abbrev pub plain_fields : KvError → Members → Members
-plain_fields error more = number_field (codes "code") (code_of error)
-    (member (codes "error") (string (name_of error)) more)
-
-abbrev pub last_field : ℕ → Members → Members
-last_field last more = number_field (codes "last") last more
-
-abbrev pub behind_field : ℕ → Members → Members
-behind_field watch more = number_field (codes "watch") watch more
-
-abbrev pub floor_field : ℕ → Members → Members
-floor_field floor more = number_field (codes "floor") floor more
-
+-- the number that a refusal carries
 abbrev pub detail_fields : KvError → Members → Members
-detail_fields (WrongLastRevision last) more = last_field last more
-detail_fields (WatchBehind watch) more = behind_field watch more
-detail_fields (Lagged floor) more = floor_field floor more
+detail_fields (WrongLastRevision last) more = number_field (codes "last") last more
+detail_fields (WatchBehind watch) more = number_field (codes "watch") watch more
+detail_fields (Lagged floor) more = number_field (codes "floor") floor more
 detail_fields error more = more
 
 abbrev pub refusal_fields : KvError → Members → Members
-refusal_fields error more = plain_fields error (detail_fields error more)
+refusal_fields error more = number_field (codes "code") (code_of error)
+    (member (codes "error") (string (name_of error)) (detail_fields error more))
 
--- a refusal, and in front of it the place that it tells of
-abbrev pub placed_fields : ℕ → KvError → Members
-placed_fields place error = number_field (codes "at") place (refusal_fields error no_members)
+-- a refusal, with the place that it tells of, if it tells of one, and the worker that it is of, if it is of one
+abbrev pub told_fields : Option ℕ → KvError → Option ℕ → Members
+told_fields at error worker = optional_field (codes "at") at
+    (refusal_fields error (optional_field (codes "worker") worker no_members))
 
 abbrev pub list_fields : List ℕ → Items → Members
 list_fields name items = member name (array items) no_members

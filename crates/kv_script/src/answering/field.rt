@@ -1,11 +1,11 @@
 //! Objects of JSON with a few members.
 
-ghost use Rattle.std.specs.Prelude.{◌≡◌, ◌++◌, OnOk, OnErr};
+ghost use Rattle.std.specs.Prelude.{◌≡◌, ◌++◌, OnOk, OnErr, count_by};
 ghost use Rattle.serde_json.specs.Data.{object, string, boolean, member};
 ghost use Rattle.serde_json.specs.Events.{SendsValue};
 ghost use Rattle.serde_json.specs.Written.{compact_text};
-ghost use Rattle.kv_script.specs.inside.Fields.{number_field};
-ghost use Rattle.kv_script.specs.inside.Objects.{field_of, fields_of};
+ghost use Rattle.kv_script.specs.inside.Fields.{number_field, optional_field};
+ghost use Rattle.kv_script.specs.inside.Objects.{field_of, fields_of, is_there};
 ghost use Rattle.kv_script.specs.inside.Sends.{SendsFront};
 ghost use Rattle.kv_script.specs.Line.{line};
 
@@ -18,6 +18,8 @@ use std::alloc::{AllocError, Global};
 #[derive(Clone, Copy)]
 pub(crate) enum Field<'a> {
     Number(&'a str, u64),
+    // A number, where there is one; else no member.
+    Optional(&'a str, Option<u64>),
     Text(&'a str, &'a str),
     Truth(&'a str, bool),
 }
@@ -60,14 +62,37 @@ fn send_truth<S: Serializer>(out: &mut S, name: &str, truth: bool) -> Result<(),
     Ok(())
 }
 
+fn send_optional<S: Serializer>(out: &mut S, name: &str, n: Option<u64>) -> Result<(), Unsent>
+    ensures { OnOk result (SendsFront (optional_field name.now n) (S.written out.old) (S.written out.new)) }
+{
+    match n {
+        Some(n) => send_number(out, name, n),
+        None => Ok(()),
+    }
+}
+
 fn send_field<S: Serializer>(out: &mut S, field: Field<'_>) -> Result<(), Unsent>
     ensures { OnOk result (SendsFront (field_of field.entry) (S.written out.old) (S.written out.new)) }
 {
     match field {
         Field::Number(name, n) => send_number(out, name, n),
+        Field::Optional(name, n) => send_optional(out, name, n),
         Field::Text(name, text) => send_text(out, name, text),
         Field::Truth(name, truth) => send_truth(out, name, truth),
     }
+}
+
+fn is_there(field: &Field<'_>) -> bool
+    ensures { result ≡ is_there field.now }
+{
+    !matches!(field, Field::Optional(_, None))
+}
+
+// How many members there are.
+fn count(fields: &[Field<'_>]) -> usize
+    ensures { result ≡ count_by is_there fields.now }
+{
+    fields.iter().filter(|field| is_there(field)).count()
 }
 
 // An object with these members.
@@ -80,7 +105,7 @@ impl Described for Object<'_> {
 
 impl Serialize for Object<'_> {
     fn serialize<S: Serializer>(&self, out: &mut S) -> Result<(), S::Error> {
-        out.begin_map(Some(self.0.len()))?;
+        out.begin_map(Some(count(self.0)))?;
         for field in self.0 {
             let Ok(()) = send_field(out, *field) else {
                 return Err(out.custom("unsent"));

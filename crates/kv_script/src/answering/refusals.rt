@@ -1,9 +1,9 @@
 //! Refusals.
 
-ghost use Rattle.std.specs.Prelude.{◌≡◌, ◌++◌, OnOk, OnErr, codes};
-ghost use Rattle.serde_json.specs.Data.{object, no_members};
+ghost use Rattle.std.specs.Prelude.{◌≡◌, ◌++◌, OnOk, OnErr};
+ghost use Rattle.serde_json.specs.Data.{Members, object};
 ghost use Rattle.serde_json.specs.Written.{compact_text};
-ghost use Rattle.kv_script.specs.inside.Fields.{number_field, worker_field, placed_fields, plain_fields, refusal_fields};
+ghost use Rattle.kv_script.specs.inside.Fields.{detail_fields, optional_field, told_fields};
 ghost use Rattle.kv_script.specs.Line.{line};
 ghost use Rattle.kv_script.specs.Text.{batch_refusal_text, refusal_text, worker_refusal_text};
 
@@ -11,56 +11,42 @@ use crate::answering::field::{Field, append_object};
 use kv_keys::KvError;
 use std::alloc::{AllocError, Global};
 
-fn append_plain(alloc: Global, out: &mut Vec<u8>, error: KvError) -> Result<(), AllocError>
-    ensures ok { OnOk result (out.new.items
-        ≡ out.old.items ++ line (compact_text (object (plain_fields error no_members)))) }
-    ensures err { OnErr result (out.new.items ≡ out.old.items) }
-{
-    append_object(
-        alloc,
-        out,
-        &[
-            Field::Number("code", error.code()),
-            Field::Text("error", error.name()),
-        ],
-    )
-}
-
-// A refusal that carries a number of this name.
-fn append_carrying(
-    alloc: Global,
-    out: &mut Vec<u8>,
-    error: KvError,
-    name: &str,
-    n: u64,
-) -> Result<(), AllocError>
-    ensures ok { OnOk result (out.new.items
-        ≡ out.old.items ++ line (compact_text (object (plain_fields error (number_field name.now n no_members))))) }
-    ensures err { OnErr result (out.new.items ≡ out.old.items) }
-{
-    append_object(
-        alloc,
-        out,
-        &[
-            Field::Number("code", error.code()),
-            Field::Text("error", error.name()),
-            Field::Number(name, n),
-        ],
-    )
-}
-
-// What a refusal says, by the number that it carries.
-fn append_said(alloc: Global, out: &mut Vec<u8>, error: KvError) -> Result<(), AllocError>
-    ensures ok { OnOk result (out.new.items
-        ≡ out.old.items ++ line (compact_text (object (refusal_fields error no_members)))) }
-    ensures err { OnErr result (out.new.items ≡ out.old.items) }
+// The number that a refusal carries, if it carries one, and its name.
+fn carried(error: KvError) -> (&'static str, Option<u64>)
+    ensures { (more : Members) → optional_field result.0.now result.1 more ≡ detail_fields error more }
 {
     match error {
-        KvError::WrongLastRevision { last } => append_carrying(alloc, out, error, "last", last),
-        KvError::WatchBehind { watch } => append_carrying(alloc, out, error, "watch", watch),
-        KvError::Lagged { floor } => append_carrying(alloc, out, error, "floor", floor),
-        _ => append_plain(alloc, out, error),
+        KvError::WrongLastRevision { last } => ("last", Some(last)),
+        KvError::WatchBehind { watch } => ("watch", Some(watch)),
+        KvError::Lagged { floor } => ("floor", Some(floor)),
+        _ => ("", None),
     }
+}
+
+// A refusal, of one line of a batch or of a worker of a race, if it is of either.
+fn append_told(
+    alloc: Global,
+    out: &mut Vec<u8>,
+    at: Option<u64>,
+    error: KvError,
+    worker: Option<u64>,
+) -> Result<(), AllocError>
+    ensures ok { OnOk result (out.new.items
+        ≡ out.old.items ++ line (compact_text (object (told_fields at error worker)))) }
+    ensures err { OnErr result (out.new.items ≡ out.old.items) }
+{
+    let (name, number) = carried(error);
+    append_object(
+        alloc,
+        out,
+        &[
+            Field::Optional("at", at),
+            Field::Number("code", error.code()),
+            Field::Text("error", error.name()),
+            Field::Optional(name, number),
+            Field::Optional("worker", worker),
+        ],
+    )
 }
 
 /// A refusal, with its number and its name, and the number that it carries.
@@ -69,56 +55,7 @@ pub fn append_refusal(alloc: Global, out: &mut Vec<u8>, error: KvError) -> Resul
     ensures ok { OnOk result (out.new.items ≡ out.old.items ++ refusal_text error) }
     ensures err { OnErr result (out.new.items ≡ out.old.items) }
 {
-    append_said(alloc, out, error)
-}
-
-fn append_carrying_of_worker(
-    alloc: Global,
-    out: &mut Vec<u8>,
-    worker: u64,
-    error: KvError,
-    name: &str,
-    n: u64,
-) -> Result<(), AllocError>
-    ensures ok { OnOk result (out.new.items
-        ≡ out.old.items ++ line (compact_text (object (plain_fields error
-        (number_field name.now n (worker_field worker)))))) }
-    ensures err { OnErr result (out.new.items ≡ out.old.items) }
-{
-    append_object(
-        alloc,
-        out,
-        &[
-            Field::Number("code", error.code()),
-            Field::Text("error", error.name()),
-            Field::Number(name, n),
-            Field::Number("worker", worker),
-        ],
-    )
-}
-
-fn append_said_of_worker(
-    alloc: Global,
-    out: &mut Vec<u8>,
-    worker: u64,
-    error: KvError,
-) -> Result<(), AllocError>
-    ensures ok { OnOk result (out.new.items
-        ≡ out.old.items ++ line (compact_text (object (refusal_fields error (worker_field worker))))) }
-    ensures err { OnErr result (out.new.items ≡ out.old.items) }
-{
-    match error {
-        KvError::WrongLastRevision { last } => {
-            append_carrying_of_worker(alloc, out, worker, error, "last", last)
-        }
-        KvError::WatchBehind { watch } => {
-            append_carrying_of_worker(alloc, out, worker, error, "watch", watch)
-        }
-        KvError::Lagged { floor } => {
-            append_carrying_of_worker(alloc, out, worker, error, "floor", floor)
-        }
-        _ => append_carrying(alloc, out, error, "worker", worker),
-    }
+    append_told(alloc, out, None, error, None)
 }
 
 /// A refusal of a worker of a race. Workers count from 1.
@@ -132,76 +69,7 @@ pub fn append_worker_refusal(
     ensures ok { OnOk result (out.new.items ≡ out.old.items ++ worker_refusal_text worker error) }
     ensures err { OnErr result (out.new.items ≡ out.old.items) }
 {
-    append_said_of_worker(alloc, out, worker, error)
-}
-
-fn append_carrying_at(
-    alloc: Global,
-    out: &mut Vec<u8>,
-    place: u64,
-    error: KvError,
-    name: &str,
-    n: u64,
-) -> Result<(), AllocError>
-    ensures ok { OnOk result (out.new.items
-        ≡ out.old.items ++ line (compact_text (object (number_field (codes "at") place
-        (plain_fields error (number_field name.now n no_members)))))) }
-    ensures err { OnErr result (out.new.items ≡ out.old.items) }
-{
-    append_object(
-        alloc,
-        out,
-        &[
-            Field::Number("at", place),
-            Field::Number("code", error.code()),
-            Field::Text("error", error.name()),
-            Field::Number(name, n),
-        ],
-    )
-}
-
-fn append_plain_at(
-    alloc: Global,
-    out: &mut Vec<u8>,
-    place: u64,
-    error: KvError,
-) -> Result<(), AllocError>
-    ensures ok { OnOk result (out.new.items
-        ≡ out.old.items ++ line (compact_text (object (number_field (codes "at") place
-        (plain_fields error no_members))))) }
-    ensures err { OnErr result (out.new.items ≡ out.old.items) }
-{
-    append_object(
-        alloc,
-        out,
-        &[
-            Field::Number("at", place),
-            Field::Number("code", error.code()),
-            Field::Text("error", error.name()),
-        ],
-    )
-}
-
-fn append_said_at(
-    alloc: Global,
-    out: &mut Vec<u8>,
-    place: u64,
-    error: KvError,
-) -> Result<(), AllocError>
-    ensures ok { OnOk result (out.new.items
-        ≡ out.old.items ++ line (compact_text (object (placed_fields place error)))) }
-    ensures err { OnErr result (out.new.items ≡ out.old.items) }
-{
-    match error {
-        KvError::WrongLastRevision { last } => {
-            append_carrying_at(alloc, out, place, error, "last", last)
-        }
-        KvError::WatchBehind { watch } => {
-            append_carrying_at(alloc, out, place, error, "watch", watch)
-        }
-        KvError::Lagged { floor } => append_carrying_at(alloc, out, place, error, "floor", floor),
-        _ => append_plain_at(alloc, out, place, error),
-    }
+    append_told(alloc, out, None, error, Some(worker))
 }
 
 /// A batch that is refused for one of its lines, by the place of that line, from 1.
@@ -215,5 +83,5 @@ pub fn append_batch_refusal(
     ensures ok { OnOk result (out.new.items ≡ out.old.items ++ batch_refusal_text place error) }
     ensures err { OnErr result (out.new.items ≡ out.old.items) }
 {
-    append_said_at(alloc, out, place, error)
+    append_told(alloc, out, Some(place), error, None)
 }

@@ -1,8 +1,8 @@
 //! Lines whose values stand in them as they are.
 
-ghost use Rattle.std.specs.Prelude.{◌≡◌, IfOk};
-ghost use Rattle.kv_model.specs.Requests.{put, create};
-ghost use Rattle.kv_script.specs.Commands.{Gives, put_text_command, update_text_command, text_command};
+ghost use Rattle.std.specs.Prelude.{◌≡◌, ℕ, List, Ok, IfOk, IfErr};
+ghost use Rattle.kv_model.specs.Requests.{Asked, put, create};
+ghost use Rattle.kv_script.specs.Commands.{Fails, Gives, Write, put_text_command, update_text_command, text_command};
 ghost use Rattle.kv_script.specs.Words.{words_of};
 
 use crate::parsing::command::Command;
@@ -20,10 +20,13 @@ fn bytes_of(alloc: Global, text: &str) -> Result<Vec<u8>, AllocError>
     Vec::from_slice(alloc, text.as_bytes())
 }
 
-/// `put K VALUE`
+// The key and the value behind `put` or `create`.
 #[tactic(auto, using(crate::proofs::Spaced::put_text))]
-fn put_command(alloc: Global, arguments: &str) -> Result<Command, KvError>
-    ensures { Gives result (put_text_command put (words_of arguments.now)) }
+fn key_and_text(alloc: Global, arguments: &str) -> Result<(Key, Vec<u8>), KvError>
+    ensures ok { IfOk result (λ pair. (makes : List ℕ → List ℕ → Asked) →
+        put_text_command makes (words_of arguments.now) ≡ Ok (Write (makes pair.0 pair.1.items))) }
+    ensures err { IfErr result (λ e. (makes : List ℕ → List ℕ → Asked) →
+        Fails e (put_text_command makes (words_of arguments.now))) }
 {
     let Some((key, text)) = split_word(arguments) else {
         return Err(KvError::BadCommand);
@@ -33,22 +36,22 @@ fn put_command(alloc: Global, arguments: &str) -> Result<Command, KvError>
     }
     let key = Key::parse(alloc, key)?;
     let value = bytes_of(alloc, text)?;
+    Ok((key, value))
+}
+
+/// `put K VALUE`
+fn put_command(alloc: Global, arguments: &str) -> Result<Command, KvError>
+    ensures { Gives result (put_text_command put (words_of arguments.now)) }
+{
+    let (key, value) = key_and_text(alloc, arguments)?;
     Ok(Command::Write(Request::Put { key, value }))
 }
 
 /// `create K VALUE`
-#[tactic(auto, using(crate::proofs::Spaced::put_text))]
 fn create_command(alloc: Global, arguments: &str) -> Result<Command, KvError>
     ensures { Gives result (put_text_command create (words_of arguments.now)) }
 {
-    let Some((key, text)) = split_word(arguments) else {
-        return Err(KvError::BadCommand);
-    };
-    if key.is_empty() {
-        return Err(KvError::BadCommand);
-    }
-    let key = Key::parse(alloc, key)?;
-    let value = bytes_of(alloc, text)?;
+    let (key, value) = key_and_text(alloc, arguments)?;
     Ok(Command::Write(Request::Create { key, value }))
 }
 
