@@ -20,52 +20,35 @@ use Rattle.kv_model.specs.declared.request.Request.{Request}
 use Rattle.kv_model.proofs.NoMemory.{accept_no}
 use Rattle.kv_model.proofs.Numbered.{accepted_is_next, writes_of-wrote}
 
--- a refusal that is none of memory is the outcome
+-- a refusal that is none of memory is the outcome, and the other way round
+refuses_is : {X : Type 0} (e : KvError) (outcome : Result X KvError) → (e ≡ OutOfMemory → ⊥) → (Refuses e outcome → outcome ≡ Err e) × (outcome ≡ Err e → Refuses e outcome)
+refuses_is {X} OutOfMemory outcome other = absurd (other refl)
+refuses_is {X} BadBucket outcome other = (λ h. h, λ h. h)
+refuses_is {X} BadConfig outcome other = (λ h. h, λ h. h)
+refuses_is {X} BadKey outcome other = (λ h. h, λ h. h)
+refuses_is {X} BadFilter outcome other = (λ h. h, λ h. h)
+refuses_is {X} OptionsClash outcome other = (λ h. h, λ h. h)
+refuses_is {X} ValueTooLarge outcome other = (λ h. h, λ h. h)
+refuses_is {X} Sealed outcome other = (λ h. h, λ h. h)
+refuses_is {X} JournalFull outcome other = (λ h. h, λ h. h)
+refuses_is {X} KeyExists outcome other = (λ h. h, λ h. h)
+refuses_is {X} (WrongLastRevision last) outcome other = (λ h. h, λ h. h)
+refuses_is {X} KeyNotFound outcome other = (λ h. h, λ h. h)
+refuses_is {X} NoSuchWatch outcome other = (λ h. h, λ h. h)
+refuses_is {X} TooManyWatches outcome other = (λ h. h, λ h. h)
+refuses_is {X} NoReader outcome other = (λ h. h, λ h. h)
+refuses_is {X} BadCommand outcome other = (λ h. h, λ h. h)
+refuses_is {X} ReadFault outcome other = (λ h. h, λ h. h)
+refuses_is {X} WriteFault outcome other = (λ h. h, λ h. h)
+refuses_is {X} BadFloor outcome other = (λ h. h, λ h. h)
+refuses_is {X} (WatchBehind watch) outcome other = (λ h. h, λ h. h)
+refuses_is {X} (Lagged floor) outcome other = (λ h. h, λ h. h)
+
 pub outcome_of : {X : Type 0} (e : KvError) (outcome : Result X KvError) → Refuses e outcome → (e ≡ OutOfMemory → ⊥) → outcome ≡ Err e
-outcome_of {X} OutOfMemory outcome h other = absurd (other refl)
-outcome_of {X} BadBucket outcome h other = h
-outcome_of {X} BadConfig outcome h other = h
-outcome_of {X} BadKey outcome h other = h
-outcome_of {X} BadFilter outcome h other = h
-outcome_of {X} OptionsClash outcome h other = h
-outcome_of {X} ValueTooLarge outcome h other = h
-outcome_of {X} Sealed outcome h other = h
-outcome_of {X} JournalFull outcome h other = h
-outcome_of {X} KeyExists outcome h other = h
-outcome_of {X} (WrongLastRevision last) outcome h other = h
-outcome_of {X} KeyNotFound outcome h other = h
-outcome_of {X} NoSuchWatch outcome h other = h
-outcome_of {X} TooManyWatches outcome h other = h
-outcome_of {X} NoReader outcome h other = h
-outcome_of {X} BadCommand outcome h other = h
-outcome_of {X} ReadFault outcome h other = h
-outcome_of {X} WriteFault outcome h other = h
-outcome_of {X} BadFloor outcome h other = h
-outcome_of {X} (WatchBehind watch) outcome h other = h
-outcome_of {X} (Lagged floor) outcome h other = h
+outcome_of {X} e outcome h other = (refuses_is e outcome other).0 h
 
 refuses_outcome : {X : Type 0} (e : KvError) (outcome : Result X KvError) → outcome ≡ Err e → (e ≡ OutOfMemory → ⊥) → Refuses e outcome
-refuses_outcome {X} OutOfMemory outcome h other = absurd (other refl)
-refuses_outcome {X} BadBucket outcome h other = h
-refuses_outcome {X} BadConfig outcome h other = h
-refuses_outcome {X} BadKey outcome h other = h
-refuses_outcome {X} BadFilter outcome h other = h
-refuses_outcome {X} OptionsClash outcome h other = h
-refuses_outcome {X} ValueTooLarge outcome h other = h
-refuses_outcome {X} Sealed outcome h other = h
-refuses_outcome {X} JournalFull outcome h other = h
-refuses_outcome {X} KeyExists outcome h other = h
-refuses_outcome {X} (WrongLastRevision last) outcome h other = h
-refuses_outcome {X} KeyNotFound outcome h other = h
-refuses_outcome {X} NoSuchWatch outcome h other = h
-refuses_outcome {X} TooManyWatches outcome h other = h
-refuses_outcome {X} NoReader outcome h other = h
-refuses_outcome {X} BadCommand outcome h other = h
-refuses_outcome {X} ReadFault outcome h other = h
-refuses_outcome {X} WriteFault outcome h other = h
-refuses_outcome {X} BadFloor outcome h other = h
-refuses_outcome {X} (WatchBehind watch) outcome h other = h
-refuses_outcome {X} (Lagged floor) outcome h other = h
+refuses_outcome {X} e outcome h other = (refuses_is e outcome other).1 h
 
 abbrev pub refused_at : ℕ → KvError → BatchRefused
 refused_at at error = record { at = at; error = error }
