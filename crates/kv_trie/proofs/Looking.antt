@@ -2,7 +2,7 @@
 use Rattle.std.proofs.Common.{false, ◌≡◌, ℕ, suc, ◌+◌, ◌<◌, List, ◌∷◌, length, drop, get_or, map, Option, Some, None, refl, sym, ap, ◌∙◌, arith}
 use Rattle.std.specs.List.{slice_get}
 use Rattle.std.specs.Option.{is_some}
-use Rattle.std.proofs.lemmas.List.{drop_more, get_or-map}
+use Rattle.std.proofs.lemmas.List.{drop_more, get_or-map, length-map}
 use Rattle.std.proofs.lemmas.Option.{slice_get_read}
 use Rattle.kv_trie.specs.declared.node.Node.{Node}
 use Rattle.kv_trie.specs.Form.{Shape, Slots, leaf, branch, more, whole}
@@ -55,3 +55,11 @@ module _ {P : Type 0} (cs : List (Option (Shape P))) where
 -- the shape of the child at an index
 pub stands : {K V : Type 0} (children : List (Node K V)) (at : ℕ) (c node : Node K V) (s : Option (Shape (K × V))) → at < length children → get_or children at c ≡ node → shape_of node ≡ s → get_or (map shape_of children) at s ≡ s
 stands children at c node s l e h = get_or-map shape_of children at c s l ∙ ap shape_of e ∙ h
+
+-- one more child that stands there makes a branch
+pub one_more : {K V : Type 0} (children : List (Node K V)) (o : Option ℕ) (at : ℕ) (c node : Node K V) (a : Shape (K × V)) → IsOnly (map shape_of children) o at → at < length children → get_or children at c ≡ node → shape_of node ≡ Some a
+    → ((rest : Slots (K × V)) → o ≡ None → whole (more at a rest) ≡ Some (branch (more at a rest)))
+    → whole (slots_from 0 (map shape_of children)) ≡ Some (branch (slots_from 0 (map shape_of children)))
+one_more children o at c node a h l e s m =
+    let mapped : at < length (map shape_of children) = omega (arith, l, length-map children shape_of) in
+    many (map shape_of children) o at a h mapped (stands children at c node (Some a) l e s) m
