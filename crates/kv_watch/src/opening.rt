@@ -4,10 +4,10 @@ ghost use Rattle.std.specs.Prelude.{◌≡◌, false, List, filter, reverse, IfO
 ghost use Rattle.std.specs.Option.{option_map_or};
 ghost use Rattle.kv_model.specs.Acts.{Act, is_put};
 ghost use Rattle.kv_model.specs.Retained.{revisions};
-ghost use Rattle.kv_model.specs.Given.{all_shown, ending, initial, item_revisions, matching};
+ghost use Rattle.kv_model.specs.Given.{all_shown, ending, item_revisions};
 ghost use Rattle.kv_store.specs.Standing.{StandsFor};
 ghost use Rattle.kv_watch.specs.Following.{marker_if};
-ghost use Rattle.kv_watch.specs.inside.Showing.{is_put_at};
+ghost use Rattle.kv_watch.specs.inside.Showing.{initial_matching, is_put_at};
 
 use kv_keys::Filters;
 use kv_model::{Options, Start};
@@ -24,8 +24,7 @@ pub(crate) fn owed_at_opening(
 ) -> Result<Vec<u64>, AllocError>
     ensures { IfOk result (λ owed. (acts : List Act) → StandsFor acts base.now →
         reverse owed.items
-        ≡ item_revisions (all_shown options (matching filters.now
-        (initial base.now.config.history options.start acts)))) }
+        ≡ item_revisions (all_shown options (initial_matching base.now filters.now options.start acts))) }
 {
     let mut owed = shown_revisions(alloc, base, filters, options)?;
     owed.reverse();
@@ -53,8 +52,7 @@ fn shown_revisions(
 ) -> Result<Vec<u64>, AllocError>
     ensures { IfOk result (λ found. (acts : List Act) → StandsFor acts base.now →
         found.items
-        ≡ item_revisions (all_shown options (matching filters.now
-        (initial base.now.config.history options.start acts)))) }
+        ≡ item_revisions (all_shown options (initial_matching base.now filters.now options.start acts))) }
 {
     if options.ignore_deletes {
         initial_puts(alloc, base, filters, options.start)
@@ -71,7 +69,7 @@ fn initial_revisions(
     start: Start,
 ) -> Result<Vec<u64>, AllocError>
     ensures { IfOk result (λ found. (acts : List Act) → StandsFor acts base.now →
-        found.items ≡ revisions (matching filters.now (initial base.now.config.history start acts))) }
+        found.items ≡ revisions (initial_matching base.now filters.now start acts)) }
 {
     match start {
         Start::Latest | Start::History | Start::From(_) => {
@@ -91,8 +89,7 @@ fn initial_puts(
     start: Start,
 ) -> Result<Vec<u64>, AllocError>
     ensures { IfOk result (λ found. (acts : List Act) → StandsFor acts base.now →
-        found.items ≡ revisions (filter (λ w. is_put w.op)
-        (matching filters.now (initial base.now.config.history start acts)))) }
+        found.items ≡ revisions (filter (λ w. is_put w.op) (initial_matching base.now filters.now start acts))) }
 {
     match start {
         Start::Latest => base.puts_where(alloc, filters).map_err(|_| AllocError),

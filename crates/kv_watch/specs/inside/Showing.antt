@@ -3,6 +3,8 @@ use Rattle.std.specs.Prelude.{ℕ, Bool, false, List, map, filter}
 use Rattle.std.specs.Borrow.{Bor}
 use Rattle.std.specs.Option.{option_map_or}
 use Rattle.kv_model.specs.Acts.{Act, Wrote, Write, is_put}
+use Rattle.kv_model.specs.Given.{initial, matching}
+use Rattle.kv_model.specs.declared.options.Start.{Start}
 use Rattle.kv_store.specs.Stored.{Stored, write_at}
 use Rattle.kv_model.specs.declared.event.Event.{Event}
 use Rattle.kv_model.specs.declared.event.Event.TheVariants as events
@@ -18,3 +20,7 @@ events_where test ws = map (λ w. events.Entry w.revision) (filter test ws)
 -- whether the write that is stored of a revision is a put
 abbrev pub is_put_at : Stored → ℕ → Bool
 is_put_at version revision = option_map_or (λ w. is_put w.op) (write_at revision version) false
+
+-- the writes that a watch of these filters begins with
+abbrev pub initial_matching : Stored → List (List ℕ) → Start → List Act → List Write
+initial_matching base filters start acts = matching filters (initial base.config.history start acts)
