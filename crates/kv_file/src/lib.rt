@@ -5,9 +5,11 @@
 mod appender;
 mod file;
 mod memory;
+mod replace;
 mod system;
 
 pub use appender::{Appender, Sync};
 pub use file::{FileFault, JournalFile, ReadFault};
 pub use memory::{MemoryFile, Torn};
-pub use system::{OpenFault, SystemFile};
+pub use replace::{ReplaceFault, ReplaceableFile};
+pub use system::{OpenFault, SystemFile, SystemPlace};

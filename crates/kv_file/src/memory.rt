@@ -1,9 +1,11 @@
 //! A file in memory, which can fail, and of which a crash may lose what was not synced.
 
-ghost use Rattle.std.specs.Prelude.{◌≡◌, ◌≤◌, ◌++◌, [], ℕ, true, false, if◌then◌else◌, not, length, take, IfOk, OnOk};
+ghost use Rattle.std.specs.Prelude.{◌≡◌, ◌≤◌, ◌+◌, ◌++◌, [], ℕ, true, false, if◌then◌else◌, not, length, take, IfOk, OnOk};
 ghost use Rattle.kv_file.specs.File.{MayLeave};
+ghost use Rattle.kv_file.specs.declared.replace.ReplaceFault.TheVariants.{Unchanged, Unknown};
 
 use crate::file::{FileFault, JournalFile, ReadFault};
+use crate::replace::{ReplaceFault, ReplaceableFile};
 use std::alloc::{AllocError, Global};
 
 /// A file in memory. It fails where a request for memory is refused, and after as many calls as it was told; from then on
@@ -14,6 +16,8 @@ pub struct MemoryFile {
     loose: Vec<u8>,
     calls: u64,
     broken: bool,
+    // How often it was not replaced, and went on.
+    refused: u64,
 }
 
 /// What a crash leaves of the bytes that were not synced.
@@ -39,10 +43,12 @@ impl MemoryFile {
             loose: Vec::new(alloc),
             calls: u64::MAX,
             broken: false,
+            refused: 0,
         }
     }
 
-    /// From now on so many calls of `append`, `sync` and `cut` go well, and the next one fails.
+    /// From now on so many calls of `append`, `sync` and `cut` go well, and the next one fails. To replace the file is two
+    /// calls: the first writes the new bytes, the second brings their name onto the disk.
     pub fn fail_after(&mut self, calls: u64) {
         self.calls = calls;
     }
@@ -76,6 +82,7 @@ impl MemoryFile {
         ensures kept { self.new.kept ≡ self.old.kept }
         ensures loose { self.new.loose ≡ self.old.loose }
         ensures broken { self.new.broken ≡ self.old.broken }
+        ensures refused { self.new.refused ≡ self.old.refused }
         ensures over { self.old.broken ≡ true → result ≡ true }
     {
         if self.broken || self.calls == 0 {
@@ -90,10 +97,26 @@ impl MemoryFile {
         ensures kept { self.new.kept ≡ self.old.kept }
         ensures loose { self.new.loose ≡ self.old.loose }
         ensures broken { self.new.broken ≡ true }
+        ensures refused { self.new.refused ≡ self.old.refused }
         ensures err { OnOk result ⊥ }
     {
         self.broken = true;
         Err(FileFault)
+    }
+
+    // It is not replaced, and goes on; where that can no longer be counted, it fails.
+    fn stay(&mut self) -> ReplaceFault
+        ensures kept { self.new.kept ≡ self.old.kept }
+        ensures loose { self.new.loose ≡ self.old.loose }
+        ensures stays { result ≡ Unchanged → (self.new.broken ≡ self.old.broken) × (self.new.refused ≡ self.old.refused + 1) }
+        ensures stops { result ≡ Unknown → (self.new.broken ≡ true) × (self.new.refused ≡ self.old.refused) }
+    {
+        if self.refused == u64::MAX {
+            self.broken = true;
+            return ReplaceFault::Unknown;
+        }
+        self.refused += 1;
+        ReplaceFault::Unchanged
     }
 
     // The half of the bytes is added, if there is memory.
@@ -101,6 +124,7 @@ impl MemoryFile {
         ensures kept { self.new.kept ≡ self.old.kept }
         ensures loose { (n : ℕ) × (self.new.loose.items ≡ self.old.loose.items ++ take n bytes.now) }
         ensures broken { self.new.broken ≡ self.old.broken }
+        ensures refused { self.new.refused ≡ self.old.refused }
     {
         let half = &bytes[..bytes.len() / 2];
         let _ = self.loose.extend_from_slice(half);
@@ -140,7 +164,7 @@ impl JournalFile for MemoryFile {
 
     ghost usable = { λ f. not f.broken };
 
-    ghost faults = { λ f. if f.broken then 1 else 0 };
+    ghost faults = { λ f. f.refused + (if f.broken then 1 else 0) };
 
     fn is_usable(&self) -> bool {
         !self.broken
@@ -191,6 +215,24 @@ impl JournalFile for MemoryFile {
             Err(_) => return self.fail(),
         }
         self.loose.clear();
+        Ok(())
+    }
+}
+
+impl<P> ReplaceableFile<P> for MemoryFile {
+    fn replace(&mut self, _place: &P, bytes: Vec<u8>) -> Result<(), ReplaceFault> {
+        if self.broken {
+            return Err(ReplaceFault::Unknown);
+        }
+        if self.is_over() {
+            return Err(self.stay());
+        }
+        self.kept = bytes;
+        self.loose.clear();
+        if self.is_over() {
+            self.broken = true;
+            return Err(ReplaceFault::Unknown);
+        }
         Ok(())
     }
 }

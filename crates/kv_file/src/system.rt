@@ -2,12 +2,15 @@
 //!
 //! Nothing can be proved of what the system keeps: what is promised of a file rests on the calls below being these.
 
-ghost use Rattle.std.specs.Prelude.{◌≡◌, true, false, is_ok, not, if◌then◌else◌, IfOk};
+ghost use Rattle.std.specs.Prelude.{◌≡◌, ◌+◌, true, false, is_ok, not, if◌then◌else◌, IfOk};
+ghost use Rattle.kv_file.specs.declared.replace.ReplaceFault.TheVariants.{Unchanged, Unknown};
 
 use crate::file::{FileFault, JournalFile, ReadFault};
+use crate::replace::{ReplaceFault, ReplaceableFile};
 use std::alloc::Global;
-use std::fs::{File, Files, OpenOptions, TryLockError};
+use std::fs::{self, File, Files, OpenOptions, TryLockError};
 use std::io::{self, ErrorKind, Read, Seek, SeekFrom, Write};
+use std::os::unix::fs::MetadataExt;
 use std::path::Path;
 
 /// Why a file of the system was not opened.
@@ -40,6 +43,18 @@ impl From<TryLockError> for OpenFault {
 pub struct SystemFile {
     file: File,
     broken: bool,
+    // How often it was not replaced, and went on.
+    refused: u64,
+}
+
+/// Where a file of the system lies.
+#[derive(Drop)]
+pub struct SystemPlace<'a, R> {
+    pub rt: &'a R,
+    /// The path that it was opened with.
+    pub path: &'a str,
+    /// The path of the file that takes its place, in the same folder. What is there is overwritten.
+    pub next: &'a str,
 }
 
 // Brings the name of a new file onto the disk. Only its folder has it.
@@ -66,12 +81,48 @@ fn shorten(file: &File, len: u64) -> io::Result<()> {
     file.sync_data()
 }
 
+// Whether the path still names this file.
+fn is_there<R: Files<File = File>>(rt: &R, path: &str, file: &File) -> io::Result<bool> {
+    let own = file.metadata()?;
+    let found = File::open(rt, path)?.metadata()?;
+    Ok(found.dev() == own.dev() && found.ino() == own.ino())
+}
+
+// A file of this path with these bytes, on the disk, and locked.
+fn written<R: Files<File = File>>(rt: &R, path: &str, bytes: &[u8]) -> Result<File, OpenFault> {
+    let mut file = OpenOptions::new()
+        .read(true)
+        .append(true)
+        .create(true)
+        .open(rt, path)?;
+    file.try_lock()?;
+    file.set_len(0)?;
+    file.write_all(bytes)?;
+    file.sync_all()?;
+    Ok(file)
+}
+
+// A file with these bytes in the place of the one that lies there. It is locked before it has that name.
+fn put_in_place<R: Files<File = File>>(
+    place: &SystemPlace<'_, R>,
+    file: &File,
+    bytes: &[u8],
+) -> Result<File, OpenFault> {
+    if !is_there(place.rt, place.path, file)? {
+        return Err(OpenFault::Failed);
+    }
+    let next = written(place.rt, place.next, bytes)?;
+    fs::rename(place.rt, place.next, place.path)?;
+    Ok(next)
+}
+
 impl SystemFile {
     /// Opens the file of this path, or makes an empty one, and locks it: no other opening succeeds until this one is
     /// dropped. The system drops the lock with the process, however that ends, so a crash leaves none. The lock
     /// (`flock`) keeps out only who asks for it: nothing stops another program from writing the file.
     ///
-    /// An empty file's folder is brought onto the disk, so that a crash does not take its name away.
+    /// An empty file's folder is brought onto the disk, so that a crash does not take its name away. A file that was
+    /// replaced between its opening and its locking is busy: try again.
     pub fn open<R: Files<File = File>>(rt: &R, path: &str) -> Result<SystemFile, OpenFault>
         ensures { IfOk result (λ f. f.broken ≡ false) }
     {
@@ -85,12 +136,16 @@ impl SystemFile {
         if !found.is_file() {
             return Err(OpenFault::Failed);
         }
+        if !is_there(rt, path, &file)? {
+            return Err(OpenFault::Busy);
+        }
         if found.len() == 0 {
             sync_folder(rt, path)?;
         }
         Ok(SystemFile {
             file,
             broken: false,
+            refused: 0,
         })
     }
 
@@ -106,13 +161,27 @@ impl SystemFile {
 
     // How a call of the system has ended. Where it failed, the file is broken.
     fn ended(&mut self, done: io::Result<()>) -> Result<(), FileFault>
-        ensures { self.new.broken ≡ (if is_ok result then self.old.broken else true) }
+        ensures broken { self.new.broken ≡ (if is_ok result then self.old.broken else true) }
+        ensures refused { self.new.refused ≡ self.old.refused }
     {
         if done.is_err() {
             self.broken = true;
             return Err(FileFault);
         }
         Ok(())
+    }
+
+    // It is not replaced, and goes on; where that can no longer be counted, it fails.
+    fn stay(&mut self) -> ReplaceFault
+        ensures stays { result ≡ Unchanged → (self.new.broken ≡ self.old.broken) × (self.new.refused ≡ self.old.refused + 1) }
+        ensures stops { result ≡ Unknown → (self.new.broken ≡ true) × (self.new.refused ≡ self.old.refused) }
+    {
+        if self.refused == u64::MAX {
+            self.broken = true;
+            return ReplaceFault::Unknown;
+        }
+        self.refused += 1;
+        ReplaceFault::Unchanged
     }
 }
 
@@ -122,7 +191,7 @@ impl JournalFile for SystemFile {
 
     ghost usable = { λ f. not f.broken };
 
-    ghost faults = { λ f. if f.broken then 1 else 0 };
+    ghost faults = { λ f. f.refused + (if f.broken then 1 else 0) };
 
     fn is_usable(&self) -> bool {
         !self.broken
@@ -155,5 +224,23 @@ impl JournalFile for SystemFile {
         self.may_call()?;
         let done = shorten(&self.file, len);
         self.ended(done)
+    }
+}
+
+// The new file is written, synced and locked before it takes the name of the old one, whose lock goes behind that.
+impl<'a, R: Files<File = File>> ReplaceableFile<SystemPlace<'a, R>> for SystemFile {
+    fn replace(&mut self, place: &SystemPlace<'a, R>, bytes: Vec<u8>) -> Result<(), ReplaceFault> {
+        if self.broken {
+            return Err(ReplaceFault::Unknown);
+        }
+        let Ok(next) = put_in_place(place, &self.file, &bytes) else {
+            return Err(self.stay());
+        };
+        self.file = next;
+        if sync_folder(place.rt, place.path).is_err() {
+            self.broken = true;
+            return Err(ReplaceFault::Unknown);
+        }
+        Ok(())
     }
 }
