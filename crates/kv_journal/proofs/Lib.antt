@@ -6,3 +6,11 @@ pub mod Going
 pub mod Front
 pub mod Together
 pub mod Parts
+pub mod Ends
+pub mod PuttingBack
+pub mod Restored
+pub mod Restoring
+pub mod Walking
+pub mod Restores
+pub mod FewWrites
+pub mod Unrefused

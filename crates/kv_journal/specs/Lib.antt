@@ -5,3 +5,5 @@ pub mod Replays
 pub mod Damage
 pub mod Header
 pub mod inside
+pub mod Checkpoints
+pub mod Restored

@@ -113,6 +113,24 @@ fn write_in(alloc: Global, op: Op, len: u8, rest: &[u8]) -> Result<Option<Reques
     request_of(alloc, op, key, value)
 }
 
+// The request for what stands behind the kind of a write's record.
+pub(crate) fn request_in(alloc: Global, kind: u8, rest: &[u8]) -> Result<Option<Request>, KvError>
+    ensures ok { IfOk result
+        (λ found. MatchOption found
+        ((op : AnOp) (key value : List ℕ) → kind_of op ≡ kind → rest.now ≡ length key ∷ (key ++ value) →
+        is_key key ≡ true → (is_put op ≡ false → value ≡ []) → ⊥)
+        (λ r. SaysWrite (asked r) (kind ∷ rest.now))) }
+    ensures err { IfErr result (λ e. e ≡ OutOfMemory) }
+{
+    let Some(op) = op_of(kind) else {
+        return Ok(None);
+    };
+    let [len, rest @ ..] = rest else {
+        return Ok(None);
+    };
+    write_in(alloc, op, *len, rest)
+}
+
 // What stands behind the kind of a write's record.
 fn write_of(alloc: Global, kind: u8, rest: &[u8]) -> Result<Option<Record>, KvError>
     ensures ok { IfOk result
@@ -122,13 +140,7 @@ fn write_of(alloc: Global, kind: u8, rest: &[u8]) -> Result<Option<Record>, KvEr
         (λ r. Says r (kind ∷ rest.now))) }
     ensures err { IfErr result (λ e. e ≡ OutOfMemory) }
 {
-    let Some(op) = op_of(kind) else {
-        return Ok(None);
-    };
-    let [len, rest @ ..] = rest else {
-        return Ok(None);
-    };
-    match write_in(alloc, op, *len, rest)? {
+    match request_in(alloc, kind, rest)? {
         Some(request) => Ok(Some(Record::Write(request))),
         None => Ok(None),
     }

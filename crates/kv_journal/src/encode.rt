@@ -34,7 +34,12 @@ fn bytes_of(key: &Key) -> &[u8]
 }
 
 // Adds the record of a write.
-fn push_write(out: &mut Vec<u8>, op: Op, key: &Key, value: &[u8]) -> Result<(), AllocError>
+pub(crate) fn push_write(
+    out: &mut Vec<u8>,
+    op: Op,
+    key: &Key,
+    value: &[u8],
+) -> Result<(), AllocError>
     ensures items { OnOk result (out.new.items ≡ out.old.items ++ write_record op key.now value.now) }
     ensures fits { length key.now ≤ 255 }
 {

@@ -77,7 +77,7 @@ fn behind_magic(bytes: &[u8]) -> Option<&[u8]>
 }
 
 // The number in the first eight bytes, and what stands behind it.
-fn number_of(bytes: &[u8]) -> Option<(u64, &[u8])>
+pub(crate) fn long_number_of(bytes: &[u8]) -> Option<(u64, &[u8])>
     ensures { MatchOption result (length bytes.now < 8)
         (λ n. (n.0 < 2 ^ 64) × (bytes.now ≡ to_be_bytes w64 n.0 ++ n.1.now)) }
 {
@@ -94,7 +94,7 @@ fn seed_of(bytes: &[u8]) -> Option<(u64, &[u8])>
         (λ s. (s.0 < 2 ^ 64) × (bytes.now ≡ header s.0 ++ s.1.now)) }
 {
     let rest = behind_magic(bytes)?;
-    number_of(rest)
+    long_number_of(rest)
 }
 
 fn is_same(payload: &[u8], wanted: &[u8]) -> bool
