@@ -40,6 +40,24 @@ pub fn again<A: Answered, F: FnMut() -> A>(call: F) -> A
     }
 }
 
+/// The same. Where the call is refused, `check` comes first.
+pub fn again_checking<A: Answered, L: FnMut(), F: FnMut() -> A>(check: L, call: F) -> A
+    requires checks { L.IsAlwaysCallable check }
+    requires calls { F.IsAlwaysCallable call }
+{
+    let mut check = check;
+    let mut call = call;
+    let answer = call();
+    let refusal = answer.refusal();
+    if refusal.is_some() {
+        check();
+    }
+    match refusal {
+        Some(KvError::OutOfMemory) => call(),
+        _ => answer,
+    }
+}
+
 /// The same of a call that is made on a value. Where it is refused, `refused` looks at the value first.
 pub fn again_on<T, A: Answered, L: FnMut(&T), F: FnMut(&mut T) -> A>(
     on: &mut T,
