@@ -3,7 +3,7 @@
 
 use crate::equal::equal;
 use kv_keys::{Key, KvError, Place, Short};
-use kv_test_tools::{again, again_on};
+use kv_test_tools::{again, again_checking, again_on};
 use kv_trie::{Node, Trie, Visit, Wants};
 use std::alloc::Global;
 use std::process::Abort;

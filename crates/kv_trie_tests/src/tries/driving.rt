@@ -22,12 +22,7 @@ fn made<K: Named>(
     twin: &Numbers<K>,
     step: Step,
 ) -> Result<Numbers<K>, KvError> {
-    let mut trie = trie;
-    again_on(
-        &mut trie,
-        |trie| are_same(rt, *trie, twin),
-        |trie| made_once(alloc, *trie, step),
-    )
+    again_checking(|| are_same(rt, trie, twin), || made_once(alloc, trie, step))
 }
 
 fn done_once<K: Named>(alloc: Global, here: &mut Numbers<K>, step: Step) -> Result<(), KvError> {

@@ -147,11 +147,9 @@ fn removed(
     text: &str,
     parts: &[Part],
 ) -> Result<Trie<Key, u32>, KvError> {
-    let mut trie = trie;
-    again_on(
-        &mut trie,
-        |trie| equal(rt, has_form(*trie, parts), true),
-        |trie| removed_once(alloc, *trie, text),
+    again_checking(
+        || equal(rt, has_form(trie, parts), true),
+        || removed_once(alloc, trie, text),
     )
 }
 

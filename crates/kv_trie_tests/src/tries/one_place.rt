@@ -33,11 +33,9 @@ fn insert_next(
     before: &[(&str, u32)],
     next: (&str, u32),
 ) -> Result<Numbers<Short>, KvError> {
-    let mut trie = trie;
-    again_on(
-        &mut trie,
-        |trie| is_built(rt, alloc, *trie, before),
-        |trie| inserted(alloc, *trie, next.0, next.1),
+    again_checking(
+        || is_built(rt, alloc, trie, before),
+        || inserted(alloc, trie, next.0, next.1),
     )
 }
 
@@ -54,11 +52,9 @@ fn remove_last(
     before: &[(&str, u32)],
     last: &str,
 ) -> Result<Numbers<Short>, KvError> {
-    let mut trie = trie;
-    again_on(
-        &mut trie,
-        |trie| is_built(rt, alloc, *trie, before),
-        |trie| removed(alloc, *trie, last),
+    again_checking(
+        || is_built(rt, alloc, trie, before),
+        || removed(alloc, trie, last),
     )
 }
 
@@ -119,39 +115,21 @@ fn has(rt: &impl Abort, trie: &Numbers<Short>, count: u64) {
     equal(rt, walks::sum(trie) as u64, count);
 }
 
-// Puts one more key into the trie of so many. A refusal leaves it as it was.
-fn put_next(
-    rt: &impl Abort,
-    alloc: Global,
-    trie: &mut Numbers<Short>,
-    text: &str,
-    count: u64,
-) -> Result<(), KvError> {
-    again_on(
-        trie,
-        |trie| has(rt, trie, count),
-        |trie| put(alloc, trie, text, 1),
-    )
-}
-
 fn discard(alloc: Global, trie: &mut Numbers<Short>, text: &str) -> Result<(), KvError> {
     let key = Short::named(alloc, text)?;
     trie.discard(alloc, &key)
 }
 
-// Removes a key from the trie of so many. A refusal leaves it as it was.
-fn discard_next(
+// Makes a call on the trie of so many keys. A refusal leaves it as it was.
+fn make_on<F: FnMut(&mut Numbers<Short>) -> Result<(), KvError>>(
     rt: &impl Abort,
-    alloc: Global,
     trie: &mut Numbers<Short>,
-    text: &str,
     count: u64,
-) -> Result<(), KvError> {
-    again_on(
-        trie,
-        |trie| has(rt, trie, count),
-        |trie| discard(alloc, trie, text),
-    )
+    call: F,
+) -> Result<(), KvError>
+    requires { F.IsAlwaysCallable call }
+{
+    again_on(trie, |trie| has(rt, trie, count), call)
 }
 
 fn keep(kept: &mut Vec<Numbers<Short>>, trie: &Numbers<Short>) -> Result<(), KvError> {
@@ -170,7 +148,7 @@ fn put_each(
     let mut count: u64 = 0;
     keep(kept, trie)?;
     for text in texts {
-        put_next(rt, alloc, trie, text.as_str(), count)?;
+        make_on(rt, trie, count, |trie| put(alloc, trie, text.as_str(), 1))?;
         count = count.saturating_add(1);
         keep(kept, trie)?;
     }
@@ -200,7 +178,8 @@ fn discard_each(
     let mut left = texts.len() as u64;
     is_as_kept(rt, trie, kept, left);
     for at in (0..texts.len()).rev() {
-        discard_next(rt, alloc, trie, texts[at].as_str(), left)?;
+        let text = texts[at].as_str();
+        make_on(rt, trie, left, |trie| discard(alloc, trie, text))?;
         left = left.saturating_sub(1);
         is_as_kept(rt, trie, kept, left);
     }

@@ -36,11 +36,9 @@ fn kept<K: Named>(
     twin: &Numbers<K>,
     limit: u32,
 ) -> Result<Numbers<K>, KvError> {
-    let mut trie = trie;
-    again_on(
-        &mut trie,
-        |trie| are_same(rt, *trie, twin),
-        |trie| kept_once(alloc, *trie, limit),
+    again_checking(
+        || are_same(rt, trie, twin),
+        || kept_once(alloc, trie, limit),
     )
 }
 
