@@ -28,11 +28,11 @@ use Rattle.kv_store.proofs.Naming.{distinct_keys, gathered_are_initial, kept_key
 use Rattle.kv_store.proofs.Reading.{history_some, initial_stored, kept_stored}
 use Rattle.kv_store.proofs.Selecting.{last_kept}
 
-map_twice : {X Y Z : Type 0} (f : X → Y) (g : Y → Z) (xs : List X) → map g (map f xs) ≡ map (λ x. g (f x)) xs
+pub map_twice : {X Y Z : Type 0} (f : X → Y) (g : Y → Z) (xs : List X) → map g (map f xs) ≡ map (λ x. g (f x)) xs
 map_twice f g [] = refl
 map_twice f g (x ∷ xs) = ap (λ ys. g (f x) ∷ ys) (map_twice f g xs)
 
-rising_map : {X : Type 0} (n : X → ℕ) (xs : List X) → IsNonDecreasingBy n xs → IsNonDecreasingBy (λ k. k) (map n xs)
+pub rising_map : {X : Type 0} (n : X → ℕ) (xs : List X) → IsNonDecreasingBy n xs → IsNonDecreasingBy (λ k. k) (map n xs)
 rising_map n [] h i j d l w = absurd (omega (arith, w))
 rising_map n (x ∷ xs) h i j d l w =
     let long = length-map (x ∷ xs) n in

@@ -17,3 +17,4 @@ pub mod LookingUp
 pub mod Turned
 pub mod Following
 pub mod Batching
+pub mod StoredWrites

@@ -92,7 +92,7 @@ unless_empty-some : {X : Type 0} (xs ys : List X) → unless_empty xs ≡ Some y
 unless_empty-some [] ys h = cc
 unless_empty-some (x ∷ xs) ys h = cc
 
-eqb_flips : (x y : ℕ) → eqb x y ≡ eqb y x
+pub eqb_flips : (x y : ℕ) → eqb x y ≡ eqb y x
 eqb_flips x y = grind (arith, nat_tests)
 
 module _ (h : ℕ) (acts : List Act) (some : 0 < h) (counts : CountsFrom 1 (writes_of acts)) (wants : List ℕ → Bool) (start : Start) (entries : List (List ℕ × List ℕ)) (keeps : (key : List ℕ) → lookup (λ k. bytes_eq key k) entries ≡ unless_empty (revisions (kept h key acts))) (apart : IsDistinct bytes_eq (keys_of entries)) where

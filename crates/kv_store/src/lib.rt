@@ -11,6 +11,7 @@ mod put_back;
 mod read;
 mod rev;
 mod ring;
+mod stored;
 mod version;
 mod wanted;
 mod write;
