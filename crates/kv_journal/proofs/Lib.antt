@@ -10,7 +10,7 @@ pub mod Ends
 pub mod PuttingBack
 pub mod Restored
 pub mod Restoring
-pub mod Walking
+pub mod Pushing
 pub mod Restores
 pub mod FewWrites
 pub mod Unrefused

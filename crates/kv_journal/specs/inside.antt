@@ -1,2 +1,1 @@
 pub mod Redoes
-pub mod Walks

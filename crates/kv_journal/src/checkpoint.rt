@@ -1,13 +1,10 @@
 //! The checkpoint of a version: what it stores, in frames.
 
-ghost use Rattle.std.specs.Prelude.{◌≡◌, ◌<◌, ◌^◌, ◌++◌, Bool, List, length, map, IfOk, OnOk};
-ghost use Rattle.std.specs.Option.{option_to_list};
+ghost use Rattle.std.specs.Prelude.{◌≡◌, ◌<◌, ◌^◌, ◌++◌, ◌∷◌, [], Bool, List, length, map, IfOk, OnOk};
 ghost use Rattle.kv_frames.specs.Frames.{ArePayloads, IsPayload, frames};
 ghost use Rattle.kv_model.specs.Acts.{Act};
 ghost use Rattle.kv_store.specs.Standing.{StandsFor};
-ghost use Rattle.kv_store.specs.Stored.{write_at};
 ghost use Rattle.kv_journal.specs.Checkpoints.{checkpoint_of, checkpoint_payloads, numbers_record, settled_payload, stored_payload};
-ghost use Rattle.kv_journal.specs.inside.Walks.{stored_up_to};
 
 use crate::encode::push_write;
 use kv_frames::Framing;
@@ -53,49 +50,40 @@ fn numbers_payload(alloc: Global, version: &Version) -> Result<Vec<u8>, AllocErr
     Ok(bytes)
 }
 
-// Adds the frame of the write that is stored of a revision, if one is.
+// Adds the frame of a stored write.
 fn push_stored(
     alloc: Global,
     out: &mut Vec<u8>,
     framing: &Framing,
-    version: &Version,
-    revision: u64,
+    write: &Write,
 ) -> Result<(), AllocError>
     ensures items { OnOk result (out.new.items ≡ out.old.items ++ frames framing.now.seed (length out.old.items)
-        (map stored_payload (option_to_list (write_at revision version.now)))) }
-    ensures payloads { OnOk result (ArePayloads (map stored_payload (option_to_list (write_at revision version.now)))) }
+        (stored_payload write.now ∷ [])) }
+    ensures payload { OnOk result (IsPayload (stored_payload write.now)) }
 {
-    match version.write_at(revision) {
-        Some(write) => {
-            let payload = stored_payload(alloc, write)?;
-            framing.push_frame(out, out.len() as u64, &payload)
-        }
-        None => Ok(()),
-    }
+    let payload = stored_payload(alloc, write)?;
+    framing.push_frame(out, out.len() as u64, &payload)
 }
 
-// Adds the frames of all stored writes, in the order of their revisions.
+// Adds the frames of stored writes, each of which stands behind its revision.
 fn push_all_stored(
     alloc: Global,
     out: &mut Vec<u8>,
     framing: &Framing,
-    version: &Version,
+    writes: &[(u64, &Write)],
 ) -> Result<(), AllocError>
     ensures items { OnOk result (out.new.items ≡ out.old.items ++ frames framing.now.seed (length out.old.items)
-        (map stored_payload (stored_up_to version.now version.now.last))) }
-    ensures payloads { OnOk result (ArePayloads (map stored_payload (stored_up_to version.now version.now.last))) }
+        (map stored_payload (map (λ f. f.1.now) writes.now))) }
+    ensures payloads { OnOk result (ArePayloads (map stored_payload (map (λ f. f.1.now) writes.now))) }
 {
-    let last = version.revision();
-    let mut done = 0;
-    while done < last {
-        done += 1;
-        push_stored(alloc, out, framing, version, done)?;
+    for numbered in writes {
+        push_stored(alloc, out, framing, numbered.1)?;
     }
     Ok(())
 }
 
-/// Adds the frames of the checkpoint of a version behind what is there of its file. It looks for a write of each revision
-/// up to the last.
+/// Adds the frames of the checkpoint of a version behind what is there of its file. It looks at each stored write once, and
+/// sorts them.
 pub fn push_checkpoint(
     alloc: Global,
     out: &mut Vec<u8>,
@@ -108,7 +96,8 @@ pub fn push_checkpoint(
     ensures payloads { OnOk result ((acts : List Act) → StandsFor acts version.now →
         ArePayloads (checkpoint_payloads (checkpoint_of version.now.config acts))) }
 {
-    push_all_stored(alloc, out, framing, version)?;
+    let writes = version.stored_writes(alloc)?;
+    push_all_stored(alloc, out, framing, &writes)?;
     let payload = numbers_payload(alloc, version)?;
     framing.push_frame(out, out.len() as u64, &payload)
 }

@@ -1,12 +1,10 @@
-use Rattle.std.proofs.Common.{arith}
-use Rattle.kv_journal.proofs.Walking.{none_pushed, one_pushed}
+use Rattle.kv_journal.proofs.Pushing.{next_pushed, none_pushed}
 use Rattle.kv_journal.proofs.checkpoint.push_all_stored.Goals as goal
 
-pub loop-done-init : goal.loop-done-init
-loop-done-init c = (omega arith, none_pushed c.args.framing.now.seed c.args.out.now.items c.args.version.now)
+pub loop-numbered-init : goal.loop-numbered-init
+loop-numbered-init c = none_pushed c.args.framing.now.seed c.args.out.now.items
 
-pub loop-done-preserved : goal.loop-done-preserved
-loop-done-preserved c = (
-  omega (arith, c.loop-done-test.true),
-  one_pushed c.args.framing.now.seed c.args.out.now.items c.args.version.now c.loop-done.done c.loop-done.out.items c.push_stored.new.out.items c.loop-done.invariant.1 c.in_ok-push_stored.ensures.items c.in_ok-push_stored.ensures.payloads,
-)
+pub loop-numbered-preserved : goal.loop-numbered-preserved
+loop-numbered-preserved c =
+    next_pushed (λ f. f.1.now) c.args.framing.now.seed c.args.out.now.items c.loop-numbered.out.items c.push_stored.new.out.items c.args.writes.now c.loop-numbered.numbered-index c.numbered-item.result
+    c.loop-numbered-test.true c.numbered-item.is c.loop-numbered.invariant c.in_ok-push_stored.ensures.items c.in_ok-push_stored.ensures.payload
