@@ -25,7 +25,7 @@ use Rattle.kv_single.specs.Held.{Bucketed, Represents}
 use Rattle.kv_single.proofs.Batching.{batch_done, batch_refused}
 use Rattle.kv_bucket.specs.Batches.{IsKeptBatch, PublishesAll, WritesAllSomewhere, RefusedAllSomewhere}
 use Rattle.kv_bucket.specs.Histories.{IsPublishedHistory}
-use Rattle.kv_bucket.specs.Keeping.{Kept, kept_of, IsAt, IsSomewhere, state_of}
+use Rattle.kv_bucket.specs.Keeping.{KeeperState, kept_of, IsAt, IsSomewhere, state_of}
 use Rattle.kv_bucket.specs.inside.Beginnings.{HasBeginnings}
 use Rattle.kv_bucket.proofs.Histories.{lawful_under}
 use Rattle.kv_bucket.proofs.Keeping.{published_stands, same_config}
@@ -87,7 +87,7 @@ module _ (config : Configuration) (was : Bucketed) (before : List Act) (requests
   each : LeavesEach (asked first ∷ map asked rest) (length rest + 1) was.version
   each = subst (LeavesEach (asked first ∷ map asked rest) (length rest + 1)) value each_seen
 
-  abbrev old : Kept
+  abbrev old : KeeperState
   old = kept_of was before
 
   stands_before : StandsFor before was.version
@@ -150,7 +150,7 @@ module _ (config : Configuration) (was : Bucketed) (before : List Act) (requests
   )
 
   -- what was kept
-  pub batch_kept : (now : Kept) (bucket : Bucketed) (posted : List Act) → old ≡ now → (posted ≡ before ++ acts_from revision requests) × (bucket ≡ record was { version = next })
+  pub batch_kept : (now : KeeperState) (bucket : Bucketed) (posted : List Act) → old ≡ now → (posted ≡ before ++ acts_from revision requests) × (bucket ≡ record was { version = next })
       → IsSomewhere config (kept_of bucket posted) × (IsKeptBatch now requests revision (kept_of bucket posted) × PublishesAll config all revision now.published posted)
   batch_kept now bucket posted is kept =
       let at_after : (state : State) → IsAt state old → (us : List Write) × ((accept_all state.config all state.acts ≡ Ok us) × ((revision ≡ first_revision state.acts us) × IsAt (after_batch state (Ok us)) (kept_of bucket posted))) =
@@ -165,13 +165,13 @@ module _ (config : Configuration) (was : Bucketed) (before : List Act) (requests
       let shown : posted ≡ after_all before there.0 = there.1.1.1.published in (
         (some.0, subst (λ (l : List Act). IsAt (state_of config l some.0) (kept_of bucket posted)) (sym shown) there.1.1.1),
         (
-          subst (λ (k : Kept). IsKeptBatch k requests revision (kept_of bucket posted)) is at_after,
-          subst (λ (k : Kept). PublishesAll config all revision k.published posted) is (there.0, (there.1.0, (there.1.1.0, shown))),
+          subst (λ (k : KeeperState). IsKeptBatch k requests revision (kept_of bucket posted)) is at_after,
+          subst (λ (k : KeeperState). PublishesAll config all revision k.published posted) is (there.0, (there.1.0, (there.1.1.0, shown))),
         ),
       )
 
   -- want of memory while it is published
-  pub memory_refused : (now : Kept) (refused : BatchRefused) → old ≡ now → refused ≡ refused_at (length rest) OutOfMemory → (state : State) → IsAt state now → IsRefusedAt state.config all state.acts refused
+  pub memory_refused : (now : KeeperState) (refused : BatchRefused) → old ≡ now → refused ≡ refused_at (length rest) OutOfMemory → (state : State) → IsAt state now → IsRefusedAt state.config all state.acts refused
   memory_refused now refused is why state at =
       let there : IsAt state old = subst (IsAt state) (sym is) at in
       let done = batch_done was requests first rest next revision split same leaves number state there.represents in
@@ -188,10 +188,10 @@ none_of : {A : Type 0} (xs : List A) → length xs ≡ 0 → xs ≡ []
 none_of [] e = refl
 none_of (x ∷ xs) e = absurd (omega (arith, e))
 
-pub none_kept : (config : Configuration) (was : Bucketed) (before : List Act) (requests : List Request) (revision : ℕ) (now : Kept) (seen : Stored) → IsSomewhere config (kept_of was before) → kept_of was before ≡ now → seen ≡ was.version → length requests ≡ 0
+pub none_kept : (config : Configuration) (was : Bucketed) (before : List Act) (requests : List Request) (revision : ℕ) (now : KeeperState) (seen : Stored) → IsSomewhere config (kept_of was before) → kept_of was before ≡ now → seen ≡ was.version → length requests ≡ 0
     → ((acts : List Act) → StandsFor acts seen → revision ≡ length (writes_of acts)) → IsKeptBatch now requests revision now × PublishesAll config (map asked requests) revision now.published now.published
 none_kept config was before requests revision now seen some is value empty last_seen =
-    let old : Kept = kept_of was before in
+    let old : KeeperState = kept_of was before in
     let none : requests ≡ [] = none_of requests empty in
     let last : (acts : List Act) → StandsFor acts was.version → revision ≡ length (writes_of acts) = subst (λ (v : Stored). (acts : List Act) → StandsFor acts v → revision ≡ length (writes_of acts)) value last_seen in
     let at_after : IsKeptBatch old requests revision old = λ state at. (
@@ -208,8 +208,8 @@ none_kept config was before requests revision now seen some is value empty last_
         (last before (published_stands config old some), sym (after_none before)),
       ),
     ) in (
-      subst (λ (k : Kept). IsKeptBatch k requests revision k) is at_after,
-      subst (λ (k : Kept). PublishesAll config (map asked requests) revision k.published k.published) is published,
+      subst (λ (k : KeeperState). IsKeptBatch k requests revision k) is at_after,
+      subst (λ (k : KeeperState). PublishesAll config (map asked requests) revision k.published k.published) is published,
     )
 
 -- a refusal is its place and its error
@@ -217,7 +217,7 @@ pub told_at : (refused : BatchRefused) (at : ℕ) (error : KvError) → refused.
 told_at refused at error here why = ap (λ n. refused_at n refused.error) here ∙ ap (refused_at at) why
 
 -- a batch that is refused
-pub batch_denied : (config : Configuration) (was : Bucketed) (before : List Act) (requests : List Request) (first : Request) (rest : List Request) (now : Kept) (refused : BatchRefused) (seen : Stored) → kept_of was before ≡ now → seen ≡ was.version → requests ≡ first ∷ rest
+pub batch_denied : (config : Configuration) (was : Bucketed) (before : List Act) (requests : List Request) (first : Request) (rest : List Request) (now : KeeperState) (refused : BatchRefused) (seen : Stored) → kept_of was before ≡ now → seen ≡ was.version → requests ≡ first ∷ rest
     → ((acts : List Act) → StandsFor acts seen → IsRefusedAt seen.config (asked first ∷ map asked rest) acts refused) → (state : State) → IsAt state now → IsRefusedAt state.config (map asked requests) state.acts refused
 batch_denied config was before requests first rest now refused seen is value split why state at =
     let there : IsAt state (kept_of was before) = subst (IsAt state) (sym is) at in
@@ -227,8 +227,8 @@ batch_denied config was before requests first rest now refused seen is value spl
 
 -- ---- what the lock tells
 
-pub all_somewhere : (config : Configuration) (old : Kept) (requests : List Asked) (first : ℕ) (later : List Act) → IsSomewhere config old → PublishesAll config requests first old.published later → WritesAllSomewhere config requests first later
+pub all_somewhere : (config : Configuration) (old : KeeperState) (requests : List Asked) (first : ℕ) (later : List Act) → IsSomewhere config old → PublishesAll config requests first old.published later → WritesAllSomewhere config requests first later
 all_somewhere config old requests first later some wrote = (old.published, (lawful_there config old some, wrote))
 
-pub refused_all_somewhere : (config : Configuration) (old : Kept) (requests : List Asked) (refused : BatchRefused) → IsSomewhere config old → ((state : State) → IsAt state old → IsRefusedAt state.config requests state.acts refused) → RefusedAllSomewhere config requests refused
+pub refused_all_somewhere : (config : Configuration) (old : KeeperState) (requests : List Asked) (refused : BatchRefused) → IsSomewhere config old → ((state : State) → IsAt state old → IsRefusedAt state.config requests state.acts refused) → RefusedAllSomewhere config requests refused
 refused_all_somewhere config old requests refused some refuses = (old.published, (lawful_there config old some, refuses (state_of config old.published some.0) some.1))

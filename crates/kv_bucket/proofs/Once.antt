@@ -16,7 +16,7 @@ use Rattle.kv_model.specs.Given.{Entry, Item, AnEntry, matching, initial, all_sh
 use Rattle.kv_model.specs.further.Showing.{is_initial, is_shown}
 use Rattle.kv_model.proofs.GivenLaws.{matching_initial}
 use Rattle.kv_watch.proofs.Walks.{shown_front}
-use Rattle.kv_bucket.specs.Feeding.{Feeding, given_by}
+use Rattle.kv_bucket.specs.FeedState.{FeedState, given_by}
 use Rattle.kv_bucket.specs.Owed.{is_of, items_of_revision, Owes, HasOnce}
 
 abbrev has_revision : ℕ → Write → Bool
@@ -152,7 +152,7 @@ module _ (h : ℕ) (began acts : List Act) (filters : List (List ℕ)) (options 
       ∙ (ap (λ (items : List Item). items ++ items_of_revision w.revision lively) (ending_none w.revision options.start) ∙ live_once one none p is)))
 
 -- where a feed has handed out all that it is given, what it handed out has the write once
-pub all_has_once : (config : Configuration) (feed : Feeding) (told : List Act) (w : Write) → IsLawful config feed.acts → IsPrefix feed.began feed.acts → feed.handed ≡ length (given_by feed) → Owes feed told w
+pub all_has_once : (config : Configuration) (feed : FeedState) (told : List Act) (w : Write) → IsLawful config feed.acts → IsPrefix feed.began feed.acts → feed.handed ≡ length (given_by feed) → Owes feed told w
     → HasOnce feed w (take feed.handed (given_by feed))
 all_has_once config feed told w lawful prefix all owes =
     let given_all = given_by feed in

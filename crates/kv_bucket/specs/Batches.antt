@@ -8,11 +8,11 @@ use Rattle.kv_model.specs.Requests.{Asked, asked}
 use Rattle.kv_model.specs.State.{State}
 use Rattle.kv_model.specs.declared.batch.BatchRefused.{BatchRefused}
 use Rattle.kv_model.specs.declared.request.Request.{Request}
-use Rattle.kv_bucket.specs.Keeping.{Kept, IsAt}
+use Rattle.kv_bucket.specs.Keeping.{KeeperState, IsAt}
 
 -- from every state that the value was at, in full, the requests are accepted, each behind those before it; it is at the
 -- state with their writes, and the revision of the first was answered
-abbrev pub IsKeptBatch : Kept → List Request → ℕ → Kept → Type 0
+abbrev pub IsKeptBatch : KeeperState → List Request → ℕ → KeeperState → Type 0
 IsKeptBatch old requests first new = (state : State) → IsAt state old →
     (ws : List Write) × ((accept_all state.config (map asked requests) state.acts ≡ Ok ws)
     × ((first ≡ first_revision state.acts ws) × IsAt (after_batch state (Ok ws)) new))

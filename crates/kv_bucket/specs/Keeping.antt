@@ -16,16 +16,16 @@ use Rattle.kv_single.specs.Held.{Bucketed, Represents}
 use Rattle.kv_model.specs.State.{State, Watch, after, answer_to, may_compact}
 
 -- a bucket, and the acts that are published of its opening
-pub record Kept : Type 0 where
+pub record KeeperState : Type 0 where
   pub bucket : Bucketed
   pub published : List Act
 
-abbrev pub kept_of : Bucketed → List Act → Kept
+abbrev pub kept_of : Bucketed → List Act → KeeperState
 kept_of bucket published = record { bucket = bucket; published = published }
 
 -- the value under the lock is at a state of the model: its bucket represents it, and the acts of the state are those
 -- that are published
-pub record IsAt (state : State) (kept : Kept) : Type 0 where
+pub record IsAt (state : State) (kept : KeeperState) : Type 0 where
   pub represents : Represents state kept.bucket
   pub published : kept.published ≡ state.acts
 
@@ -38,11 +38,11 @@ abbrev pub state_of : Configuration → List Act → List Watch → State
 state_of config acts watches = record { config = config; acts = acts; watches = watches }
 
 -- it is at some state of this configuration
-abbrev pub IsSomewhere : Configuration → Kept → Type 0
+abbrev pub IsSomewhere : Configuration → KeeperState → Type 0
 IsSomewhere config kept = (watches : List Watch) × IsAt (state_of config kept.published watches) kept
 
 -- a call is one step of the model, from every state that the value was at, in full
-abbrev pub IsKeptStep : Kept → Call → Answer → Kept → Type 0
+abbrev pub IsKeptStep : KeeperState → Call → Answer → KeeperState → Type 0
 IsKeptStep old call answer new = (state : State) → IsAt state old → (answer ≡ answer_to state call) ×
     IsAt (after state call) new
 

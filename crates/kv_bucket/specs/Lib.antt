@@ -1,9 +1,9 @@
 pub mod Batches
-pub mod Feeding
+pub mod FeedState
 pub mod Histories
 pub mod Keeping
-pub mod Known
 pub mod Owed
+pub mod ReaderState
 pub mod Receipts
 pub mod Serving
 pub mod inside

@@ -3,7 +3,7 @@ use Rattle.std.specs.Prelude.{◌≡◌, ℕ, ◌<◌, ◌==◌, Bool, true, fal
 use Rattle.kv_model.specs.Acts.{Act, Wrote, Write, IsPrefix, writes_of}
 use Rattle.kv_model.specs.Given.{Item, AnEntry, EndMarker, entry_of}
 use Rattle.kv_model.specs.further.Showing.{is_shown}
-use Rattle.kv_bucket.specs.Feeding.{Feeding}
+use Rattle.kv_bucket.specs.FeedState.{FeedState}
 
 abbrev pub is_of : ℕ → Item → Bool
 is_of revision (AnEntry entry) = entry.revision == revision
@@ -15,11 +15,11 @@ items_of_revision revision items = filter (is_of revision) items
 
 -- a feed owes a write that is the last of acts which it went on to, where it is live for the feed (behind the writes of
 -- its beginning), it matches, and it is shown
-pub record Owes (feed : Feeding) (told : List Act) (w : Write) : Type 0 where
+pub record Owes (feed : FeedState) (told : List Act) (w : Write) : Type 0 where
   pub reached : IsPrefix (told ++ Wrote w ∷ []) feed.acts
   pub live : length (writes_of feed.began) < w.revision
   pub shown : is_shown feed.filters feed.options w ≡ true
 
 -- the write is among the items exactly once, as the feed shows it
-abbrev pub HasOnce : Feeding → Write → List Item → Type 0
+abbrev pub HasOnce : FeedState → Write → List Item → Type 0
 HasOnce feed w items = items_of_revision w.revision items ≡ AnEntry (entry_of feed.options.headers_only w) ∷ []

@@ -9,8 +9,8 @@ ghost use Rattle.kv_model.specs.Acts.{Act, Write, IsPrefix, floor_of};
 ghost use Rattle.kv_store.specs.Standing.{StandsFor};
 ghost use Rattle.kv_watch.specs.Taking.{item_taken};
 ghost use Rattle.kv_bucket.specs.inside.Fed.{acts_on, opened};
-ghost use Rattle.kv_bucket.specs.Feeding.{Feeding, HasSeenMore, HasLearned, IsRefreshed, IsNotRefreshed, IsStopped, lags, WentOn, HandsNext, given_by, next_of, after_item};
-ghost use Rattle.kv_bucket.specs.Known.{IsUnread};
+ghost use Rattle.kv_bucket.specs.FeedState.{FeedState, HasSeenMore, HasLearned, IsRefreshed, IsNotRefreshed, IsStopped, lags, WentOn, HandsNext, given_by, next_of, after_item};
+ghost use Rattle.kv_bucket.specs.ReaderState.{IsUnread};
 ghost use Rattle.kv_bucket.specs.Owed.{Owes, HasOnce};
 ghost use Rattle.kv_publish.specs.Publications.{IsOf};
 
@@ -51,12 +51,12 @@ impl<N: LiveName> Drop for Feed<N> {
 }
 
 impl<N: LiveName> Model for Feed<N> {
-    ghost use Rattle.kv_bucket.specs.inside.Fed.{IsFed, feeding_of};
-    ghost use Rattle.kv_bucket.specs.Feeding.{Feeding};
+    ghost use Rattle.kv_bucket.specs.inside.Fed.{IsFed, feed_state_of};
+    ghost use Rattle.kv_bucket.specs.FeedState.{FeedState};
 
-    ghost Value = { Feeding };
+    ghost Value = { FeedState };
 
-    ghost view = { λ f. feeding_of N.opening.config f.reader f.began.value.acts f.current f.watch.cursor };
+    ghost view = { λ f. feed_state_of N.opening.config f.reader f.began.value.acts f.current f.watch.cursor };
 
     ghost invariant = { λ f. IsFed N.opening.config f.reader f.began.value.acts f.current f.watch };
 }

@@ -9,7 +9,7 @@ ghost use Rattle.kv_model.specs.Acceptance.{accept, IsLawful};
 ghost use Rattle.kv_model.specs.Acts.{Act, IsPrefix, Wrote, Write as AWrite, writes_of};
 ghost use Rattle.kv_model.specs.Requests.{asked};
 ghost use Rattle.kv_store.specs.Standing.{StandsFor};
-ghost use Rattle.kv_bucket.specs.Known.{IsUnread};
+ghost use Rattle.kv_bucket.specs.ReaderState.{IsUnread};
 ghost use Rattle.kv_watch.specs.Taking.{item_taken};
 ghost use Rattle.kv_single.specs.Stepping.{IsStep};
 ghost use Rattle.kv_model.specs.declared.call.Call.{Call as ACall};
@@ -44,9 +44,9 @@ pub struct Keeper<N: LiveName> {
 }
 
 impl<N: LiveName> Model for Keeper<N> {
-    ghost use Rattle.kv_bucket.specs.Keeping.{Kept, IsSomewhere, Shows, kept_of};
+    ghost use Rattle.kv_bucket.specs.Keeping.{KeeperState, IsSomewhere, Shows, kept_of};
 
-    ghost Value = { Kept };
+    ghost Value = { KeeperState };
 
     ghost view = { λ k. kept_of k.bucket k.publisher };
 

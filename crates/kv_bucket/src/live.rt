@@ -7,7 +7,7 @@ ghost use Rattle.kv_keys.specs.Outcome.{Refuses};
 ghost use Rattle.kv_model.specs.Acceptance.{IsLawful};
 ghost use Rattle.kv_model.specs.Acts.{Act};
 ghost use Rattle.kv_model.specs.Requests.{asked};
-ghost use Rattle.kv_bucket.specs.Known.{IsUnread};
+ghost use Rattle.kv_bucket.specs.ReaderState.{IsUnread};
 ghost use Rattle.kv_bucket.specs.Histories.{IsPublishedHistory};
 ghost use Rattle.kv_bucket.specs.Keeping.{IsSomewhere, PublishesWrite, WritesSomewhere, RefusedSomewhere, CompactsSomewhere, UncompactedSomewhere, may_open};
 

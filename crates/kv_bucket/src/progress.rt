@@ -4,7 +4,7 @@ ghost use Rattle.std.specs.Prelude.{◌≡◌, ◌⊎◌, [], true, false, IfOk,
 ghost use Rattle.std.specs.Option.{option_map};
 ghost use Rattle.kv_model.specs.Acts.{IsPrefix, floor_of};
 ghost use Rattle.kv_store.specs.Standing.{StandsFor};
-ghost use Rattle.kv_bucket.specs.Known.{IsWithin};
+ghost use Rattle.kv_bucket.specs.ReaderState.{IsWithin};
 ghost use Rattle.kv_bucket.specs.inside.Fed.{TellsLag, TellsLagOf, IsNotCopied};
 ghost use Rattle.kv_publish.specs.Publications.{IsOf};
 
@@ -34,9 +34,9 @@ impl<N: LiveName> Drop for Progress<N> {
 }
 
 impl<N: LiveName> Model for Progress<N> {
-    ghost use Rattle.kv_bucket.specs.Known.{Known};
+    ghost use Rattle.kv_bucket.specs.ReaderState.{ReaderState};
 
-    ghost Value = { Known };
+    ghost Value = { ReaderState };
 
     ghost view = { λ k. record { seen = k.seen; told = k.told } };
 }

@@ -4,7 +4,7 @@ ghost use Rattle.std.specs.Prelude.{◌≡◌, ◌<◌, ◌^◌, ◌++◌, ◌�
 ghost use Rattle.kv_keys.specs.declared.error.KvError.TheVariants.{OutOfMemory};
 ghost use Rattle.kv_model.specs.Acts.{IsPrefix};
 ghost use Rattle.kv_store.specs.Standing.{StandsFor};
-ghost use Rattle.kv_bucket.specs.Known.{IsUnread};
+ghost use Rattle.kv_bucket.specs.ReaderState.{IsUnread};
 ghost use Rattle.kv_bucket.specs.Histories.{IsPublishedHistory};
 ghost use Rattle.kv_bucket.specs.Receipts.{EndsAt};
 ghost use Rattle.kv_publish.specs.Publications.{IsOf};

@@ -5,7 +5,7 @@ ghost use Rattle.std.specs.Option.{option_map};
 ghost use Rattle.kv_keys.specs.declared.error.KvError.TheVariants.{NoReader, OutOfMemory};
 ghost use Rattle.kv_model.specs.Acts.{IsPrefix, floor_of};
 ghost use Rattle.kv_store.specs.Standing.{StandsFor};
-ghost use Rattle.kv_bucket.specs.Known.{IsUnread, IsWithin};
+ghost use Rattle.kv_bucket.specs.ReaderState.{IsUnread, IsWithin};
 ghost use Rattle.kv_bucket.specs.inside.Fed.{TellsLag, TellsLagOf, IsNotShown};
 ghost use Rattle.kv_publish.specs.Publications.{IsOf};
 
@@ -50,10 +50,10 @@ impl<N: LiveName> Drop for Reader<N> {
 
 impl<N: LiveName> Model for Reader<N> {
     ghost use Rattle.std.specs.Prelude.{◌≡◌, [], IsSome};
-    ghost use Rattle.kv_bucket.specs.Known.{Known};
+    ghost use Rattle.kv_bucket.specs.ReaderState.{ReaderState};
     ghost use Rattle.kv_publish.specs.Publications.{IsOf};
 
-    ghost Value = { Known };
+    ghost Value = { ReaderState };
 
     ghost view = { λ r. r.progress };
 

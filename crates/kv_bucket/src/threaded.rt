@@ -5,7 +5,7 @@ ghost use Rattle.kv_keys.specs.declared.error.KvError.TheVariants.{NoReader, Out
 ghost use Rattle.kv_keys.specs.Outcome.{Refuses};
 ghost use Rattle.kv_model.specs.Configuration.{Configuration};
 ghost use Rattle.kv_bucket.specs.Keeping.{may_open};
-ghost use Rattle.kv_bucket.specs.Known.{IsUnread};
+ghost use Rattle.kv_bucket.specs.ReaderState.{IsUnread};
 ghost use Rattle.kv_bucket.specs.Serving.{AnswersEach, AreNumbered};
 
 use crate::live::{Live, Opened};

@@ -9,7 +9,7 @@ use Rattle.kv_model.specs.Given.{Item}
 use Rattle.kv_model.proofs.GivenLaws.{given_goes_on}
 use Rattle.kv_single.specs.Replies.{answer_of}
 use Rattle.kv_single.specs.declared.reply.Reply.{Reply}
-use Rattle.kv_bucket.specs.Feeding.{Feeding, IsRefreshed, IsNotRefreshed, given_by, next_of, after_item}
+use Rattle.kv_bucket.specs.FeedState.{FeedState, IsRefreshed, IsNotRefreshed, given_by, next_of, after_item}
 use Rattle.kv_race.specs.Watching.{HandsOut, reply_to}
 
 take_prefix : {X : Type 0} (n : ℕ) (xs ys : List X) → n ≤ length xs → take n (xs ++ ys) ≡ take n xs
@@ -18,19 +18,19 @@ take_prefix (suc n) [] ys l = absurd (omega arith)
 take_prefix (suc n) (x ∷ xs) ys l = ap (λ zs. x ∷ zs) (take_prefix n xs ys (omega arith))
 
 -- what was handed out stays
-pub went_on : (before after : Feeding) → IsPrefix before.began before.acts → before.handed ≤ length (given_by before) → IsRefreshed before after
+pub went_on : (before after : FeedState) → IsPrefix before.began before.acts → before.handed ≤ length (given_by before) → IsRefreshed before after
     → take after.handed (given_by after) ≡ take before.handed (given_by before)
 went_on before after began within r =
     let later = after.reader.seen in
-    let grows : IsPrefix before.acts later = subst (λ (acts : List Act). IsPrefix before.acts acts) (ap (λ (f : Feeding). f.acts) r.same) r.grows in
+    let grows : IsPrefix before.acts later = subst (λ (acts : List Act). IsPrefix before.acts acts) (ap (λ (f : FeedState). f.acts) r.same) r.grows in
     let more = given_goes_on before.config.history before.began before.acts later before.filters before.options began grows in
-    ap (λ (f : Feeding). take f.handed (given_by f)) r.same
+    ap (λ (f : FeedState). take f.handed (given_by f)) r.same
     ∙ (ap (take before.handed) (sym more.1) ∙ take_prefix before.handed (given_by before) more.0 within)
 
-pub stayed : (before after : Feeding) → IsNotRefreshed before after → take after.handed (given_by after) ≡ take before.handed (given_by before)
-stayed before after r = ap (λ (f : Feeding). take f.handed (given_by f)) r.same
+pub stayed : (before after : FeedState) → IsNotRefreshed before after → take after.handed (given_by after) ≡ take before.handed (given_by before)
+stayed before after r = ap (λ (f : FeedState). take f.handed (given_by f)) r.same
 
-handed_next : (feed : Feeding) (reply : Option Reply) (next : Option Item) → slice_get (given_by feed) feed.handed ≡ next → option_map answer_of reply ≡ option_map reply_to next
+handed_next : (feed : FeedState) (reply : Option Reply) (next : Option Item) → slice_get (given_by feed) feed.handed ≡ next → option_map answer_of reply ≡ option_map reply_to next
     → ((x : Item) × (feed.handed < length (given_by feed)) × (slice_get (given_by feed) feed.handed ≡ Some x) × (get_or (given_by feed) feed.handed x ≡ x)) ⊎ ((length (given_by feed) ≤ feed.handed) × (slice_get (given_by feed) feed.handed ≡ None))
     → HandsOut (take feed.handed (given_by feed)) (length (given_by feed) - feed.handed) reply (take (after_item feed next).handed (given_by (after_item feed next))) (length (given_by (after_item feed next)) - (after_item feed next).handed)
 handed_next feed None None is e cases =
@@ -51,8 +51,8 @@ handed_next feed (Some reply) (Some item) is e cases =
     ⊎_elim some past cases
 
 -- one item more was handed out, or there was none
-pub handed_on : (feed after : Feeding) (reply : Option Reply) → after ≡ after_item feed (next_of feed) → option_map answer_of reply ≡ option_map reply_to (next_of feed)
+pub handed_on : (feed after : FeedState) (reply : Option Reply) → after ≡ after_item feed (next_of feed) → option_map answer_of reply ≡ option_map reply_to (next_of feed)
     → HandsOut (take feed.handed (given_by feed)) (length (given_by feed) - feed.handed) reply (take after.handed (given_by after)) (length (given_by after) - after.handed)
 handed_on feed after reply same e =
-    subst (λ (f : Feeding). HandsOut (take feed.handed (given_by feed)) (length (given_by feed) - feed.handed) reply (take f.handed (given_by f)) (length (given_by f) - f.handed)) (sym same)
+    subst (λ (f : FeedState). HandsOut (take feed.handed (given_by feed)) (length (given_by feed) - feed.handed) reply (take f.handed (given_by f)) (length (given_by f) - f.handed)) (sym same)
     (handed_next feed reply (next_of feed) refl e (slice_get_cases (given_by feed) feed.handed).1)

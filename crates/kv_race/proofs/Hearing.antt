@@ -3,23 +3,23 @@ use Rattle.std.proofs.Common.{◌≡◌, ℕ, ◌+◌, ◌<◌, ◌≤◌, List,
 use Rattle.std.proofs.lemmas.List.{get_or-map, length-map}
 use Rattle.std.proofs.lemmas.List.Elements.{All-more}
 use Rattle.kv_model.specs.Acts.{Act, IsPrefix}
-use Rattle.kv_bucket.specs.Feeding.{Feeding, HasLearned}
+use Rattle.kv_bucket.specs.FeedState.{FeedState, HasLearned}
 use Rattle.kv_publish.proofs.Prefixes.{prefix_self, prefix_trans}
 use Rattle.kv_race.specs.Telling.{Answered, Begin, BeginAll}
 
-pub heard_nothing : (feed : Feeding) → HasLearned [] feed feed
+pub heard_nothing : (feed : FeedState) → HasLearned [] feed feed
 heard_nothing feed = record { seen = refl; former = prefix_self feed.reader.told; learned = (feed.reader.told, refl); same = refl }
 
 -- what one receipt told was told
-pub heard_one : (told : List Act) (before after : Feeding) → HasLearned told before after → HasLearned [] before after
+pub heard_one : (told : List Act) (before after : FeedState) → HasLearned told before after → HasLearned [] before after
 heard_one told before after one = record { seen = one.seen; former = one.former; learned = (after.reader.told, refl); same = one.same }
 
-pub heard_more : (a b c : Feeding) → HasLearned [] a b → HasLearned [] b c → HasLearned [] a c
+pub heard_more : (a b c : FeedState) → HasLearned [] a b → HasLearned [] b c → HasLearned [] a c
 heard_more a b c p q = record {
   seen = q.seen ∙ p.seen;
   former = prefix_trans a.reader.told b.reader.told c.reader.told p.former q.former;
   learned = (c.reader.told, refl);
-  same = q.same ∙ ap (λ (f : Feeding). let g : Feeding = record f { reader = c.reader } in g) p.same;
+  same = q.same ∙ ap (λ (f : FeedState). let g : FeedState = record f { reader = c.reader } in g) p.same;
 }
 
 tell_later : (acts later : List Act) (answer : Answered) → IsPrefix acts later → IfOk answer (λ told. IsPrefix told.1 acts) → IfOk answer (λ told. IsPrefix told.1 later)

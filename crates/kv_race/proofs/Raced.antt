@@ -13,7 +13,7 @@ use Rattle.kv_model.specs.declared.options.Options.{Options}
 use Rattle.kv_model.specs.Given.{given}
 use Rattle.kv_single.specs.Replies.{answer_of}
 use Rattle.kv_single.specs.declared.reply.Reply.{Reply}
-use Rattle.kv_bucket.specs.Feeding.{Feeding, given_by}
+use Rattle.kv_bucket.specs.FeedState.{FeedState, given_by}
 use Rattle.kv_race.specs.Openings.{IsFresh}
 use Rattle.kv_race.specs.Racing.{AreNumbered, EachReply, IsSeen, IsWritten, IsWatched, IsRaced}
 use Rattle.kv_race.specs.Telling.{Answered, Begin, BeginAll, IsTold, IsFollowed, IsEnded, IsShown, HasLast, reply_of}
@@ -61,12 +61,12 @@ all_seen config acts filters options scripts answers lawful h b =
 lawful_shown : (config : Configuration) (answers : List (List Answered)) (acts : List Act) (version : Stored) → IsShown config answers acts version → IsLawful config acts
 lawful_shown config answers acts version shows = subst (λ (c : Configuration). IsLawful c acts) shows.same_config shows.stands.lawful
 
-module _ (config : Configuration) (acts : List Act) (scripts : List (List Asked)) (answers : List (List Answered)) (told_all : AllZip (AllZip (IsTold config)) scripts answers) {W E : Type 0} (feed_of : W → Feeding) (before_of : W → List Reply) (acts_of : E → List Act) (version_of : E → Stored) (seen_of : E → List Reply) where
+module _ (config : Configuration) (acts : List Act) (scripts : List (List Asked)) (answers : List (List Answered)) (told_all : AllZip (AllZip (IsTold config)) scripts answers) {W E : Type 0} (feed_of : W → FeedState) (before_of : W → List Reply) (acts_of : E → List Act) (version_of : E → Stored) (seen_of : E → List Reply) where
   -- a watch that was followed from its beginning
   abbrev pub Begun : List (List ℕ) × Options → W → Type 0
   Begun watch w = ((feed_of w).config ≡ config) × (((feed_of w).began ≡ []) × (((feed_of w).filters ≡ watch.0) × (((feed_of w).options ≡ watch.1) × Are (before_of w) (take (feed_of w).handed (given_by (feed_of w))))))
 
-  begun : (watch : List (List ℕ) × Options) (feed : Feeding) (w : W) → IsFresh config watch feed → IsFollowed feed (feed_of w) (before_of w) → Begun watch w
+  begun : (watch : List (List ℕ) × Options) (feed : FeedState) (w : W) → IsFresh config watch feed → IsFollowed feed (feed_of w) (before_of w) → Begun watch w
   begun watch feed w fresh followed =
       (followed.config ∙ fresh.same_config, (followed.began ∙ fresh.began, (followed.filters ∙ fresh.filters, (followed.options ∙ fresh.options, followed.written fresh.handed))))
 
@@ -82,7 +82,7 @@ module _ (config : Configuration) (acts : List Act) (scripts : List (List Asked)
         once = all_seen config acts watch.0 watch.1 scripts answers (lawful_shown config answers acts (version_of e) ends.shown) told_all ends.shown.told;
       }
 
-  pub all_watched : (watches : List (List (List ℕ) × Options)) (feeds : List Feeding) (ws : List W) (es : List E) → AllZip (IsFresh config) watches feeds
+  pub all_watched : (watches : List (List (List ℕ) × Options)) (feeds : List FeedState) (ws : List W) (es : List E) → AllZip (IsFresh config) watches feeds
       → AllZip (λ feed w. IsFollowed feed (feed_of w) (before_of w)) feeds ws
       → AllZip (λ w e. IsEnded config answers (feed_of w) (before_of w) (acts_of e) (version_of e) (seen_of e)) ws es
       → All (λ seen. seen ≡ acts) (map acts_of es)
@@ -111,8 +111,8 @@ module _ (config : Configuration) {S A : Type 0} (script_of : S → List Asked) 
       (zip_unmap_right Fits Ok scripts answers (subst (λ (ones : List (Result A KvError)). AllZip Fits scripts ones) e h)))
 
   -- what the parts of a race did comes to what it promises
-  pub raced : {R W E V : Type 0} (replies_of : R → List (Result ℕ KvError)) (feed_of : W → Feeding) (before_of : W → List Reply) (acts_of : E → List Act) (version_of : E → Stored) (seen_of : E → List Reply) (items_of : V → List Reply)
-      (scripts : List S) (watches : List (List (List ℕ) × Options)) (feeds : List Feeding) (worked : List (Result A KvError)) (ws : List W) (answers : List A) (es : List E) (ss : List V) (version : Stored) (replies : List R)
+  pub raced : {R W E V : Type 0} (replies_of : R → List (Result ℕ KvError)) (feed_of : W → FeedState) (before_of : W → List Reply) (acts_of : E → List Act) (version_of : E → Stored) (seen_of : E → List Reply) (items_of : V → List Reply)
+      (scripts : List S) (watches : List (List (List ℕ) × Options)) (feeds : List FeedState) (worked : List (Result A KvError)) (ws : List W) (answers : List A) (es : List E) (ss : List V) (version : Stored) (replies : List R)
       → AllZip (IsFresh config) watches feeds
       → AllZip (λ script one. IfOk one (λ some. AllZip (IsTold config) (script_of script) (answers_of some))) scripts worked → worked ≡ map Ok answers
       → AllZip (λ feed w. IsFollowed feed (feed_of w) (before_of w)) feeds ws

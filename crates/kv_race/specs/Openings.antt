@@ -5,7 +5,7 @@ use Rattle.kv_keys.specs.declared.error.KvError.{KvError}
 use Rattle.kv_keys.specs.declared.error.KvError.TheVariants.{BadConfig, NoReader}
 use Rattle.kv_model.specs.Configuration.{Configuration, configure}
 use Rattle.kv_model.specs.declared.options.Options.{Options}
-use Rattle.kv_bucket.specs.Feeding.{Feeding}
+use Rattle.kv_bucket.specs.FeedState.{FeedState}
 
 -- a race has 1 to 16 workers and at most 32 watches
 abbrev pub for_race : ℕ → ℕ → Configuration → Result Configuration KvError
@@ -26,7 +26,7 @@ abbrev pub RefusesRace : KvError → Result Configuration KvError → Type 0
 RefusesRace error outcome = Refuses error outcome ⊎ ((error ≡ NoReader) × IsOk outcome)
 
 -- a feed of a watch that began on the empty bucket of this configuration and has handed out nothing
-pub record IsFresh (config : Configuration) (watch : List (List ℕ) × Options) (feed : Feeding) : Type 0 where
+pub record IsFresh (config : Configuration) (watch : List (List ℕ) × Options) (feed : FeedState) : Type 0 where
   pub same_config : feed.config ≡ config
   pub began : feed.began ≡ []
   pub filters : feed.filters ≡ watch.0

@@ -8,7 +8,7 @@ use Rattle.kv_store.specs.Standing.{StandsFor}
 use Rattle.kv_store.specs.Stored.{Stored}
 use Rattle.kv_single.specs.declared.reply.Reply.{Reply}
 use Rattle.kv_bucket.specs.Keeping.{PublishesWrite, RefusedSomewhere}
-use Rattle.kv_bucket.specs.Feeding.{Feeding, given_by}
+use Rattle.kv_bucket.specs.FeedState.{FeedState, given_by}
 use Rattle.kv_race.specs.Watching.{Are}
 
 -- what a worker was answered: the revision with the acts that its receipt tells, or the refusal
@@ -32,7 +32,7 @@ Begin acts answers = All (λ answer. IfOk answer (λ told. IsPrefix told.1 acts)
 
 -- a feed was followed: it is the same watch, and where it had handed out nothing, all that it has handed out by now was
 -- written down
-pub record IsFollowed (before after : Feeding) (seen : List Reply) : Type 0 where
+pub record IsFollowed (before after : FeedState) (seen : List Reply) : Type 0 where
   pub config : after.config ≡ before.config
   pub began : after.began ≡ before.began
   pub filters : after.filters ≡ before.filters
@@ -52,7 +52,7 @@ pub record IsShown (config : Configuration) (answers : List (List Answered)) (ac
 
 -- a watch has ended with a version: where all that it had handed out was written down, all that it is given by the
 -- version's acts is now
-pub record IsEnded (config : Configuration) (answers : List (List Answered)) (feed : Feeding) (before : List Reply)
+pub record IsEnded (config : Configuration) (answers : List (List Answered)) (feed : FeedState) (before : List Reply)
     (acts : List Act) (version : Stored) (seen : List Reply) : Type 0 where
   pub shown : IsShown config answers acts version
   pub all : Are before (take feed.handed (given_by feed)) → Are seen (given_by (record feed { acts = acts }))

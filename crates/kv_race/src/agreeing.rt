@@ -1,7 +1,7 @@
 //! The one list of acts that all watches of a race saw, and the version that stands for it.
 
 ghost use Rattle.std.specs.Prelude.{◌≡◌, true, [], IfOk, IfErr, All, map};
-ghost use Rattle.kv_bucket.specs.Known.{IsUnread};
+ghost use Rattle.kv_bucket.specs.ReaderState.{IsUnread};
 ghost use Rattle.kv_race.specs.Telling.{HasLast, IsShown};
 
 use crate::ending::{Answers, Ended, hear_all};

@@ -2,8 +2,8 @@
 
 ghost use Rattle.std.specs.Prelude.{◌≡◌, [], IfOk, IfErr, map};
 ghost use Rattle.kv_model.specs.Acts.{IsPrefix};
-ghost use Rattle.kv_bucket.specs.Feeding.{HasLearned};
-ghost use Rattle.kv_bucket.specs.Known.{IsUnread};
+ghost use Rattle.kv_bucket.specs.FeedState.{HasLearned};
+ghost use Rattle.kv_bucket.specs.ReaderState.{IsUnread};
 ghost use Rattle.kv_race.specs.Telling.{Begin, BeginAll, IsEnded};
 
 use crate::feeding::{is_within, refresh};

@@ -6,8 +6,8 @@ ghost use Rattle.std.specs.Option.{option_map};
 ghost use Rattle.kv_keys.specs.declared.error.KvError.TheVariants.{OutOfMemory};
 ghost use Rattle.kv_watch.specs.Taking.{item_taken};
 ghost use Rattle.kv_single.specs.Replies.{answer_of};
-ghost use Rattle.kv_bucket.specs.Feeding.{IsRefreshed, IsNotRefreshed, given_by};
-ghost use Rattle.kv_bucket.specs.Known.{IsUnread};
+ghost use Rattle.kv_bucket.specs.FeedState.{IsRefreshed, IsNotRefreshed, given_by};
+ghost use Rattle.kv_bucket.specs.ReaderState.{IsUnread};
 ghost use Rattle.kv_race.specs.Watching.{reply_to};
 
 use crate::never::never;

@@ -5,7 +5,7 @@ ghost use Rattle.kv_keys.specs.Outcome.{Refuses};
 ghost use Rattle.kv_keys.specs.declared.error.KvError.TheVariants.{OutOfMemory};
 ghost use Rattle.kv_model.specs.Requests.{asked};
 ghost use Rattle.kv_single.specs.Replies.{answer_of};
-ghost use Rattle.kv_bucket.specs.Known.{IsUnread};
+ghost use Rattle.kv_bucket.specs.ReaderState.{IsUnread};
 ghost use Rattle.kv_race.specs.Openings.{may_race, RefusesRace};
 ghost use Rattle.std.specs.List.{AllZip};
 ghost use Rattle.kv_race.specs.Racing.{AreNumbered, IsRaced};

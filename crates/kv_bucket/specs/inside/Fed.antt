@@ -7,8 +7,8 @@ use Rattle.kv_model.specs.Configuration.{Configuration}
 use Rattle.kv_model.specs.declared.options.Options.{Options}
 use Rattle.kv_watch.specs.Following.{Following}
 use Rattle.kv_watch.specs.Watching.{Watching, HasHanded}
-use Rattle.kv_bucket.specs.Feeding.{Feeding, lags}
-use Rattle.kv_bucket.specs.Known.{Known}
+use Rattle.kv_bucket.specs.FeedState.{FeedState, lags}
+use Rattle.kv_bucket.specs.ReaderState.{ReaderState}
 use Rattle.kv_publish.specs.Publications.{Published}
 
 -- the acts that a publication's version stands for
@@ -17,13 +17,13 @@ acts_on publication = publication.raw_prefix.acts
 
 -- the watch of a feed follows from these acts of its beginning to those that the feed went on to, under this configuration;
 -- its reader has seen what it went on to
-pub record IsFed (config : Configuration) (reader : Known) (began : List Act) (current : Published) (watch : Watching) : Type 0 where
+pub record IsFed (config : Configuration) (reader : ReaderState) (began : List Act) (current : Published) (watch : Watching) : Type 0 where
   pub same_config : watch.opening.config ≡ config
   pub seen : IsPrefix (acts_on current) reader.seen
   pub reach : HasHanded began (acts_on current) watch.cursor.handed current.version watch
 
-abbrev pub feeding_of : Configuration → Known → List Act → Published → Following → Feeding
-feeding_of config reader began current cursor = record {
+abbrev pub feed_state_of : Configuration → ReaderState → List Act → Published → Following → FeedState
+feed_state_of config reader began current cursor = record {
   config = config;
   reader = reader;
   began = began;
@@ -34,7 +34,7 @@ feeding_of config reader began current cursor = record {
 }
 
 -- a feed that begins with these acts and has handed out nothing
-abbrev pub opened : Configuration → Known → List Act → List (List ℕ) → Options → Feeding
+abbrev pub opened : Configuration → ReaderState → List Act → List (List ℕ) → Options → FeedState
 opened config reader acts filters options = record {
   config = config;
   reader = reader;
@@ -47,7 +47,7 @@ opened config reader acts filters options = record {
 
 -- whether a feed that is on this publication with this watch lags behind a floor
 abbrev pub TellsLag : Published → Watching → ℕ → Bool → Type 0
-TellsLag current watch floor answer = (feed : Feeding) → feed.config ≡ watch.opening.config →
+TellsLag current watch floor answer = (feed : FeedState) → feed.config ≡ watch.opening.config →
     feed.acts ≡ acts_on current → feed.filters ≡ watch.cursor.filters → feed.options ≡ watch.cursor.options →
     HasHanded feed.began feed.acts feed.handed current.version watch → answer ≡ lags floor feed
 

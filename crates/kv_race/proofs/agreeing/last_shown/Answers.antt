@@ -1,6 +1,6 @@
 use Rattle.std.proofs.Common.{inr}
 use Rattle.std.proofs.lemmas.Result.{IfErr-weaker, IfOk-weaker, err_from_is_err_and}
-use Rattle.kv_bucket.specs.Known.{IsUnread}
+use Rattle.kv_bucket.specs.ReaderState.{IsUnread}
 use Rattle.kv_race.specs.Telling.{HasLast}
 use Rattle.kv_race.proofs.Ended.{last_shown, shown}
 use Rattle.kv_race.proofs.agreeing.last_shown.Goals as goal

@@ -1,7 +1,7 @@
 use Rattle.std.proofs.Common.{◌≤◌, refl, inr, length}
 use Rattle.std.proofs.lemmas.Result.{IfErr-weaker, IfOk-weaker, err_from_is_err_and}
-use Rattle.kv_bucket.specs.Feeding.{given_by}
-use Rattle.kv_bucket.specs.Known.{IsUnread}
+use Rattle.kv_bucket.specs.FeedState.{given_by}
+use Rattle.kv_bucket.specs.ReaderState.{IsUnread}
 use Rattle.kv_race.specs.Telling.{IsEnded}
 use Rattle.kv_race.proofs.Ended.{ended}
 use Rattle.kv_race.proofs.ending.drain.Goals as goal

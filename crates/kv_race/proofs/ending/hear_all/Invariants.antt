@@ -1,5 +1,5 @@
 use Rattle.std.proofs.Common.{[], map, take}
-use Rattle.kv_bucket.specs.Feeding.{HasLearned}
+use Rattle.kv_bucket.specs.FeedState.{HasLearned}
 use Rattle.kv_race.specs.Telling.{BeginAll}
 use Rattle.kv_race.proofs.ending.hear_all.Given as goal
 

@@ -1,6 +1,6 @@
 use Rattle.std.proofs.Common.{◌+◌, List, take, sym, subst, ap, ◌∙◌}
 use Rattle.std.specs.List.{AllZip}
-use Rattle.kv_bucket.specs.Feeding.{Feeding}
+use Rattle.kv_bucket.specs.FeedState.{FeedState}
 use Rattle.kv_race.specs.Openings.{IsFresh}
 use Rattle.kv_race.proofs.Zips.{zip_more}
 use Rattle.kv_race.proofs.opening.open_feeds.Goals as goal
@@ -13,7 +13,7 @@ loop-n-preserved g c =
     let feed = c.in_ok-open_feed.field-0 in
     let fresh = c.in_ok-open_feed.ensures.ok in
     let same = c.index-watches-n.is in
-    subst (λ (feeds : List Feeding). AllZip (IsFresh config) (take (n + 1) watches) feeds) (sym c.in_ok-push.ensures.items)
+    subst (λ (feeds : List FeedState). AllZip (IsFresh config) (take (n + 1) watches) feeds) (sym c.in_ok-push.ensures.items)
     (zip_more (IsFresh config) watches c.loop-n.feeds.items n c.index-watches-n.result feed c.loop-n-test.true c.loop-n.invariant
     record {
       same_config = fresh.same_config;

@@ -1,5 +1,5 @@
 use Rattle.std.proofs.Common.{sym, subst}
-use Rattle.kv_bucket.specs.Feeding.{WentOn}
+use Rattle.kv_bucket.specs.FeedState.{WentOn}
 use Rattle.kv_bucket.proofs.Going.{went_nowhere, went_further, went_by_refresh, went_by_refusal}
 use Rattle.kv_bucket.proofs.feed.Feed.go_on.Goals as goal
 

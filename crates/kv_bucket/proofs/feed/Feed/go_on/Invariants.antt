@@ -1,4 +1,4 @@
-use Rattle.kv_bucket.specs.Feeding.{WentOn}
+use Rattle.kv_bucket.specs.FeedState.{WentOn}
 use Rattle.kv_bucket.proofs.feed.Feed.go_on.Given as goal
 
 -- it went on from where it was

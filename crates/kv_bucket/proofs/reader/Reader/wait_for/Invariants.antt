@@ -1,4 +1,4 @@
-use Rattle.kv_bucket.specs.Feeding.{HasSeenMore}
+use Rattle.kv_bucket.specs.FeedState.{HasSeenMore}
 use Rattle.kv_bucket.proofs.reader.Reader.wait_for.Given as goal
 
 -- it has seen more, or as much as before
