@@ -28,8 +28,9 @@ use std::snapshot::Snapshot;
 use std::sync::Wait;
 use std::time::Duration;
 
-/// A watch that takes no lock: it goes on from version to version as it is refreshed. Contracts see its reader, the
-/// acts when it was opened, those that its version stands for, what it shows, and how many items it handed out.
+/// A watch that takes no lock: it goes on from version to version as it is refreshed. Contracts see the configuration of
+/// its bucket, its reader, the acts when it was opened, those that its version stands for, what it shows, and how many
+/// items it handed out.
 pub struct Feed<N: LiveName> {
     reader: Reader<N>,
     // The acts of its beginning, as contracts see them. It has no bytes.
