@@ -118,8 +118,8 @@ fn redo_act(alloc: Global, version: &mut Version, bytes: &[u8]) -> Result<bool, 
     redo_record(alloc, version, bytes)
 }
 
-// The record at the front, which stands behind its length, and what stands behind it.
-fn part_of(bytes: &[u8]) -> Option<(&[u8], &[u8])>
+/// Of the records of a batch the one at the front, which stands behind its length, and what stands behind it.
+pub fn part_of(bytes: &[u8]) -> Option<(&[u8], &[u8])>
     ensures { MatchOption result
         ((part rest : List ℕ) → length part < 2 ^ 32 →
         bytes.now ≢ to_be_bytes w32 (length part) ++ (part ++ rest))
@@ -169,8 +169,8 @@ fn redo_batch(alloc: Global, version: &mut Version, bytes: &[u8]) -> Result<bool
     Ok(true)
 }
 
-// What stands behind the kind of a batch, if the record is one.
-fn batch_of(bytes: &[u8]) -> Option<&[u8]>
+/// The records of a batch, each behind its length, if this record is one.
+pub fn batch_of(bytes: &[u8]) -> Option<&[u8]>
     ensures { MatchOption result ((rest : List ℕ) → bytes.now ≢ 10 ∷ rest) (λ rest. bytes.now ≡ 10 ∷ rest.now) }
 {
     let [kind, rest @ ..] = bytes else {

@@ -16,6 +16,8 @@ pub use checkpoint::push_checkpoint;
 pub use damage::shows_damage;
 pub use decode::Record;
 pub use encode::{encode_batch, encode_closed, encode_compaction, encode_request, encode_seal};
+pub use entry::{batch_of, part_of};
 pub use header::{BeginningError, Begun, begin, push_beginning};
+pub use loose::loose_of;
 pub use replays::{ReplayError, Replayed, replay};
 pub use restoration::restore;

@@ -15,8 +15,8 @@ pub(crate) fn number_of(bytes: &[u8]) -> Option<(u32, &[u8])>
     Some((number, rest))
 }
 
-// How many bytes before its frame were loose, and the record behind that.
-pub(crate) fn loose_of(payload: &[u8]) -> Option<(u32, &[u8])>
+/// How many bytes before its frame an entry with this payload says were loose, and its record.
+pub fn loose_of(payload: &[u8]) -> Option<(u32, &[u8])>
     ensures { MatchOption result (length payload.now < 4)
         (λ l. (l.0 < 2 ^ 32) × (payload.now ≡ to_be_bytes w32 l.0 ++ l.1.now)) }
 {

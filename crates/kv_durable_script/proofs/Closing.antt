@@ -1,0 +1,53 @@
+-- What was answered is in the file that was closed.
+use Rattle.std.proofs.Common.{◌≡◌, ◌⊎◌, ℕ, Bool, true, false, List, Option, Result, Ok, Err, sym, ap, ◌∙◌, inl, inr}
+use Rattle.std.specs.Prelude.{⊤, OnOk}
+use Rattle.kv_script.specs.declared.form.Form.{Form}
+use Rattle.kv_model.specs.State.{State}
+use Rattle.kv_journal.specs.Entries.{Entry}
+use Rattle.kv_replay.specs.Replaying.{EndsAt}
+use Rattle.kv_replay.specs.Sessions.{outside}
+use Rattle.kv_durable.specs.Durables.{IsAt}
+use Rattle.kv_durable.specs.Endings.{IsClosed}
+use Rattle.kv_durable.specs.Journals.{Keeps, is_stopped}
+use Rattle.kv_durable.specs.declared.durable.Durable.{Durable}
+use Rattle.kv_durable.specs.declared.journal.Journal.{Journal}
+use Rattle.kv_durable_script.specs.Keeping.{HasKept, KeepsMore, KeepsOn}
+use Rattle.kv_durable_script.specs.Runs.{ClosesBehind}
+
+module _ {F : Type 0} (has : F → List ℕ → List ℕ → Type 0) (usable : F → Bool) where
+  at_of : (state : State) (kept loose : List Entry) (d : Durable F) → is_stopped usable d.journal ≡ false → HasKept has usable state kept loose d → IsAt has usable state kept loose d
+  at_of state kept loose d goes has_kept = record {
+    represents = has_kept.represents;
+    acts = has_kept.acts;
+    keeps = keeps_of has_kept.file;
+  }
+    where
+      keeps_of : {X : Type 0} → Keeps has usable state.config kept loose d.journal ⊎ ((is_stopped usable d.journal ≡ true) × X) → Keeps has usable state.config kept loose d.journal
+      keeps_of {X} file = elim file [
+        | inl keeps ↦ keeps
+        | inr stopped ↦ absurd (let no : ⊥ = cc (goes, stopped.0) in no)
+      ]
+
+  pub closes : (form : Form) (state : State) (kept loose : List Entry) (unread left : Option (List ℕ)) (first last : Durable F) (file : F) → KeepsOn has usable first last → is_stopped usable last.journal ≡ false
+      → ((s : State) (k l : List Entry) → IsAt has usable s k l last → IsClosed has s.config k l s.acts last.journal file) → EndsAt form (outside state) unread left last.bucket
+      → IsAt has usable state kept loose first → ClosesBehind has usable form state kept loose unread left first file
+  closes form state kept loose unread left first last file on goes closed ends at =
+      let more = on state kept loose (record { represents = at.represents; acts = at.acts; file = inl at.keeps }) in
+      record {
+        last = last;
+        more = more;
+        closed = closed more.later more.on_disk more.behind (at_of more.later more.on_disk more.behind last goes more.has_kept);
+        input = ends.input;
+        read = ends.read;
+        answered = ends.stands;
+      }
+
+pub ok_gives : {E P : Type 0} (r : Result ⊤ E) → OnOk r P → r ≡ Ok tt → P
+ok_gives {E} {P} (Ok x) gives is = gives
+ok_gives {E} {P} (Err e) gives is = absurd (let no : ⊥ = cc is in no)
+
+-- what is seen of the last one is so of it
+pub goes_last : {F : Type 0} (usable : F → Bool) (last seen : Durable F) (journal : Journal F) (stops : Bool) → stops ≡ is_stopped usable journal → journal ≡ seen.journal → seen ≡ last → stops ≡ false
+    → is_stopped usable last.journal ≡ false
+goes_last {F} usable last seen journal stops is there here none =
+    ap (λ (d : Durable F). is_stopped usable d.journal) (sym here) ∙ ap (λ (j : Journal F). is_stopped usable j) (sym there) ∙ sym is ∙ none

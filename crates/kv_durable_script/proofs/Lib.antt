@@ -1,0 +1,9 @@
+pub mod Called
+pub mod Ends
+pub mod Closing
+pub mod Telling
+pub mod Lawful
+pub mod Pouring
+pub mod Words
+pub mod Asking
+pub mod Leading

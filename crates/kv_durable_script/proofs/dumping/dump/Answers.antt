@@ -1,0 +1,22 @@
+use Rattle.std.proofs.Common.{◌≡◌, rules}
+use Rattle.kv_keys.specs.declared.error.KvError.TheVariants.{WriteFault}
+use Rattle.kv_durable.specs.declared.error.DurableError.TheVariants.{Refused}
+use Rattle.kv_durable.proofs.Readings.{reads_from}
+use Rattle.kv_durable_script.proofs.Lawful.{can_dump}
+use Rattle.kv_durable_script.proofs.dumping.dump.Goals as goal
+
+pub returns-clause-ok : goal.returns-clause-ok
+returns-clause-ok g c =
+    let config = c.args.config.now in
+    let bytes = c.args.bytes.now in
+    let r = c.in_ok-recovered.ensures.ok in
+    let b = c.in-Ok.ensures.ok in
+    let splits = reads_from config bytes c.in-Ok.begun.framing.seed c.in-Ok.begun.place c.behind-entries.result.now b.0 c.in_ok-recovered.recovered.framing.seed r.0 r.1 b.1 b.2 c.behind-entries.ensures r.2 in
+    let can = can_dump config r.0 c.in_ok-check.ensures.ok.0 r.2.lawful in
+    (c.in_ok-recovered.recovered.framing.seed, r.0, r.1, r.2, r.6, c.in_ok-write_entries.ensures.ok r.0 r.1 splits can)
+
+pub returns-in_err-recovered-clause-write_fault : goal.returns-in_err-recovered-clause-write_fault
+returns-in_err-recovered-clause-write_fault g c =
+    let never : c.in_err-recovered.field-0.0 ≡ Refused WriteFault → ⊥ =
+    λ is. let refused = c.in_err-recovered.ensures.refused WriteFault is in let fine = c.in_ok-check.ensures.ok.1 in let no : ⊥ = cc (refused, fine) in no in
+    search (rules, never)

@@ -1,0 +1,4 @@
+pub mod Dumps
+pub mod Keeping
+pub mod Runs
+pub mod inside

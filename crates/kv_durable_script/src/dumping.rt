@@ -1,0 +1,129 @@
+//! The script of a file.
+
+ghost use Rattle.std.specs.Prelude.{◌≡◌, ◌≢◌, ◌+◌, ◌<◌, ◌≤◌, ◌^◌, ◌++◌, [], List, ℕ, IfErr, IfOk, IsErrOf, OnErr, OnOk, length, take, drop};
+ghost use Rattle.std.specs.Io.KnownBytes.{Appends};
+ghost use Rattle.std.specs.List.{AllByRecursion};
+ghost use Rattle.kv_frames.specs.Frames.{Splits};
+ghost use Rattle.kv_keys.specs.declared.error.KvError.TheVariants.{WriteFault};
+ghost use Rattle.kv_journal.specs.Entries.{Entry, payloads_of};
+ghost use Rattle.kv_replay.specs.Faults.{IsWriteOrMemory};
+ghost use Rattle.kv_replay.specs.inside.Written.{Pours, Puts};
+ghost use Rattle.kv_durable.specs.Files.{Reads};
+ghost use Rattle.kv_durable.specs.declared.error.DurableError.TheVariants.{FileBusy, FileFault, Refused};
+ghost use Rattle.kv_durable_script.specs.Dumps.{dump_text};
+ghost use Rattle.kv_durable_script.specs.inside.Dumpable.{CanDumpEntry};
+
+use crate::lines::push_entry;
+use kv_durable::{DurableError, recover};
+use kv_frames::Framing;
+use kv_journal::begin;
+use kv_keys::KvError;
+use kv_model::Config;
+use kv_replay::Output;
+use std::alloc::Global;
+
+// So many bytes of lines wait at the most, but for those of the entry that was read last.
+const WAITING_BYTES: usize = 65_536;
+
+// Writes the lines that wait where they are many.
+fn pour_many<K: Output>(out: &mut Vec<u8>, sink: &mut K) -> Result<(), KvError>
+    ensures same { K.goes_on sink.old sink.new }
+    ensures ok { OnOk result (Pours [] (K.held sink.old) out.old.items (K.held sink.new) out.new.items) }
+    ensures err { OnErr result ((n : ℕ) × Appends (K.held sink.old) (K.held sink.new) (take n out.old.items)) }
+    ensures fault { IfErr result (λ e. e ≡ WriteFault) }
+    ensures failed { OnErr result (K.failed_between sink.old sink.new) }
+{
+    if out.len() >= WAITING_BYTES {
+        sink.write(out)?;
+        out.clear();
+    }
+    Ok(())
+}
+
+// Makes the lines of the entries whose frames stand in the bytes, the first of them at this place, up to the first frame that
+// is not whole. They wait, and are written where they are many.
+fn pour_entries<K: Output>(
+    alloc: Global,
+    framing: &Framing,
+    at: u64,
+    bytes: &[u8],
+    out: &mut Vec<u8>,
+    sink: &mut K,
+) -> Result<(), KvError>
+    requires { at + length bytes.now < 2 ^ 64 }
+    ensures same { K.goes_on sink.old sink.new }
+    ensures ok { OnOk result ((entries : List Entry) (rest : List ℕ) → Splits framing.now.seed at bytes.now (payloads_of entries) rest →
+        AllByRecursion CanDumpEntry entries →
+        Pours (dump_text entries) (K.held sink.old) out.old.items (K.held sink.new) out.new.items) }
+    ensures write_fault { IsErrOf result WriteFault → K.failed_between sink.old sink.new }
+    ensures fault { IfErr result IsWriteOrMemory }
+{
+    let mut place = at;
+    let mut rest = bytes;
+    while let Some((payload, after)) = framing.frame_at(place, rest) {
+        push_entry(alloc, out, payload)?;
+        pour_many(out, sink)?;
+        place += 8 + payload.len() as u64;
+        rest = after;
+    }
+    Ok(())
+}
+
+// Writes the lines of the entries whose frames stand in the bytes.
+fn write_entries<K: Output>(
+    alloc: Global,
+    framing: &Framing,
+    at: u64,
+    bytes: &[u8],
+    sink: &mut K,
+) -> Result<(), KvError>
+    requires { at + length bytes.now < 2 ^ 64 }
+    ensures same { K.goes_on sink.old sink.new }
+    ensures ok { OnOk result ((entries : List Entry) (rest : List ℕ) → Splits framing.now.seed at bytes.now (payloads_of entries) rest →
+        AllByRecursion CanDumpEntry entries → Appends (K.held sink.old) (K.held sink.new) (dump_text entries)) }
+    ensures write_fault { IsErrOf result WriteFault → K.failed_between sink.old sink.new }
+    ensures fault { IfErr result IsWriteOrMemory }
+{
+    let mut out = Vec::new(alloc);
+    pour_entries(alloc, framing, at, bytes, &mut out, sink)?;
+    sink.write(&out)
+}
+
+// What stands behind this place.
+fn behind(bytes: &[u8], place: u64) -> &[u8]
+    requires { place ≤ length bytes.now }
+    ensures { result.now ≡ drop place bytes.now }
+{
+    &bytes[place as usize..]
+}
+
+/// Writes the script of the bytes of a file: the commands of its entries, one a line, in order. `put` has its value in base64;
+/// of a batch `batch N` stands before its lines. A create and an update stand there as puts. On a new bucket of the same
+/// configuration the script leads to the same acts: each entry with its revision, what was freed, and the seal. It answers how
+/// many bytes behind the last whole frame it left out.
+///
+/// The bytes are read as by [`Durable::open`](crate::Durable), and refused as there.
+pub fn dump<K: Output>(
+    alloc: Global,
+    config: &Config,
+    bytes: &[u8],
+    sink: &mut K,
+) -> Result<u64, DurableError>
+    requires { length bytes.now < 2 ^ 63 }
+    ensures same { K.goes_on sink.old sink.new }
+    // What stands in the bytes was written.
+    ensures ok { IfOk result (λ left_out. (seed : ℕ) × (entries : List Entry) × (rest : List ℕ)
+        × Reads config.now bytes.now seed entries rest × (left_out ≡ length rest)
+        × Appends (K.held sink.old) (K.held sink.new) (dump_text entries)) }
+    ensures write_fault { IsErrOf result (Refused WriteFault) → K.failed_between sink.old sink.new }
+    ensures no_fault { IfErr result (λ e. (e ≢ FileFault) × (e ≢ FileBusy)) }
+{
+    config.check()?;
+    let recovered = recover(alloc, config, bytes)?;
+    let Ok(begun) = begin(alloc, bytes, config) else {
+        return Err(DurableError::Refused(KvError::OutOfMemory));
+    };
+    let entries = behind(bytes, begun.place);
+    write_entries(alloc, &begun.framing, begun.place, entries, sink)?;
+    Ok(recovered.dropped)
+}

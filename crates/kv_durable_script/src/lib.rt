@@ -1,0 +1,15 @@
+//! Scripts on a durable bucket, and the script of its file.
+#![tactic(auto)]
+
+mod dumping;
+pub mod laws;
+mod lines;
+mod running;
+mod target;
+
+pub use dumping::dump;
+pub use kv_durable::{
+    Durable, DurableError, JournalFile, NotDone, OpenFault, Opened, Sync, SystemFile,
+};
+pub use running::{Finished, run_durable};
+pub use target::OnDurable;
