@@ -1,5 +1,5 @@
 -- What a batch makes of what lies under the lock.
-use Rattle.std.proofs.Common.{◌≡◌, ℕ, suc, ◌+◌, ◌<◌, ◌≤◌, ◌⊎◌, ⊎_elim, inl, inr, List, [], ◌∷◌, ◌++◌, Ok, length, map, take, refl, sym, ap, ◌∙◌, subst, arith, length-append}
+use Rattle.std.proofs.Common.{◌≡◌, ℕ, suc, ◌+◌, ◌<◌, ◌≤◌, ◌^◌, ◌⊎◌, ⊎_elim, inl, inr, List, [], ◌∷◌, ◌++◌, Ok, length, map, take, refl, sym, ap, ◌∙◌, subst, arith, length-append}
 use Rattle.std.proofs.Math.Seq.{take-append_seam}
 use Rattle.std.proofs.lemmas.List.{take-map}
 use Rattle.kv_keys.specs.declared.error.KvError.{KvError}
@@ -20,12 +20,12 @@ use Rattle.kv_publish.specs.Steps.{acts_from}
 use Rattle.kv_store.specs.Batches.{Leaves, LeavesEach}
 use Rattle.kv_store.specs.Standing.{StandsFor}
 use Rattle.kv_store.specs.Stored.{Stored}
-use Rattle.kv_single.specs.Batches.{LeadThere}
+use Rattle.kv_single.specs.Batches.{IsBatch, LeadThere}
 use Rattle.kv_single.specs.Held.{Bucketed, Represents}
 use Rattle.kv_single.proofs.Batching.{batch_done, batch_refused}
-use Rattle.kv_bucket.specs.Batches.{IsKeptBatch, PublishesAll, WritesAllSomewhere, RefusedAllSomewhere}
+use Rattle.kv_bucket.specs.Batches.{ComeNext, IsKeptBatch, PublishesAll, ReadyBatch, WritesAllSomewhere, RefusedAllSomewhere}
 use Rattle.kv_bucket.specs.Histories.{IsPublishedHistory}
-use Rattle.kv_bucket.specs.Keeping.{KeeperState, kept_of, IsAt, IsSomewhere, state_of}
+use Rattle.kv_bucket.specs.Keeping.{KeeperState, kept_of, kept_with, IsAt, IsSomewhere, state_of}
 use Rattle.kv_bucket.specs.inside.Beginnings.{HasBeginnings}
 use Rattle.kv_bucket.proofs.Histories.{lawful_under}
 use Rattle.kv_bucket.proofs.Keeping.{published_stands, same_config}
@@ -170,7 +170,20 @@ module _ (config : Configuration) (was : Bucketed) (before : List Act) (requests
         ),
       )
 
-  -- want of memory while it is published
+  -- what was made, and may be published next
+  abbrev pub MadeAll : KeeperState → ReadyBatch → Type 0
+  MadeAll k r = (IsKeptBatch k requests r.first (kept_with k (acts_from r.first requests) r.version) × PublishesAll config all r.first k.published (k.published ++ acts_from r.first requests))
+      × (ComeNext config k requests r × IsBatch k.bucket requests r.first (record k.bucket { version = r.version }))
+
+  pub batch_made : (now : KeeperState) → old ≡ now → revision < 2 ^ 32 → (ready : ReadyBatch) → ready ≡ record { first = revision; version = next } → MadeAll now ready
+  batch_made now is small ready made =
+      let kept = batch_kept old (record was { version = next }) (before ++ acts_from revision requests) refl (refl, refl) in
+      let comes : ComeNext config old requests (record { first = revision; version = next }) = record { small = small; leads = kept.0; each = has_beginnings; steps = leads } in
+      let batch : IsBatch was requests revision (record was { version = next }) = batch_done was requests first rest next revision split same leaves number in
+      let base : MadeAll old (record { first = revision; version = next }) = (kept.1, (comes, batch)) in
+      subst (λ (k : KeeperState). MadeAll k ready) is (subst (MadeAll old) (sym made) base)
+
+  -- want of memory while it is made
   pub memory_refused : (now : KeeperState) (refused : BatchRefused) → old ≡ now → refused ≡ refused_at (length rest) OutOfMemory → (state : State) → IsAt state now → IsRefusedAt state.config all state.acts refused
   memory_refused now refused is why state at =
       let there : IsAt state old = subst (IsAt state) (sym is) at in
@@ -232,3 +245,10 @@ all_somewhere config old requests first later some wrote = (old.published, (lawf
 
 pub refused_all_somewhere : (config : Configuration) (old : KeeperState) (requests : List Asked) (refused : BatchRefused) → IsSomewhere config old → ((state : State) → IsAt state old → IsRefusedAt state.config requests state.acts refused) → RefusedAllSomewhere config requests refused
 refused_all_somewhere config old requests refused some refuses = (old.published, (lawful_there config old some, refuses (state_of config old.published some.0) some.1))
+
+-- ---- what is published next
+
+pub all_each : (config : Configuration) (now : KeeperState) (was : Bucketed) (before : List Act) (requests : List Request) (ready : ReadyBatch) → kept_of was before ≡ now → ComeNext config now requests ready
+    → (first : ℕ) → first ≡ ready.first → HasBeginnings config before (acts_from first requests)
+all_each config now was before requests ready is comes first same =
+    subst (λ n. HasBeginnings config before (acts_from n requests)) (sym same) (subst (λ (k : KeeperState). HasBeginnings config k.published (acts_from ready.first requests)) (sym is) comes.each)

@@ -1,6 +1,6 @@
 -- What an act and a quiet call make of what lies under the lock.
 use Rattle.std.proofs.Common.{◌≡◌, ℕ, ◌+◌, Bool, true, false, if◌then◌else◌, cond, List, [], ◌∷◌, ◌++◌, Option, Some, None, Result, Ok, Err, length, refl, sym, ap, ◌∙◌, subst, length-append}
-use Rattle.std.specs.Prelude.{IfOk, IfErr, OnOk, OnErr, MatchResult}
+use Rattle.std.specs.Prelude.{IfOk, IfErr, OnErr, MatchResult}
 use Rattle.kv_keys.specs.Outcome.{Refuses}
 use Rattle.kv_keys.specs.declared.error.KvError.{KvError}
 use Rattle.kv_keys.specs.declared.error.KvError.TheVariants.{BadFloor}
@@ -12,7 +12,6 @@ use Rattle.kv_model.specs.Requests.{Asked, asked, write_for}
 use Rattle.kv_model.specs.declared.request.Request.{Request}
 use Rattle.kv_store.specs.Standing.{StandsFor}
 use Rattle.kv_store.specs.Stored.{Stored}
-use Rattle.kv_store.proofs.Following.{alike_standing, stands_alike}
 use Rattle.kv_model.proofs.Numbered.{accepted_is_next, writes_of-wrote}
 use Rattle.kv_model.proofs.Storing.{floor_of-compact}
 use Rattle.kv_model.specs.declared.options.Options.{Options}
@@ -21,7 +20,7 @@ use Rattle.kv_model.specs.declared.call.Call.{Call}
 use Rattle.kv_model.specs.declared.call.Call.TheVariants as calls
 use Rattle.kv_model.specs.Answers.{Answer, Revision, Sealed, Compacted, Refused}
 use Rattle.kv_single.specs.Held.{Bucketed, Represents}
-use Rattle.kv_bucket.specs.Keeping.{KeeperState, kept_of, IsAt, Shows, state_of, IsSomewhere, IsKeptStep, PublishesWrite}
+use Rattle.kv_bucket.specs.Keeping.{KeeperState, kept_of, IsAt, state_of, IsSomewhere, IsKeptStep, PublishesWrite}
 use Rattle.kv_model.specs.State.{State, Watch, add_act, add_watch, opened, open_at, has_room, next_of, after, after_write, after_stop, after_item, after_take, after_compact, answer_to, answer_write, may_compact}
 use Rattle.kv_single.specs.Stepping.{IsStep}
 use Rattle.kv_single.proofs.Answering.{write_done}
@@ -95,21 +94,6 @@ at_write state old request w version revision at same ok accepted stands last =
       subst (λ r. IsAt (after_write state r) new) (sym is) (at_act state old (Wrote w) version (goes_on old (Wrote w) version refl same stands) at),
     )
 
-pub somewhere_left : (config : Configuration) (was bucket : Bucketed) (before posted : List Act) → IsSomewhere config (kept_of was before) → posted ≡ before → bucket ≡ was → IsSomewhere config (kept_of bucket posted)
-somewhere_left config was bucket before posted some same put =
-    subst (IsSomewhere config) (ap (λ (b : Bucketed). kept_of b before) (sym put) ∙ ap (λ (p : List Act). kept_of bucket p) (sym same)) some
-
--- whether the act was kept or refused, the value under the lock is at some state
-pub somewhere_kept : (config : Configuration) (old : KeeperState) (was bucket : Bucketed) (act : Act) (version : Stored) (before posted : List Act) (kept : Result (Unit {0}) KvError) → GoesOn old act version → IsSomewhere config old → old ≡ kept_of was before
-    → OnOk kept ((posted ≡ before ++ act ∷ []) × (bucket ≡ record was { version = version }))
-    → OnErr kept ((posted ≡ before) × (bucket ≡ was)) → IsSomewhere config (kept_of bucket posted)
-somewhere_kept config old was bucket act version before posted (Ok done) on some is ok err =
-    subst (IsSomewhere config)
-    (kept_same old was bucket act version posted (ap (λ (k : KeeperState). k.bucket) is) (ok.0 ∙ ap (λ (k : KeeperState). posted_after k act) (sym is)) ok.1)
-    (somewhere_act config old act version on some)
-somewhere_kept config old was bucket act version before posted (Err error) on some is ok err =
-    somewhere_left config was bucket before posted (subst (IsSomewhere config) is some) err.0 err.1
-
 -- ---- calls that accept nothing
 
 -- a call keeps the configuration and the acts
@@ -162,36 +146,6 @@ pub somewhere_taken : {X : Type 0} (call : Call) (answer : X → Answer) (config
     → MatchResult result (λ x. IsStep old.bucket call (answer x) bucket) (λ e. bucket ≡ old.bucket) → IsSomewhere config (record old { bucket = bucket })
 somewhere_taken call answer config old bucket (Ok x) quiet some h = somewhere_quiet call answer config old bucket (Ok x) quiet some h tt
 somewhere_taken call answer config old bucket (Err e) quiet some h = somewhere_quiet call answer config old bucket (Err e) quiet some tt h
-
--- ---- what the ring makes, whose version stands for what is published as the bucket's does
-
-module _ (config : Configuration) (was : Bucketed) (before : List Act) (ring : Stored) (some : IsSomewhere config (kept_of was before)) (shows : Shows config before ring) where
-  pub ring_config : ring.config ≡ was.version.config
-  ring_config = shows.0 ∙ sym (same_config config (kept_of was before) some)
-
-  -- what follows the ring's version follows the bucket's
-  pub ring_next : (request : Asked) (next shown : Stored) → shown ≡ next → next.config ≡ ring.config → ((acts : List Act) → StandsFor acts ring → (w : Write) × ((accept ring.config request acts ≡ Ok w) × StandsFor (acts ++ Wrote w ∷ []) next))
-      → (shown.config ≡ was.version.config) × ((acts : List Act) → StandsFor acts was.version → (w : Write) × ((accept was.version.config request acts ≡ Ok w) × StandsFor (acts ++ Wrote w ∷ []) shown))
-  ring_next request next shown is same accepts = (
-    ap (λ (v : Stored). v.config) is ∙ same ∙ ring_config,
-    subst (λ (v : Stored). (acts : List Act) → StandsFor acts was.version → (w : Write) × ((accept was.version.config request acts ≡ Ok w) × StandsFor (acts ++ Wrote w ∷ []) v)) (sym is)
-        (λ acts s. subst (λ (c : Configuration). (w : Write) × ((accept c request acts ≡ Ok w) × StandsFor (acts ++ Wrote w ∷ []) next)) ring_config
-        (accepts acts (stands_alike acts was.version ring (alike_standing before was.version ring ring_config (published_stands config (kept_of was before) some) shows.1) s))),
-  )
-
-  -- and what it refuses is refused
-  pub ring_refuses : (now : KeeperState) (request : Asked) (error : KvError) → kept_of was before ≡ now → ((acts : List Act) → StandsFor acts ring → Refuses error (accept ring.config request acts)) → (state : State) → IsAt state now → Refuses error (accept state.config request state.acts)
-  ring_refuses now request error is refuses state at =
-      let there : IsAt state (kept_of was before) = subst (IsAt state) (sym is) at in
-      subst (λ (c : Configuration). Refuses error (accept c request state.acts)) (ring_config ∙ there.represents.config)
-      (refuses state.acts (subst (λ (acts : List Act). StandsFor acts ring) there.published shows.1))
-
--- the ring's version shows what is published where it is the bucket's, and as long as neither changes
-pub shows_own : (config : Configuration) (bucket : Bucketed) (posted : List Act) (ring : Stored) → IsSomewhere config (kept_of bucket posted) → ring ≡ bucket.version → Shows config posted ring
-shows_own config bucket posted ring some is = subst (Shows config posted) (sym is) (same_config config (kept_of bucket posted) some, published_stands config (kept_of bucket posted) some)
-
-pub shows_left : (config : Configuration) (before posted : List Act) (ring left : Stored) → Shows config before ring → posted ≡ before → left ≡ ring → Shows config posted left
-shows_left config before posted ring left shows same is = subst (Shows config posted) (sym is) (subst (λ (acts : List Act). Shows config acts ring) (sym same) shows)
 
 -- ---- what a write publishes
 

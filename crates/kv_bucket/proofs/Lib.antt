@@ -9,3 +9,4 @@ pub mod Owing
 pub mod Sent
 pub mod Somewhere
 pub mod Batching
+pub mod Preparing

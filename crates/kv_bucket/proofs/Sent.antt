@@ -59,7 +59,7 @@ module _ (N : RattleType) (g : live_name.Ghosts N.Denot) (s : IsSend N) (y : IsS
   publisher_send : IsSend (Publisher.the_row N g)
   publisher_send = let h = publication_send in let c = buffer_send N g s y in let b = notifier_send N g s y in search (sendable, crosses, journal.the_send) depth 20
 
-  keeper_send : IsSend (Keeper.the_row N g)
+  pub keeper_send : IsSend (Keeper.the_row N g)
   keeper_send = let b = bucket_send in let p = publisher_send in let r = ring_send in search (sendable, crosses) depth 20
 
   pub live_sync : IsSync (Live.the_row N g)

@@ -13,6 +13,7 @@ use Rattle.kv_store.specs.Stored.{Stored}
 use Rattle.kv_model.specs.declared.call.Call.{Call}
 use Rattle.kv_model.specs.Answers.{Answer}
 use Rattle.kv_single.specs.Held.{Bucketed, Represents}
+use Rattle.kv_single.specs.Stepping.{IsStep}
 use Rattle.kv_model.specs.State.{State, Watch, after, answer_to, may_compact}
 
 -- a bucket, and the acts that are published of its opening
@@ -40,6 +41,21 @@ state_of config acts watches = record { config = config; acts = acts; watches = 
 -- it is at some state of this configuration
 abbrev pub IsSomewhere : Configuration → KeeperState → Type 0
 IsSomewhere config kept = (watches : List Watch) × IsAt (state_of config kept.published watches) kept
+
+-- the value under the lock with more acts, which are published, and the version after them in place
+abbrev pub kept_with : KeeperState → List Act → Stored → KeeperState
+kept_with kept acts version = record { bucket = record kept.bucket { version = version }; published = kept.published ++ acts }
+
+-- an act that is made and not published, and the version after it
+pub record Ready : Type 0 where
+  pub act : Act
+  pub version : Stored
+
+-- It may be published next: with it the value is at some state, and to put the version after it in place is one step of the
+-- bucket.
+pub record ComesNext (config : Configuration) (kept : KeeperState) (ready : Ready) : Type 0 where
+  pub leads : IsSomewhere config (kept_with kept (ready.act ∷ []) ready.version)
+  pub step : (call : Call) × ((answer : Answer) × IsStep kept.bucket call answer (record kept.bucket { version = ready.version }))
 
 -- a call is one step of the model, from every state that the value was at, in full
 abbrev pub IsKeptStep : KeeperState → Call → Answer → KeeperState → Type 0

@@ -1,31 +1,24 @@
 //! Several writes that are published in one step.
 
 ghost use Rattle.std.specs.Prelude.{◌≡◌, ◌<◌, ◌^◌, ◌++◌, ◌∷◌, List, true, false, IfErr, IfOk, OnErr, OnOk, map};
-ghost use Rattle.kv_keys.specs.declared.error.KvError.TheVariants.{OutOfMemory};
 ghost use Rattle.kv_model.specs.Acceptance.{IsLawful};
 ghost use Rattle.kv_model.specs.Acts.{Act, IsPrefix};
 ghost use Rattle.kv_model.specs.Batches.{IsRefusedAt};
 ghost use Rattle.kv_model.specs.Requests.{asked};
 ghost use Rattle.kv_model.specs.State.{State};
-ghost use Rattle.kv_model.specs.declared.call.Call.{Call as ACall};
 ghost use Rattle.kv_publish.specs.Steps.{acts_from, step_of};
-ghost use Rattle.kv_single.specs.Batches.{LeadThere};
-ghost use Rattle.kv_store.specs.Standing.{StandsFor};
-ghost use Rattle.kv_bucket.specs.Batches.{IsKeptBatch, PublishesAll, WritesAllSomewhere, RefusedAllSomewhere};
-ghost use Rattle.kv_bucket.specs.Keeping.{IsAt};
-ghost use Rattle.kv_bucket.specs.inside.Beginnings.{HasBeginnings};
+ghost use Rattle.kv_single.specs.Batches.{IsBatch};
+ghost use Rattle.kv_bucket.specs.Batches.{ComeNext, IsKeptBatch, PublishesAll, WritesAllSomewhere, RefusedAllSomewhere};
+ghost use Rattle.kv_bucket.specs.Keeping.{IsAt, kept_with};
 
 use crate::feed::Feed;
 use crate::keeper::Keeper;
 use crate::live::Live;
-use crate::publisher::Publisher;
+use crate::prepared::PreparedBatch;
 use crate::reader::Reader;
 use crate::receipt::Mark;
-use kv_keys::KvError;
 use kv_model::{BatchRefused, Request};
 use kv_publish::{LiveName, Step};
-use kv_single::Bucket;
-use kv_store::{Ring, Version};
 use std::marker::Model;
 use std::sync::Wait;
 
@@ -92,106 +85,105 @@ impl<N: LiveName> BatchReceipt<N> {
     }
 }
 
-// Publishes the writes of a batch, and only then puts the version after them in place.
-fn keep_all<N: LiveName, R: Wait>(
-    rt: &R,
-    bucket: &mut Bucket,
-    publisher: &mut Publisher<N>,
-    requests: &[Request],
-    revision: u64,
-    next: &Version,
-) -> Result<Step<N>, KvError>
-    requires stands { StandsFor (publisher.old ++ acts_from revision requests.now) next.now }
-    requires config { next.now.config ≡ N.opening.config }
-    requires each { HasBeginnings N.opening.config publisher.old (acts_from revision requests.now) }
-    requires small { revision < 2 ^ 32 }
-    requires steps { (calls : List ACall) × LeadThere calls bucket.old (record bucket.old { version = next.now }) }
-    ensures ok { OnOk result ((publisher.new ≡ publisher.old ++ acts_from revision requests.now)
-        × (bucket.new ≡ record bucket.old { version = next.now })) }
-    ensures step { IfOk result (λ step. step ≡ step_of publisher.old publisher.new) }
-    ensures err { IfErr result (λ e. e ≡ OutOfMemory) }
-    ensures unchanged { OnErr result ((publisher.new ≡ publisher.old) × (bucket.new ≡ bucket.old)) }
-{
-    let own = next.snapshot()?;
-    let step = publisher.publish_all(rt, requests, revision, next)?;
-    bucket.go_on_through(own);
-    Ok(step)
-}
-
-// The same. A refusal is told at the last request.
-fn keep_all_at<N: LiveName, R: Wait>(
-    rt: &R,
-    bucket: &mut Bucket,
-    publisher: &mut Publisher<N>,
-    requests: &[Request],
-    revision: u64,
-    next: &Version,
-    at: usize,
-) -> Result<Step<N>, BatchRefused>
-    requires stands { StandsFor (publisher.old ++ acts_from revision requests.now) next.now }
-    requires config { next.now.config ≡ N.opening.config }
-    requires each { HasBeginnings N.opening.config publisher.old (acts_from revision requests.now) }
-    requires small { revision < 2 ^ 32 }
-    requires steps { (calls : List ACall) × LeadThere calls bucket.old (record bucket.old { version = next.now }) }
-    ensures ok { OnOk result ((publisher.new ≡ publisher.old ++ acts_from revision requests.now)
-        × (bucket.new ≡ record bucket.old { version = next.now })) }
-    ensures step { IfOk result (λ step. step ≡ step_of publisher.old publisher.new) }
-    ensures err { IfErr result (λ refused. (refused.at ≡ at) × (refused.error ≡ OutOfMemory)) }
-    ensures unchanged { OnErr result ((publisher.new ≡ publisher.old) × (bucket.new ≡ bucket.old)) }
-{
-    match keep_all(rt, bucket, publisher, requests, revision, next) {
-        Ok(step) => Ok(step),
-        Err(error) => Err(BatchRefused { at, error }),
-    }
-}
-
 impl<N: LiveName> Keeper<N> {
-    // A batch that has a first request, and its step.
-    fn write_some<R: Wait>(
-        &mut self,
-        rt: &R,
+    /// Makes all that is asked, in one step or not at all, and publishes nothing. It is refused as `write_all` is; what is
+    /// made can be published next, unless something else is meanwhile.
+    pub fn next_all(
+        &self,
         requests: &[Request],
         first: &Request,
         rest: &[Request],
-    ) -> Result<(u64, Step<N>), BatchRefused>
+    ) -> Result<PreparedBatch, BatchRefused>
         requires { requests.now ≡ first.now ∷ rest.now }
-        ensures ok { IfOk result (λ r. IsKeptBatch self.old requests.now r.0 self.new) }
+        ensures ok { IfOk result (λ p. IsKeptBatch self.now requests.now p.first
+            (kept_with self.now (acts_from p.first requests.now) p.version)) }
         ensures published { IfOk result
-            (λ r. PublishesAll N.opening.config (map asked requests.now) r.0 self.old.published self.new.published) }
-        ensures step { IfOk result (λ r. r.1 ≡ step_of self.old.published self.new.published) }
-        ensures refused { IfErr result (λ refused. (state : State) → IsAt state self.old →
+            (λ p. PublishesAll N.opening.config (map asked requests.now) p.first self.now.published
+            (self.now.published ++ acts_from p.first requests.now)) }
+        ensures next { IfOk result (λ p. ComeNext N.opening.config self.now requests.now p) }
+        ensures batch { IfOk result
+            (λ p. IsBatch self.now.bucket requests.now p.first (record self.now.bucket { version = p.version })) }
+        ensures refused { IfErr result (λ refused. (state : State) → IsAt state self.now →
             IsRefusedAt state.config (map asked requests.now) state.acts refused) }
-        ensures unchanged { OnErr result (self.new ≡ self.old) }
+    {
+        let version = self.bucket.version();
+        let (next, revision) = version.apply_all(self.bucket.alloc(), first, rest)?;
+        match PreparedBatch::new(revision, next) {
+            Ok(prepared) => Ok(prepared),
+            Err(error) => Err(BatchRefused {
+                at: rest.len(),
+                error,
+            }),
+        }
+    }
+
+    /// Publishes a batch that was made of these requests, in one step, and only then puts the version after it in place. It
+    /// refuses nothing. It waits for readers that are inside the copy that is to change.
+    pub fn publish_all<R: Wait>(
+        &mut self,
+        rt: &R,
+        requests: &[Request],
+        prepared: PreparedBatch,
+    ) -> BatchReceipt<N>
+        requires { ComeNext N.opening.config self.old requests.now prepared }
+        ensures after { self.new ≡ kept_with self.old (acts_from prepared.first requests.now) prepared.version }
+        ensures told { result ≡ step_of self.old.published self.new.published }
     {
         let Keeper {
             bucket,
             publisher,
             ring,
         } = self;
-        let version = bucket.version();
-        let (next, revision) = version.apply_all(bucket.alloc(), first, rest)?;
-        let step = keep_all_at(rt, bucket, publisher, requests, revision, &next, rest.len())?;
-        *ring = Ring::new(next);
-        Ok((revision, step))
+        let (first, own, shown, made) = prepared.into_parts();
+        let step = publisher.publish_all(rt, requests, first, shown);
+        bucket.go_on_through(own);
+        *ring = Some(made);
+        BatchReceipt::new(step)
     }
 
-    // The same of any batch. Of no requests there is no step.
+    // A batch that has a first request, with a receipt.
+    fn write_some<R: Wait>(
+        &mut self,
+        rt: &R,
+        requests: &[Request],
+        first: &Request,
+        rest: &[Request],
+    ) -> Result<(u64, BatchReceipt<N>), BatchRefused>
+        requires { requests.now ≡ first.now ∷ rest.now }
+        ensures ok { IfOk result (λ r. IsKeptBatch self.old requests.now r.0 self.new) }
+        ensures published { IfOk result
+            (λ r. PublishesAll N.opening.config (map asked requests.now) r.0 self.old.published self.new.published) }
+        ensures told { IfOk result (λ r. r.1 ≡ step_of self.old.published self.new.published) }
+        ensures refused { IfErr result (λ refused. (state : State) → IsAt state self.old →
+            IsRefusedAt state.config (map asked requests.now) state.acts refused) }
+        ensures unchanged { OnErr result (self.new ≡ self.old) }
+    {
+        let prepared = self.next_all(requests, first, rest)?;
+        let revision = prepared.first();
+        let receipt = self.publish_all(rt, requests, prepared);
+        Ok((revision, receipt))
+    }
+
+    // The same of any batch. A receipt for no requests is one for no step.
     fn write_step<R: Wait>(
         &mut self,
         rt: &R,
         requests: &[Request],
-    ) -> Result<(u64, Step<N>), BatchRefused>
+    ) -> Result<(u64, BatchReceipt<N>), BatchRefused>
         ensures ok { IfOk result (λ r. IsKeptBatch self.old requests.now r.0 self.new) }
         ensures published { IfOk result
             (λ r. PublishesAll N.opening.config (map asked requests.now) r.0 self.old.published self.new.published) }
-        ensures step { IfOk result (λ r. r.1 ≡ step_of self.old.published self.new.published) }
+        ensures told { IfOk result (λ r. r.1 ≡ step_of self.old.published self.new.published) }
         ensures refused { IfErr result (λ refused. (state : State) → IsAt state self.old →
             IsRefusedAt state.config (map asked requests.now) state.acts refused) }
         ensures unchanged { OnErr result (self.new ≡ self.old) }
     {
         match requests.split_first() {
             Some((first, rest)) => self.write_some(rt, requests, first, rest),
-            None => Ok((self.bucket.version().revision(), self.publisher.no_step())),
+            None => {
+                let receipt = BatchReceipt::new(self.publisher.no_step());
+                Ok((self.bucket.version().revision(), receipt))
+            }
         }
     }
 
@@ -230,8 +222,7 @@ impl<N: LiveName> Keeper<N> {
             IsRefusedAt state.config (map asked requests.now) state.acts refused) }
         ensures unchanged { OnErr result (self.new ≡ self.old) }
     {
-        let (first, step) = self.write_step(rt, requests)?;
-        Ok((first, BatchReceipt::new(step)))
+        self.write_step(rt, requests)
     }
 }
 

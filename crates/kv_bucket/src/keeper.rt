@@ -1,25 +1,27 @@
 //! What lies under the lock: the bucket, and what publishes its acts.
 
-ghost use Rattle.std.specs.Prelude.{◌≡◌, ◌<◌, ◌++◌, ◌∷◌, [], ⊤, true, false, List, Some, IfErr, IfOk, OnErr, OnOk, MatchResult, length};
+ghost use Rattle.std.specs.Prelude.{◌≡◌, ◌<◌, ◌++◌, ◌∷◌, [], ⊤, true, false, List, Ok, Some, IfErr, IfOk, OnErr, OnOk, MatchResult, length};
 ghost use Rattle.std.specs.Borrow.{sem, follows_so};
 ghost use mathlib.Core.Option.{none};
 ghost use Rattle.kv_keys.specs.Outcome.{Refuses};
 ghost use Rattle.kv_keys.specs.declared.error.KvError.TheVariants.{OutOfMemory, NoSuchWatch};
 ghost use Rattle.kv_model.specs.Acceptance.{accept, IsLawful};
-ghost use Rattle.kv_model.specs.Acts.{Act, IsPrefix, Wrote, Write as AWrite, writes_of};
+ghost use Rattle.kv_model.specs.Acts.{Act, IsPrefix, Wrote, Write as AWrite, Seal as ASeal, Compact as ACompaction, writes_of};
 ghost use Rattle.kv_model.specs.Requests.{asked};
+ghost use Rattle.kv_single.specs.Held.{Represents};
+ghost use Rattle.kv_single.specs.Stepping.{IsStep};
 ghost use Rattle.kv_store.specs.Standing.{StandsFor};
 ghost use Rattle.kv_bucket.specs.ReaderState.{IsUnread};
 ghost use Rattle.kv_watch.specs.Taking.{item_taken};
-ghost use Rattle.kv_single.specs.Stepping.{IsStep};
-ghost use Rattle.kv_model.specs.declared.call.Call.{Call as ACall};
 ghost use Rattle.kv_model.specs.declared.call.Call.TheVariants.{Write, Seal, Watch, Take, Stop, Compact};
-ghost use Rattle.kv_model.specs.Answers.{Answer, Revision, Sealed, Watching, Ended, Compacted, Refused, answer_item};
+ghost use Rattle.kv_model.specs.Answers.{Revision, Sealed, Watching, Ended, Compacted, Refused, answer_item};
 ghost use Rattle.kv_bucket.specs.Histories.{IsPublishedHistory};
-ghost use Rattle.kv_bucket.specs.Keeping.{IsAt, IsSomewhere, IsKeptStep, PublishesWrite};
+ghost use Rattle.kv_bucket.specs.Receipts.{EndsAt};
+ghost use Rattle.kv_bucket.specs.Keeping.{ComesNext, IsAt, IsSomewhere, IsKeptStep, PublishesWrite, kept_with};
 ghost use Rattle.kv_model.specs.State.{State, answer_to, may_compact, next_number};
 
 use crate::feed::Feed;
+use crate::prepared::{Prepared, written};
 use crate::publisher::Publisher;
 use crate::reader::Reader;
 use crate::receipt::{Mark, Receipt};
@@ -27,7 +29,7 @@ use kv_keys::{Filters, KvError};
 use kv_model::{Options, Request, Stopped};
 use kv_publish::{GhostAct, LiveName};
 use kv_single::Bucket;
-use kv_store::{Ring, Version};
+use kv_store::Ring;
 use kv_watch::Taken;
 use std::marker::Model;
 use std::sync::Wait;
@@ -39,11 +41,13 @@ use std::sync::Wait;
 pub struct Keeper<N: LiveName> {
     pub(crate) bucket: Bucket,
     pub(crate) publisher: Publisher<N>,
-    /// It makes the versions that writes lead to, and keeps the last ones for that.
-    pub(crate) ring: Ring,
+    /// It makes the versions that writes lead to, and keeps the last ones for that. What is made and not published yet has
+    /// it.
+    pub(crate) ring: Option<Ring>,
 }
 
 impl<N: LiveName> Model for Keeper<N> {
+    ghost use Rattle.std.specs.Prelude.{IfSome};
     ghost use Rattle.kv_bucket.specs.Keeping.{KeeperState, IsSomewhere, Shows, kept_of};
 
     ghost Value = { KeeperState };
@@ -51,29 +55,7 @@ impl<N: LiveName> Model for Keeper<N> {
     ghost view = { λ k. kept_of k.bucket k.publisher };
 
     ghost invariant = { λ k. IsSomewhere N.opening.config (kept_of k.bucket k.publisher)
-        × Shows N.opening.config k.publisher k.ring };
-}
-
-// Publishes an act, and only then puts the version after it in place.
-fn keep<N: LiveName, R: Wait>(
-    rt: &R,
-    bucket: &mut Bucket,
-    publisher: &mut Publisher<N>,
-    ghost_act: GhostAct,
-    next: &Version,
-) -> Result<(), KvError>
-    requires stands { StandsFor (publisher.old ++ ghost_act ∷ []) next.now }
-    requires config { next.now.config ≡ N.opening.config }
-    requires step { (call : ACall) × ((answer : Answer) × IsStep bucket.old call answer (record bucket.old { version = next.now })) }
-    ensures ok { OnOk result ((publisher.new ≡ publisher.old ++ ghost_act ∷ [])
-        × (bucket.new ≡ record bucket.old { version = next.now })) }
-    ensures err { IfErr result (λ e. e ≡ OutOfMemory) }
-    ensures unchanged { OnErr result ((publisher.new ≡ publisher.old) × (bucket.new ≡ bucket.old)) }
-{
-    let own = next.snapshot()?;
-    publisher.publish(rt, ghost_act, next)?;
-    bucket.go_on_to(own);
-    Ok(())
+        × IfSome k.ring (Shows N.opening.config k.publisher) };
 }
 
 impl<N: LiveName> Keeper<N> {
@@ -100,6 +82,80 @@ impl<N: LiveName> Keeper<N> {
         &self.bucket
     }
 
+    /// Makes what is asked, and publishes nothing: the value of the keeper stays. A refused request is refused here, by the
+    /// rules or for want of memory; what is made can be published next, unless something else is meanwhile.
+    pub fn next(&mut self, request: &Request) -> Result<Prepared, KvError>
+        ensures ok { IfOk result (λ p. IsKeptStep self.old (Write request.now) (Revision p.version.last)
+            (kept_with self.old (p.act ∷ []) p.version)) }
+        ensures published { IfOk result
+            (λ p. PublishesWrite N.opening.config (asked request.now) p.version.last self.old.published
+            (self.old.published ++ p.act ∷ [])) }
+        ensures next { IfOk result (λ p. ComesNext N.opening.config self.old p) }
+        ensures config { IfOk result (λ p. p.version.config ≡ self.old.bucket.version.config) }
+        ensures accepts { IfOk result (λ p. (acts : List Act) → StandsFor acts self.old.bucket.version →
+            (w : AWrite)
+            × ((accept self.old.bucket.version.config (asked request.now) acts ≡ Ok w) × StandsFor (acts ++ Wrote w ∷ []) p.version)) }
+        ensures refused { IfErr result (λ e. (state : State) → IsAt state self.old →
+            Refuses e (accept state.config (asked request.now) state.acts)) }
+        ensures same { self.new ≡ self.old }
+    {
+        let Keeper {
+            bucket,
+            publisher: _,
+            ring,
+        } = self;
+        let made = written(ring, bucket.version(), bucket.alloc(), request)?;
+        let revision = made.version().revision();
+        Prepared::new(GhostAct::wrote(request, revision), made)
+    }
+
+    /// Makes the end of writes, and publishes nothing.
+    pub fn next_seal(&self) -> Result<Prepared, KvError>
+        ensures ok { IfOk result (λ p. (p.act ≡ ASeal)
+            × IsKeptStep self.now Seal Sealed (kept_with self.now (p.act ∷ []) p.version)) }
+        ensures next { IfOk result (λ p. ComesNext N.opening.config self.now p) }
+        ensures step { IfOk result
+            (λ p. IsStep self.now.bucket Seal Sealed (record self.now.bucket { version = p.version })) }
+        ensures err { IfErr result (λ e. e ≡ OutOfMemory) }
+    {
+        let next = self.bucket.version().seal(self.bucket.alloc())?;
+        Prepared::new(GhostAct::seal(), Ring::new(next))
+    }
+
+    /// Makes a compaction to the floor, and publishes nothing. It is refused as `compact` is.
+    pub fn next_compaction(&self, floor: u64) -> Result<Prepared, KvError>
+        ensures ok { IfOk result (λ p. (p.act ≡ ACompaction floor)
+            × IsKeptStep self.now (Compact floor) (Compacted floor) (kept_with self.now (p.act ∷ []) p.version)) }
+        ensures next { IfOk result (λ p. ComesNext N.opening.config self.now p) }
+        ensures step { IfOk result
+            (λ p. IsStep self.now.bucket (Compact floor) (Compacted floor) (record self.now.bucket { version = p.version })) }
+        ensures may { OnOk result
+            ((state : State) → Represents state self.now.bucket → may_compact floor state ≡ Ok floor) }
+        ensures refused { IfErr result
+            (λ e. (state : State) → IsAt state self.now → Refuses e (may_compact floor state)) }
+    {
+        self.bucket.may_compact(floor)?;
+        let next = self.bucket.version().compact(self.bucket.alloc(), floor)?;
+        Prepared::new(GhostAct::compact(floor), Ring::new(next))
+    }
+
+    /// Publishes what was made, and only then puts the version after it in place. It refuses nothing. It waits for readers
+    /// that are inside the copy that is to change.
+    pub fn publish<R: Wait>(&mut self, rt: &R, prepared: Prepared)
+        requires { ComesNext N.opening.config self.old prepared }
+        ensures { self.new ≡ kept_with self.old (prepared.act ∷ []) prepared.version }
+    {
+        let Keeper {
+            bucket,
+            publisher,
+            ring,
+        } = self;
+        let (ghost_act, own, shown, made) = prepared.into_parts();
+        publisher.publish(rt, ghost_act, shown);
+        bucket.go_on_to(own);
+        *ring = Some(made);
+    }
+
     /// Does what is asked, publishes it, and answers the revision of the write. A refused request changes nothing,
     /// publishes nothing and uses no revision. It waits for readers that are inside the copy that is to change.
     pub fn write<R: Wait>(&mut self, rt: &R, request: &Request) -> Result<u64, KvError>
@@ -111,17 +167,9 @@ impl<N: LiveName> Keeper<N> {
             Refuses e (accept state.config (asked request.now) state.acts)) }
         ensures unchanged { OnErr result (self.new ≡ self.old) }
     {
-        let Keeper {
-            bucket,
-            publisher,
-            ring,
-        } = self;
-        let next = ring.next(bucket.alloc(), request)?;
-        let version = next.version();
-        let revision = version.revision();
-        let ghost_act = GhostAct::wrote(request, revision);
-        keep(rt, bucket, publisher, ghost_act, version)?;
-        ring.go_on_to(next);
+        let prepared = self.next(request)?;
+        let revision = prepared.version().revision();
+        self.publish(rt, prepared);
         Ok(revision)
     }
 
@@ -131,14 +179,8 @@ impl<N: LiveName> Keeper<N> {
         ensures err { IfErr result (λ e. e ≡ OutOfMemory) }
         ensures unchanged { OnErr result (self.new ≡ self.old) }
     {
-        let Keeper {
-            bucket,
-            publisher,
-            ring,
-        } = self;
-        let next = bucket.version().seal(bucket.alloc())?;
-        keep(rt, bucket, publisher, GhostAct::seal(), &next)?;
-        *ring = Ring::new(next);
+        let prepared = self.next_seal()?;
+        self.publish(rt, prepared);
         Ok(())
     }
 
@@ -150,15 +192,8 @@ impl<N: LiveName> Keeper<N> {
             (λ e. (state : State) → IsAt state self.old → Refuses e (may_compact floor state)) }
         ensures unchanged { OnErr result (self.new ≡ self.old) }
     {
-        let Keeper {
-            bucket,
-            publisher,
-            ring,
-        } = self;
-        bucket.may_compact(floor)?;
-        let next = bucket.version().compact(bucket.alloc(), floor)?;
-        keep(rt, bucket, publisher, GhostAct::compact(floor), &next)?;
-        *ring = Ring::new(next);
+        let prepared = self.next_compaction(floor)?;
+        self.publish(rt, prepared);
         Ok(())
     }
 
@@ -253,6 +288,14 @@ impl<N: LiveName> Keeper<N> {
         self.publisher.mark()
     }
 
+    /// A receipt for all that is published, of which the write with this revision is the last.
+    pub fn receipt(&self, revision: u64) -> Receipt<N>
+        requires { EndsAt revision self.now.published }
+        ensures { result ≡ self.now.published }
+    {
+        self.publisher.receipt(revision)
+    }
+
     /// As `write` does, with a receipt for it.
     pub fn write_told<R: Wait>(
         &mut self,
@@ -268,7 +311,7 @@ impl<N: LiveName> Keeper<N> {
         ensures unchanged { OnErr result (self.new ≡ self.old) }
     {
         let revision = self.write(rt, request)?;
-        Ok((revision, self.publisher.receipt(revision)))
+        Ok((revision, self.receipt(revision)))
     }
 
     /// Adds a reader, which has seen nothing and is told of all that is published. `NoReader` where all places
@@ -280,13 +323,17 @@ impl<N: LiveName> Keeper<N> {
         self.publisher.reader()
     }
 
-    /// Ends the publisher. Readers read what is published on. It waits for the readers that are reading.
-    pub(crate) fn close<R: Wait>(self, rt: &R) {
+    /// Ends the publisher, and gives the bucket back. Readers read what is published on. It waits for the readers that are
+    /// reading.
+    pub fn close<R: Wait>(self, rt: &R) -> Bucket
+        ensures { result ≡ self.bucket }
+    {
         let Keeper {
             bucket,
             publisher,
             ring: _,
         } = self;
         publisher.close(rt, bucket.version());
+        bucket
     }
 }

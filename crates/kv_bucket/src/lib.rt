@@ -8,6 +8,7 @@ mod feed;
 mod keeper;
 pub mod laws;
 mod live;
+mod prepared;
 mod progress;
 mod publisher;
 mod reader;
@@ -19,13 +20,14 @@ pub use batch::BatchReceipt;
 pub use cached::Cached;
 pub use feed::Feed;
 pub use keeper::Keeper;
-pub use kv_publish::{LiveName, Woken};
+pub use kv_publish::{LiveName, Notifier, Woken};
 pub use kv_single::{
     BatchRefused, Bucket, Call, Config, Cursor, Event, Filter, Filters, Key, KeyHistory, KvError,
     Op, Options, Place, Reply, Request, Rev, Seen, Short, Shown, Start, Status, Stopped, Taken,
     Trie, Version, Visit, Write, fnv32, given,
 };
 pub use live::{Live, Opened};
+pub use prepared::{Prepared, PreparedBatch};
 pub use reader::Reader;
 pub use receipt::{Mark, Receipt};
 pub use serve::Service;

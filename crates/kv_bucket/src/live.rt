@@ -7,9 +7,10 @@ ghost use Rattle.kv_keys.specs.Outcome.{Refuses};
 ghost use Rattle.kv_model.specs.Acceptance.{IsLawful};
 ghost use Rattle.kv_model.specs.Acts.{Act};
 ghost use Rattle.kv_model.specs.Requests.{asked};
+ghost use Rattle.kv_model.specs.State.{empty};
 ghost use Rattle.kv_bucket.specs.ReaderState.{IsUnread};
 ghost use Rattle.kv_bucket.specs.Histories.{IsPublishedHistory};
-ghost use Rattle.kv_bucket.specs.Keeping.{IsSomewhere, PublishesWrite, WritesSomewhere, RefusedSomewhere, CompactsSomewhere, UncompactedSomewhere, may_open};
+ghost use Rattle.kv_bucket.specs.Keeping.{IsAt, IsSomewhere, PublishesWrite, WritesSomewhere, RefusedSomewhere, CompactsSomewhere, UncompactedSomewhere, may_open};
 
 use crate::keeper::Keeper;
 use crate::publisher::Publisher;
@@ -107,25 +108,19 @@ fn readers_and_notifier<N: LiveName>(
     Ok((readers, publisher.notifier()?))
 }
 
-// What this lies under the lock of, and its readers. Where they are refused it has ended.
-fn live_of<N: LiveName, R: Wait>(
+// What lies under the lock, with its readers and what tells them. Where they are refused it has ended.
+fn with_readers<N: LiveName, R: Wait>(
     rt: &R,
     keeper: Keeper<N>,
     readers: usize,
-) -> Result<(Live<N>, Vec<Reader<N>>), KvError>
+) -> Result<(Keeper<N>, Notifier<N>, Vec<Reader<N>>), KvError>
     ensures ok { IfOk result
-        (λ r. (length r.1.items ≡ readers)
-        × All (λ reader. (reader.seen ≡ []) × (reader.told ≡ keeper.published)) r.1.items) }
+        (λ r. (r.0 ≡ keeper) × (length r.2.items ≡ readers)
+        × All (λ reader. (reader.seen ≡ []) × (reader.told ≡ keeper.published)) r.2.items) }
     ensures err { IfErr result IsUnread }
 {
     match readers_and_notifier(&keeper.publisher, readers) {
-        Ok((readers, notifier)) => {
-            let live = Live {
-                keeper: Mutex::new(keeper),
-                notifier,
-            };
-            Ok((live, readers))
-        }
+        Ok((readers, notifier)) => Ok((keeper, notifier, readers)),
         Err(refusal) => {
             keeper.close(rt);
             Err(refusal)
@@ -134,12 +129,18 @@ fn live_of<N: LiveName, R: Wait>(
 }
 
 impl Opened {
-    /// The bucket under a name, and its readers, which have seen nothing. Where it is refused the opening ends.
-    pub fn live<N: LiveName, R: Wait>(self, rt: &R) -> Result<(Live<N>, Vec<Reader<N>>), KvError>
+    /// What lies under the lock of the bucket under a name: its keeper, at the state of no act and no watch, what tells its
+    /// readers, and these, which have seen nothing. It is for a layer that has a lock of its own. Where it is refused the
+    /// opening ends.
+    pub fn keeper<N: LiveName, R: Wait>(
+        self,
+        rt: &R,
+    ) -> Result<(Keeper<N>, Notifier<N>, Vec<Reader<N>>), KvError>
         requires { self.opening ≡ N.opening }
+        ensures empty { IfOk result (λ r. IsAt (empty N.opening.config) r.0) }
         ensures ok { IfOk result
-            (λ r. (length r.1.items ≡ self.readers)
-            × All (λ reader. (reader.seen ≡ []) × (reader.told ≡ [])) r.1.items) }
+            (λ r. (length r.2.items ≡ self.readers)
+            × All (λ reader. (reader.seen ≡ []) × (reader.told ≡ [])) r.2.items) }
         ensures err { IfErr result IsUnread }
     {
         let Opened {
@@ -153,9 +154,25 @@ impl Opened {
         let keeper = Keeper {
             bucket,
             publisher,
-            ring,
+            ring: Some(ring),
         };
-        live_of(rt, keeper, readers)
+        with_readers(rt, keeper, readers)
+    }
+
+    /// The bucket under a name, and its readers, which have seen nothing. Where it is refused the opening ends.
+    pub fn live<N: LiveName, R: Wait>(self, rt: &R) -> Result<(Live<N>, Vec<Reader<N>>), KvError>
+        requires { self.opening ≡ N.opening }
+        ensures ok { IfOk result
+            (λ r. (length r.1.items ≡ self.readers)
+            × All (λ reader. (reader.seen ≡ []) × (reader.told ≡ [])) r.1.items) }
+        ensures err { IfErr result IsUnread }
+    {
+        let (keeper, notifier, readers) = self.keeper::<N, R>(rt)?;
+        let live = Live {
+            keeper: Mutex::new(keeper),
+            notifier,
+        };
+        Ok((live, readers))
     }
 }
 

@@ -1,6 +1,6 @@
 //! What publishes the acts of an opening. It lies under the lock, beside the bucket.
 
-ghost use Rattle.std.specs.Prelude.{◌≡◌, ◌<◌, ◌^◌, ◌++◌, ◌∷◌, [], true, false, IfOk, IfErr, OnOk, OnErr, MatchResult, All, length};
+ghost use Rattle.std.specs.Prelude.{◌≡◌, ◌<◌, ◌^◌, ◌++◌, ◌∷◌, [], true, false, IfOk, IfErr, OnOk, MatchResult, All, length};
 ghost use Rattle.kv_keys.specs.declared.error.KvError.TheVariants.{OutOfMemory};
 ghost use Rattle.kv_model.specs.Acts.{IsPrefix};
 ghost use Rattle.kv_store.specs.Standing.{StandsFor};
@@ -176,21 +176,12 @@ impl<N: LiveName> Publisher<N> {
     }
 
     /// Publishes an act, with the version after it, and wakes those who sleep until then. It waits for readers that are
-    /// inside the copy that is to change. All that can be refused is asked for before the history has the act; where it
-    /// is refused nothing has changed.
-    pub fn publish<R: Wait>(
-        &mut self,
-        rt: &R,
-        ghost_act: GhostAct,
-        next: &Version,
-    ) -> Result<(), KvError>
-        requires stands { StandsFor (self.old ++ ghost_act ∷ []) next.now }
-        requires config { next.now.config ≡ N.opening.config }
-        ensures ok { OnOk result (self.new ≡ self.old ++ ghost_act ∷ []) }
-        ensures err { IfErr result (λ e. e ≡ OutOfMemory) }
-        ensures unchanged { OnErr result (self.new ≡ self.old) }
+    /// inside the copy that is to change. It refuses nothing: who calls it has asked before for all that can be refused.
+    pub fn publish<R: Wait>(&mut self, rt: &R, ghost_act: GhostAct, version: Version)
+        requires stands { StandsFor (self.old ++ ghost_act ∷ []) version }
+        requires config { version.config ≡ N.opening.config }
+        ensures { self.new ≡ self.old ++ ghost_act ∷ [] }
     {
-        let version = next.snapshot()?;
         await_room(rt, &self.journal);
         let Some(buffer) = self.buffer.take() else {
             unreachable!()
@@ -198,7 +189,6 @@ impl<N: LiveName> Publisher<N> {
         let buffer = show(rt, &mut self.journal, buffer, ghost_act, version);
         put(rt, &mut self.buffer, Some(buffer));
         self.notifier.notify();
-        Ok(())
     }
 
     /// Publishes the writes of a batch in one step, the first with this revision, with the version after them: as
@@ -208,18 +198,15 @@ impl<N: LiveName> Publisher<N> {
         rt: &R,
         requests: &[Request],
         revision: u64,
-        next: &Version,
-    ) -> Result<Step<N>, KvError>
+        version: Version,
+    ) -> Step<N>
         requires small { revision < 2 ^ 32 }
-        requires stands { StandsFor (self.old ++ acts_from revision requests.now) next.now }
-        requires config { next.now.config ≡ N.opening.config }
+        requires stands { StandsFor (self.old ++ acts_from revision requests.now) version }
+        requires config { version.config ≡ N.opening.config }
         requires each { HasBeginnings N.opening.config self.old (acts_from revision requests.now) }
-        ensures ok { OnOk result (self.new ≡ self.old ++ acts_from revision requests.now) }
-        ensures step { IfOk result (λ step. step ≡ step_of self.old self.new) }
-        ensures err { IfErr result (λ e. e ≡ OutOfMemory) }
-        ensures unchanged { OnErr result (self.new ≡ self.old) }
+        ensures added { self.new ≡ self.old ++ acts_from revision requests.now }
+        ensures step { result ≡ step_of self.old self.new }
     {
-        let version = next.snapshot()?;
         await_room(rt, &self.journal);
         let Some(buffer) = self.buffer.take() else {
             unreachable!()
@@ -227,7 +214,7 @@ impl<N: LiveName> Publisher<N> {
         let (shown, step) = show_all(rt, &mut self.journal, buffer, requests, revision, version);
         put(rt, &mut self.buffer, Some(shown));
         self.notifier.notify_of(requests.len() as u64);
-        Ok(step)
+        step
     }
 
     /// The step of no act, behind all that is published.

@@ -9,6 +9,6 @@ pub invariant_of-self : goal.invariant_of-self
 invariant_of-self g c =
     let config = g.N.LiveName.opening.config in
     let was : List Act = c.self.inside.journal in
-    let stands : StandsFor (was ++ c.args.ghost_act ∷ []) c.args.next.now = subst (λ (a : List Act). StandsFor (a ++ c.args.ghost_act ∷ []) c.args.next.now) (sym c.self.view_is) c.requires.stands in
-    let more : IsPublishedHistory config (was ++ c.args.ghost_act ∷ []) = goes_on_by config was c.args.ghost_act c.args.next.now c.self.invariant.4 c.requires.config stands in
+    let stands : StandsFor (was ++ c.args.ghost_act ∷ []) c.args.version = subst (λ (a : List Act). StandsFor (a ++ c.args.ghost_act ∷ []) c.args.version) (sym c.self.view_is) c.requires.stands in
+    let more : IsPublishedHistory config (was ++ c.args.ghost_act ∷ []) = goes_on_by config was c.args.ghost_act c.args.version c.self.invariant.4 c.requires.config stands in
     rw c.put.ensures (refl, c.show-buffer.ensures.shown, c.self.invariant.2, c.self.invariant.3, subst (IsPublishedHistory config) (sym c.show-buffer.ensures.added) more)

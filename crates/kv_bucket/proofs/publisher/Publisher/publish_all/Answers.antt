@@ -12,7 +12,7 @@ invariant_of-self g c =
     let config = g.N.LiveName.opening.config in
     let was : List Act = c.self.inside.journal in
     let more : List Act = acts_from c.args.revision c.args.requests.now in
-    let stands : StandsFor (was ++ more) c.args.next.now = subst (λ (a : List Act). StandsFor (a ++ more) c.args.next.now) (sym c.self.view_is) c.requires.stands in
+    let stands : StandsFor (was ++ more) c.args.version = subst (λ (a : List Act). StandsFor (a ++ more) c.args.version) (sym c.self.view_is) c.requires.stands in
     let each : HasBeginnings config was more = subst (λ (a : List Act). HasBeginnings config a more) (sym c.self.view_is) c.requires.each in
-    let all : IsPublishedHistory config (was ++ more) = goes_on_by_all config was more c.args.next.now c.self.invariant.4 c.requires.config stands each in
+    let all : IsPublishedHistory config (was ++ more) = goes_on_by_all config was more c.args.version c.self.invariant.4 c.requires.config stands each in
     rw c.put.ensures (refl, c.show_all-shown.ensures.shown, c.self.invariant.2, c.self.invariant.3, subst (IsPublishedHistory config) (sym c.show_all-shown.ensures.added) all)
