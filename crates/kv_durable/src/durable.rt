@@ -40,4 +40,19 @@ impl<F: JournalFile> Durable<F> {
     {
         &self.journal
     }
+
+    /// A bucket with its journal.
+    pub fn from_parts(bucket: Bucket, journal: Journal<F>) -> Durable<F>
+        ensures { (result.bucket ≡ bucket) × (result.journal ≡ journal) }
+    {
+        Durable { bucket, journal }
+    }
+
+    /// The bucket, and its journal.
+    pub fn into_parts(self) -> (Bucket, Journal<F>)
+        ensures { (result.0 ≡ self.bucket) × (result.1 ≡ self.journal) }
+    {
+        let Durable { bucket, journal } = self;
+        (bucket, journal)
+    }
 }

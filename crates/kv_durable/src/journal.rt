@@ -15,7 +15,9 @@ use std::alloc::{AllocError, Global};
 // A file with so many bytes is full.
 const FULL: u64 = 4_611_686_018_427_387_904;
 
-/// The file of a bucket, to which its entries are added.
+/// The file of a bucket, to which its entries are added: by a `Durable`, or by a layer that publishes what it adds, as
+/// `DurableKeeper` of `kv_durable_live` does. Such a layer makes the next version first, then the frame that tells it, adds that,
+/// and only then puts the version in place.
 #[derive(Drop)]
 pub struct Journal<F: JournalFile> {
     pub(crate) framing: Framing,
@@ -60,7 +62,7 @@ impl<F: JournalFile> Journal<F> {
     }
 
     /// The file, to which nothing more is added.
-    pub(crate) fn into_file(self) -> F
+    pub fn into_file(self) -> F
         ensures { result ≡ self.appender.file }
     {
         let Journal {
@@ -78,7 +80,7 @@ impl<F: JournalFile> Journal<F> {
     }
 
     /// Refused where nothing more is added.
-    pub(crate) fn may_add(&self) -> Result<(), FileFault>
+    pub fn may_add(&self) -> Result<(), FileFault>
         ensures ok { OnOk result (is_stopped F.usable self.now ≡ false) }
         ensures err { OnErr result (is_stopped F.usable self.now ≡ true) }
     {
@@ -110,7 +112,7 @@ impl<F: JournalFile> Journal<F> {
     }
 
     /// Adds the frames of entries, and brings all onto the disk where that is due.
-    pub(crate) fn add(&mut self, bytes: &[u8]) -> Result<(), FileFault>
+    pub fn add(&mut self, bytes: &[u8]) -> Result<(), FileFault>
         requires room { self.old.appender.place < 2 ^ 62 }
         requires short { length bytes.now < 2 ^ 33 }
         ensures ok { OnOk result (AddsFrames F.has F.usable bytes.now self.old self.new) }
@@ -129,7 +131,7 @@ impl<F: JournalFile> Journal<F> {
     }
 
     /// Brings all onto the disk.
-    pub(crate) fn flush(&mut self) -> Result<(), FileFault>
+    pub fn flush(&mut self) -> Result<(), FileFault>
         ensures ok { OnOk result ((config : Configuration) (kept loose : List Entry) →
             Keeps F.has F.usable config kept loose self.old → Keeps F.has F.usable config (kept ++ loose) [] self.new) }
         ensures err { OnErr result ((config : Configuration) (kept loose : List Entry) →

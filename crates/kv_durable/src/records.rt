@@ -16,7 +16,7 @@ use std::alloc::{AllocError, Global};
 
 impl<F: JournalFile> Journal<F> {
     /// The frame of an accepted request that is added next.
-    pub(crate) fn frame_of_write(
+    pub fn frame_of_write(
         &self,
         alloc: Global,
         request: &Request,
@@ -31,7 +31,7 @@ impl<F: JournalFile> Journal<F> {
     }
 
     /// The frame of a batch of accepted requests that is added next.
-    pub(crate) fn frame_of_batch(
+    pub fn frame_of_batch(
         &self,
         alloc: Global,
         requests: &[Request],
@@ -45,7 +45,7 @@ impl<F: JournalFile> Journal<F> {
     }
 
     /// The frame of a seal that is added next.
-    pub(crate) fn frame_of_seal(&self, alloc: Global) -> Result<Vec<u8>, AllocError>
+    pub fn frame_of_seal(&self, alloc: Global) -> Result<Vec<u8>, AllocError>
         ensures is { IfOk result (λ v. IsFrameOf self.now (did Seal) v.items) }
         ensures short { IfOk result (λ v. length v.items < 2 ^ 33) }
     {
@@ -54,7 +54,7 @@ impl<F: JournalFile> Journal<F> {
     }
 
     /// The frame of a compaction that is added next.
-    pub(crate) fn frame_of_compaction(
+    pub fn frame_of_compaction(
         &self,
         alloc: Global,
         floor: u64,
@@ -67,7 +67,7 @@ impl<F: JournalFile> Journal<F> {
     }
 
     /// The frame of a clean end that is added next, when so many writes have been accepted.
-    pub(crate) fn frame_of_end(&self, alloc: Global, last: u64) -> Result<Vec<u8>, AllocError>
+    pub fn frame_of_end(&self, alloc: Global, last: u64) -> Result<Vec<u8>, AllocError>
         ensures is { IfOk result (λ v. IsFrameOf self.now (closed last) v.items) }
         ensures short { IfOk result (λ v. length v.items < 2 ^ 33) }
     {

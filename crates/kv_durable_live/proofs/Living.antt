@@ -1,0 +1,84 @@
+-- Lives of a durable bucket that threads share.
+use Rattle.std.proofs.Common.{◌≡◌, ◌⊎◌, ℕ, Bool, List, [], ◌∷◌, ◌++◌, refl, sym, ap, ◌∙◌, subst, inl, inr, append-nil}
+use Rattle.kv_bucket.specs.Keeping as kept
+use Rattle.kv_bucket.specs.Keeping.{IsKeptStep}
+use Rattle.kv_durable.specs.Durables as durables
+use Rattle.kv_durable.specs.Files.{HasForgery, IsBetween}
+use Rattle.kv_durable.specs.Journals.{told_next}
+use Rattle.kv_durable.specs.Openings.{IsReopened}
+use Rattle.kv_durable.specs.declared.durable.Durable.{Durable}
+use Rattle.kv_durable.proofs.Living.{second_life}
+use Rattle.kv_durable.proofs.Recording.{added_kept, all_added}
+use Rattle.kv_durable_live.specs.Lives.{GoesOn, Lives, Shared}
+use Rattle.kv_durable_live.specs.Sharing.{IsAt, durable_of}
+use Rattle.kv_file.specs.File.{MayLeave}
+use Rattle.kv_file.specs.declared.appender.Sync.TheVariants.{Each}
+use Rattle.kv_journal.specs.Entries.{AreLawful, Entry, acts_of}
+use Rattle.kv_journal.specs.Records.{Content}
+use Rattle.kv_journal.proofs.Going.{acts_of-append}
+use Rattle.kv_model.specs.Acts.{Act, IsPrefix}
+use Rattle.kv_model.specs.Answers.{Answer}
+use Rattle.kv_model.specs.State.{State, after}
+use Rattle.kv_model.specs.declared.call.Call.{Call}
+use Rattle.kv_publish.proofs.Prefixes.{prefix_self, prefix_trans}
+
+-- the acts of the first entries begin those of all
+front_acts : (xs ys : List Entry) → IsPrefix xs ys → IsPrefix (acts_of xs) (acts_of ys)
+front_acts xs ys p = (acts_of p.0, sym (acts_of-append xs p.0) ∙ ap acts_of p.1)
+
+module _ {F : Type 0} (has : F → List ℕ → List ℕ → Type 0) (usable : F → Bool) where
+  pub published_acts : (state : State) (entries loose : List Entry) (shared : Shared F) → IsAt has usable state entries loose shared.kept shared.journal → shared.kept.published ≡ acts_of (entries ++ loose)
+  published_acts state entries loose shared at = at.published ∙ at.durable.acts
+
+  pub recorded_goes_on : (call : Call) (answer : Answer) (told : State → List Content) (old new : Shared F) → IsKeptStep old.kept call answer new.kept
+      → durables.IsRecorded has usable (λ state. after state call) told (durable_of old.kept old.journal) (durable_of new.kept new.journal) → new.journal.appender.sync ≡ old.journal.appender.sync → GoesOn has usable old new
+  recorded_goes_on call answer told old new step recorded same = λ state entries loose at.
+      let there = recorded state entries loose at.durable in
+      let more = told_next old.journal (told state) in
+      let before : kept.IsAt state old.kept = record { represents = at.durable.represents; published = at.published } in
+      let on = (step state before).1 in
+      let here : IsAt has usable (after state call) there.0 there.1 new.kept new.journal = record { durable = there.4; published = on.published } in
+      let all : IsPrefix (entries ++ loose) (there.0 ++ there.1) = (more, sym (all_added entries loose more there.0 there.1 there.2)) in
+      let acts = front_acts (entries ++ loose) (there.0 ++ there.1) all in
+      let published : IsPrefix old.kept.published new.kept.published =
+      subst (λ (xs : List Act). IsPrefix xs new.kept.published) (sym (published_acts state entries loose old at))
+      (subst (IsPrefix (acts_of (entries ++ loose))) (sym (published_acts (after state call) there.0 there.1 new here)) acts) in
+      (after state call, there.0, there.1, added_kept entries loose more there.0 there.1 there.2, all, published, (λ each none. there.3 each), same, here)
+
+  pub synced_goes_on : (old new : Shared F) → ((state : State) (entries loose : List Entry) → IsAt has usable state entries loose old.kept old.journal → IsAt has usable state (entries ++ loose) [] new.kept new.journal)
+      → new.kept ≡ old.kept → new.journal.appender.sync ≡ old.journal.appender.sync → GoesOn has usable old new
+  synced_goes_on old new on same sync = λ state entries loose at.
+      (state, entries ++ loose, [], (loose, refl), ([], refl), subst (λ k. IsPrefix old.kept.published k.published) (sym same) (prefix_self old.kept.published), (λ each none. refl), sync, on state entries loose at)
+
+  -- where each act is synced and nothing was loose
+  pub goes_on : (calls : List (Shared F)) (first last : Shared F) (state : State) (entries : List Entry) → first.journal.appender.sync ≡ Each → Lives has usable calls first last → IsAt has usable state entries [] first.kept first.journal
+      → (later : State) × (k : List Entry) × IsPrefix first.kept.published last.kept.published × IsAt has usable later k [] last.kept last.journal
+  goes_on [] first last state entries each lives at =
+      (state, entries, subst (λ (s : Shared F). IsPrefix first.kept.published s.kept.published) (sym lives) (prefix_self first.kept.published), subst (λ (s : Shared F). IsAt has usable state entries [] s.kept s.journal) (sym lives) at)
+  goes_on (next ∷ more) first last state entries each lives at =
+      let one = lives.0 state entries [] at in
+      let none : one.2 ≡ [] = one.6 each refl in
+      let here : IsAt has usable one.0 one.1 [] next.kept next.journal = subst (λ (l : List Entry). IsAt has usable one.0 one.1 l next.kept next.journal) none one.8 in
+      let rest = goes_on more next last one.0 one.1 (one.7 ∙ each) lives.1 here in
+      (rest.0, rest.1, prefix_trans first.kept.published next.kept.published last.kept.published one.5 rest.2, rest.3)
+
+  pub seen_comes_back : (calls : List (Shared F)) (first last : Shared F) (state : State) (entries : List Entry) (seen : List Act) → first.journal.appender.sync ≡ Each → IsAt has usable state entries [] first.kept first.journal
+      → IsPrefix seen first.kept.published → Lives has usable calls first last
+      → (later : State) × (kept : List Entry) × IsAt has usable later kept [] last.kept last.journal
+      × ((told found : List Entry) (second : Durable F) (dropped : ℕ) (disk more left rest : List ℕ) → AreLawful later.config later.acts told → IsBetween last.journal.framing.seed later.config kept told disk more → MayLeave disk more left
+      → IsReopened has usable later.config left found rest second dropped → IsPrefix seen (acts_of found) ⊎ HasForgery last.journal.framing.seed later.config kept told left)
+  seen_comes_back calls first last state entries seen each at saw lives =
+      let there = goes_on calls first last state entries each lives at in
+      let later = there.0 in
+      let kept = there.1 in
+      let on_disk : last.kept.published ≡ acts_of kept = published_acts later kept [] last there.3 ∙ ap acts_of (append-nil kept) in
+      let own : IsPrefix seen (acts_of kept) = subst (IsPrefix seen) on_disk (prefix_trans seen first.kept.published last.kept.published saw there.2) in (
+        later,
+        kept,
+        there.3,
+        λ told found second dropped disk more left rest lawful between may again.
+            elim (second_life has usable later kept [] told found (durable_of last.kept last.journal) second dropped disk more left rest there.3.durable lawful between may again) [
+              | inl back ↦ inl (prefix_trans seen (acts_of kept) (acts_of found) own back.all_kept)
+              | inr forged ↦ inr forged
+            ],
+      )

@@ -1,0 +1,18 @@
+use Rattle.std.proofs.Common.{[], ◌∷◌, refl}
+use Rattle.kv_durable.proofs.Recording.{untouched}
+use Rattle.kv_durable_live.specs.Sharing.{durable_of}
+use Rattle.kv_durable_live.proofs.Accepting.{seal_recorded}
+use Rattle.kv_durable_live.proofs.keeper.DurableKeeper.seal.Goals as goal
+use Rattle.kv_file.proofs.Added.{when_err}
+use Rattle.kv_journal.specs.Records.{did}
+use Rattle.kv_model.specs.Acts.{Seal}
+
+pub returns-in_err-framed-clause-handed : goal.returns-in_err-framed-clause-handed
+returns-in_err-framed-clause-handed g c = when_err c.from_residual.result (untouched g.F.JournalFile.has g.F.JournalFile.usable (λ _. did Seal ∷ []) (durable_of c.args.self.now.keeper c.args.self.now.journal) (durable_of c.args.self.now.keeper c.args.self.now.journal) refl)
+
+pub returns-clause-recorded : goal.returns-clause-recorded
+returns-clause-recorded g c =
+    let p = c.in_ok-framed in
+    let f = p.framed in
+    seal_recorded g.F.JournalFile.has g.F.JournalFile.usable c.args.self.now.keeper c.keep.new.self.keeper c.args.self.now.journal c.keep.new.self.journal (f.next.act ∷ []) f.next.version f.frame.items
+    c.in_ok-keep.ensures.keeper c.in_ok-keep.ensures.added c.in_ok-keep.ensures.each p.ensures.step p.ensures.frame

@@ -1,0 +1,8 @@
+use Rattle.std.proofs.Common.{[], refl}
+use Rattle.kv_durable.proofs.Recording.{untouched}
+use Rattle.kv_durable_live.specs.Sharing.{durable_of}
+use Rattle.kv_durable_live.proofs.keeper.DurableKeeper.sync.Goals as goal
+use Rattle.kv_file.proofs.Added.{when_err}
+
+pub returns-in_err-may_add-clause-handed : goal.returns-in_err-may_add-clause-handed
+returns-in_err-may_add-clause-handed g c = when_err c.from_residual.result (untouched g.F.JournalFile.has g.F.JournalFile.usable (λ _. []) (durable_of c.args.self.now.keeper c.args.self.now.journal) (durable_of c.args.self.now.keeper c.args.self.now.journal) refl)

@@ -1,0 +1,12 @@
+use Rattle.std.proofs.Common.{◌≡◌, true, [], sym, subst}
+use Rattle.std.proofs.lemmas.Result.{IfOk-weaker}
+use Rattle.kv_durable.specs.Journals.{Keeps}
+use Rattle.kv_durable_live.proofs.open.new_journal.Goals as goal
+
+pub returns-in-Ok-clause-new : goal.returns-in-Ok-clause-new
+returns-in-Ok-clause-new g c =
+    let has = g.F.JournalFile.has in
+    let usable = g.F.JournalFile.usable in
+    let config = c.args.config.now in
+    IfOk-weaker c.journal_without_acts.result _ (λ journal. usable c.args.file ≡ true → has c.args.file [] [] → Keeps has usable config [] [] journal)
+    (λ journal is works h. subst (λ j. Keeps has usable config [] [] j) (sym is) (c.in-Ok.ensures.new works h).at.keeps) c.journal_without_acts.ensures.ok

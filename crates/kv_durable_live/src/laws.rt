@@ -1,0 +1,55 @@
+//! What a crash takes back of a durable bucket that threads share: under `Sync::Each`, nothing that anybody saw.
+
+ghost use Rattle.std.specs.Prelude.{◌≡◌, ◌⊎◌, ◌++◌, [], ℕ, List};
+ghost use Rattle.kv_bucket.specs.Keeping.{IsKeptStep};
+ghost use Rattle.kv_durable.specs.Durables.{IsRecorded};
+ghost use Rattle.kv_durable.specs.Files.{HasForgery, IsBetween};
+ghost use Rattle.kv_durable.specs.Openings.{IsReopened};
+ghost use Rattle.kv_durable.specs.declared.durable.Durable.{Durable};
+ghost use Rattle.kv_durable_live.specs.Lives.{GoesOn, Lives, Shared};
+ghost use Rattle.kv_durable_live.specs.Sharing.{IsAt, durable_of};
+ghost use Rattle.kv_file.specs.File.{MayLeave};
+ghost use Rattle.kv_file.specs.declared.appender.Sync.TheVariants.{Each};
+ghost use Rattle.kv_journal.specs.Entries.{AreLawful, Entry, acts_of};
+ghost use Rattle.kv_journal.specs.Records.{Content};
+ghost use Rattle.kv_model.specs.Acts.{Act, IsPrefix};
+ghost use Rattle.kv_model.specs.Answers.{Answer};
+ghost use Rattle.kv_model.specs.State.{State, after};
+ghost use Rattle.kv_model.specs.declared.call.Call.{Call};
+
+use kv_durable::JournalFile;
+
+/// What is published is what the file has: all acts of its entries, on the disk and loose, and no other.
+pub fn published_is_in_the_file<F: JournalFile>()
+    ensures { (state : State) (entries loose : List Entry) (shared : Shared F) →
+        IsAt F.has F.usable state entries loose shared.kept shared.journal →
+        shared.kept.published ≡ acts_of (entries ++ loose) }
+{}
+
+/// Each call that is answered goes on: one that was recorded, as a write, a seal and a compaction; and a sync.
+pub fn each_call_goes_on<F: JournalFile>()
+    ensures recorded { (call : Call) (answer : Answer) (told : State → List Content) (old new : Shared F) →
+        IsKeptStep old.kept call answer new.kept →
+        IsRecorded F.has F.usable (λ state. after state call) told (durable_of old.kept old.journal) (durable_of new.kept new.journal) →
+        new.journal.appender.sync ≡ old.journal.appender.sync → GoesOn F.has F.usable old new }
+    ensures synced { (old new : Shared F) → ((state : State) (entries loose : List Entry) →
+        IsAt F.has F.usable state entries loose old.kept old.journal →
+        IsAt F.has F.usable state (entries ++ loose) [] new.kept new.journal) →
+        new.kept ≡ old.kept → new.journal.appender.sync ≡ old.journal.appender.sync → GoesOn F.has F.usable old new }
+{}
+
+/// What anybody saw of a life, or was told of it, is a beginning of what is published (`is_seen_by`, `is_followed_by`,
+/// `is_told_by`). Calls that were answered lead on from there, each act synced, then comes a crash in a call that may have handed
+/// over what it tells, and an opening of what the crash leaves. All that was seen has come back. Or a frame with its right
+/// checksum stands there that was never written there.
+pub fn what_was_seen_comes_back<F: JournalFile>()
+    ensures { (calls : List (Shared F)) (first last : Shared F) (state : State) (entries : List Entry) (seen : List Act) →
+        first.journal.appender.sync ≡ Each → IsAt F.has F.usable state entries [] first.kept first.journal →
+        IsPrefix seen first.kept.published → Lives F.has F.usable calls first last →
+        (later : State) × (kept : List Entry) × IsAt F.has F.usable later kept [] last.kept last.journal
+        × ((told found : List Entry) (second : Durable F) (dropped : ℕ) (disk more left rest : List ℕ) →
+        AreLawful later.config later.acts told →
+        IsBetween last.journal.framing.seed later.config kept told disk more → MayLeave disk more left →
+        IsReopened F.has F.usable later.config left found rest second dropped →
+        IsPrefix seen (acts_of found) ⊎ HasForgery last.journal.framing.seed later.config kept told left) }
+{}

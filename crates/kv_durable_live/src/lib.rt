@@ -1,0 +1,19 @@
+//! A bucket that threads share and that survives its process: what is published of it is in its file before, and on the disk
+//! where each act is synced. So no reader, feed or receipt sees what a crash takes back.
+#![tactic(auto)]
+
+mod acceptance;
+mod batch;
+mod close;
+mod compaction;
+mod keeper;
+pub mod laws;
+mod live;
+mod open;
+mod write;
+
+pub use keeper::DurableKeeper;
+pub use kv_bucket::{BatchReceipt, Feed, LiveName, Mark, Reader, Receipt};
+pub use kv_durable::{BatchError, DurableError, Journal, JournalFile, NotDone, Sync, SystemFile};
+pub use live::DurableLive;
+pub use open::{NotOpened, OpenError, Opened};
