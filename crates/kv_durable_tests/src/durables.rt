@@ -16,9 +16,9 @@ pub(crate) type Bucket = Durable<MemoryFile>;
 const SEED: u64 = 0x0123_4567_89AB_CDEF;
 
 // How many steps there are.
-const STEPS: usize = 9;
+pub(crate) const STEPS: usize = 9;
 
-fn config(alloc: Global) -> Result<Config, KvError> {
+pub(crate) fn config(alloc: Global) -> Result<Config, KvError> {
     let mut config = Config::named(alloc, "settings")?;
     config.history = 2;
     Ok(config)
@@ -86,7 +86,7 @@ pub(crate) fn step(alloc: Global, bucket: &mut Bucket, number: usize) -> Result<
     Ok(())
 }
 
-fn is_same(first: &Version, second: &Version) -> bool {
+pub(crate) fn is_same(first: &Version, second: &Version) -> bool {
     if first.status() != second.status() || first.floor() != second.floor() {
         return false;
     }

@@ -7,6 +7,8 @@
 #[cfg(test)]
 mod batches;
 #[cfg(test)]
+mod checkpoints;
+#[cfg(test)]
 mod durables;
 #[cfg(test)]
 mod entries;
@@ -16,6 +18,8 @@ mod equal;
 mod files;
 #[cfg(test)]
 mod frames;
+#[cfg(test)]
+mod replaced;
 #[cfg(test)]
 mod sample;
 #[cfg(test)]

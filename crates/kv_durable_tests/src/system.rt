@@ -2,7 +2,7 @@
 
 use crate::equal::equal;
 use kv_durable::{Durable, DurableError, OpenFault, Opened, Sync, SystemFile};
-use kv_file::{FileFault, JournalFile, ReadFault};
+use kv_file::{FileFault, JournalFile, ReadFault, ReplaceFault, ReplaceableFile, SystemPlace};
 use kv_keys::KvError;
 use kv_model::Config;
 use kv_test_tools::put;
@@ -36,6 +36,12 @@ impl From<OpenFault> for Ended {
 
 impl From<FileFault> for Ended {
     fn from(_error: FileFault) -> Ended {
+        Ended
+    }
+}
+
+impl From<ReplaceFault> for Ended {
+    fn from(_error: ReplaceFault) -> Ended {
         Ended
     }
 }
@@ -135,6 +141,48 @@ fn is_as_asked(
     Ok(())
 }
 
+// A file that was replaced has the new bytes alone, goes on behind them, and is busy still.
+fn is_replaced(
+    rt: &HostRuntime,
+    test: &impl Abort,
+    alloc: Global,
+    path: &str,
+) -> Result<(), Ended> {
+    let next = format!(in alloc; "{path}.new")?;
+    let mut file = SystemFile::open(rt, path)?;
+    file.append(b"old")?;
+    fs::write(rt, next.as_str(), b"left over")?;
+    let place = SystemPlace {
+        rt,
+        path,
+        next: next.as_str(),
+    };
+    file.replace(&place, Vec::from_slice(alloc, b"new")?)?;
+    file.append(b"er")?;
+    file.sync()?;
+    equal(test, fs::read(rt, path)?.as_slice(), b"newer");
+    equal(test, file.read(alloc)?.as_slice(), b"newer");
+    assert!(test; fs::metadata(rt, next.as_str()).is_err());
+    assert!(test; matches!(SystemFile::open(rt, path), Err(OpenFault::Busy)));
+    Ok(())
+}
+
+// A file that cannot be replaced stays, and goes on.
+fn stays(rt: &HostRuntime, test: &impl Abort, alloc: Global, path: &str) -> Result<(), Ended> {
+    let mut file = SystemFile::open(rt, path)?;
+    file.append(b"old")?;
+    let place = SystemPlace {
+        rt,
+        path,
+        next: "no/such/folder/x",
+    };
+    let new = Vec::from_slice(alloc, b"new")?;
+    assert!(test; file.replace(&place, new) == Err(ReplaceFault::Unchanged));
+    file.append(b"er")?;
+    equal(test, file.read(alloc)?.as_slice(), b"older");
+    Ok(())
+}
+
 fn is_there_again_once(rt: &HostRuntime, test: &impl Abort, alloc: Global) -> Result<(), Ended> {
     let path = new_path(rt)?;
     let ended = is_there_again(rt, test, alloc, path.as_str());
@@ -186,5 +234,33 @@ fn what_is_no_file_is_not_opened(rt: HostRuntime) {
     for path in ["/", "/dev/null", "no/such/folder/x", "/dev/full"] {
         let opened = SystemFile::open(&rt, path);
         assert!(rt; matches!(opened, Err(OpenFault::Failed)));
+    }
+}
+
+fn is_replaced_once(rt: &HostRuntime, test: &impl Abort, alloc: Global) -> Result<(), Ended> {
+    let path = new_path(rt)?;
+    let ended = is_replaced(rt, test, alloc, path.as_str());
+    fs::remove_file(rt, path.as_str())?;
+    ended
+}
+
+#[test]
+fn a_file_of_the_system_is_replaced(rt: HostRuntime) {
+    if is_replaced_once(&rt, &rt, rt.alloc()).is_err() {
+        assert!(rt; is_replaced_once(&rt, &rt, rt.alloc()).is_ok());
+    }
+}
+
+fn stays_once(rt: &HostRuntime, test: &impl Abort, alloc: Global) -> Result<(), Ended> {
+    let path = new_path(rt)?;
+    let ended = stays(rt, test, alloc, path.as_str());
+    fs::remove_file(rt, path.as_str())?;
+    ended
+}
+
+#[test]
+fn a_file_that_cannot_be_replaced_stays(rt: HostRuntime) {
+    if stays_once(&rt, &rt, rt.alloc()).is_err() {
+        assert!(rt; stays_once(&rt, &rt, rt.alloc()).is_ok());
     }
 }

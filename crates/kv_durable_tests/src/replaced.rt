@@ -1,0 +1,49 @@
+//! Tests of files that are replaced as a whole.
+
+use crate::equal::equal;
+use kv_file::{JournalFile, MemoryFile, ReplaceFault, ReplaceableFile};
+use kv_keys::KvError;
+use std::alloc::Global;
+use std::process::Abort;
+use std::test::Fail;
+
+// How a file ends up whose calls fail from this one on: what was told, and what it has on the disk and loose.
+const ENDS: &[(u64, Result<(), ReplaceFault>, &[u8], &[u8])] = &[
+    (0, Err(ReplaceFault::Unchanged), b"kept", b"loose"),
+    (1, Err(ReplaceFault::Unknown), b"new", b""),
+    (2, Ok(()), b"new", b""),
+];
+
+fn is_replaced_or_stays(
+    rt: &impl Abort,
+    alloc: Global,
+    end: &(u64, Result<(), ReplaceFault>, &[u8], &[u8]),
+) -> Result<(), KvError> {
+    let (calls, told, kept, loose) = end;
+    let mut file = MemoryFile::new(alloc, Vec::from_slice(alloc, b"kept")?);
+    let new = Vec::from_slice(alloc, b"new")?;
+    if file.append(b"loose").is_err() {
+        return Err(KvError::OutOfMemory);
+    }
+    file.fail_after(*calls);
+    assert!(rt; file.replace(&(), new) == *told);
+    equal(rt, file.kept(), *kept);
+    equal(rt, file.loose(), *loose);
+    assert!(rt; file.is_usable() == (*calls != 1));
+    Ok(())
+}
+
+fn each_is_replaced_or_stays(rt: &impl Abort, alloc: Global) -> Result<(), KvError> {
+    for end in ENDS {
+        is_replaced_or_stays(rt, alloc, end)?;
+    }
+    Ok(())
+}
+
+#[test]
+fn a_file_is_replaced_as_a_whole_or_stays(rt: HostRuntime) -> Result<(), Fail> {
+    match each_is_replaced_or_stays(&rt, rt.alloc()) {
+        Ok(()) => Ok(()),
+        Err(_) => Ok(each_is_replaced_or_stays(&rt, rt.alloc())?),
+    }
+}
