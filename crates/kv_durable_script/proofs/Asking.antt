@@ -1,5 +1,5 @@
 -- What the lines of a dump ask for.
-use Rattle.std.proofs.Common.{◌≡◌, ℕ, ◌+◌, ◌*◌, ◌/◌, zero, suc, ◌^◌, ◌<◌, ◌≤◌, ◌==◌, Bool, true, false, cond, ◌&&◌, List, [], ◌∷◌, ◌++◌, length, length-append, replicate, slice_index, Option, Some, None, Result, Ok, codes, refl, sym, ap, ◌∙◌, subst, arith}
+use Rattle.std.proofs.Common.{◌≡◌, ℕ, ◌+◌, zero, suc, ◌^◌, ◌<◌, ◌≤◌, ◌==◌, Bool, true, cond, ◌&&◌, List, [], ◌∷◌, ◌++◌, length, length-append, replicate, Some, None, Ok, codes, refl, ap, ◌∙◌, arith}
 use Rattle.std.specs.Prelude.{nat_le, nat_lt, decimal}
 use Rattle.std.specs.List.{list_all}
 use Rattle.std.specs.Str.{all_ascii_digits, is_utf8}
@@ -8,7 +8,6 @@ use Rattle.std.proofs.lemmas.Bool.{and_from, and_parts, le-leb, lt-ltb, ltb-true
 use Rattle.std.proofs.lemmas.Fmt.{decimal_nonempty, digits_value-decimal, length-decimal-le}
 use Rattle.std.proofs.lemmas.List.{length-replicate}
 use Rattle.std.proofs.lemmas.List.Splits.{slice_split_at, slice_split_none}
-use Rattle.std.proofs.lemmas.List.Sums.{AllPass-from_list_all}
 use Rattle.std.proofs.lemmas.Str.Parse.{numerals_by_value, tells_all_ascii_digits}
 use Rattle.base64.specs.Engines.{standard}
 use Rattle.base64.specs.GeneralPurpose.{IsBytes, encode_of}
@@ -17,8 +16,8 @@ use Rattle.base64.proofs.RoundTrip.{length-encode_symbols}
 use Rattle.kv_keys.specs.Grammar.{has_one_to, is_key, is_key_character, is_present}
 use Rattle.kv_keys.specs.Matching.{tokens}
 use Rattle.kv_journal.proofs.Ascii.{key_fits}
-use Rattle.kv_model.specs.Requests.{Asked, delete, purge, put}
-use Rattle.kv_script.specs.Commands.{Meaning, Write, Seal, Compact, Batch, is_within_limits, line_command, line_write, named_command}
+use Rattle.kv_model.specs.Requests.{delete, purge, put}
+use Rattle.kv_script.specs.Commands.{Write, Seal, Compact, Batch, is_within_limits, line_command, line_write, named_command}
 use Rattle.kv_script.specs.Words.{number_of, value_of, words_of}
 use Rattle.kv_script.specs.declared.form.Form.TheVariants.{Base64}
 use Rattle.kv_script.proofs.Base64Words.{value_word as values_word}

@@ -1,19 +1,15 @@
 -- Each call of a durable bucket keeps on.
-use Rattle.std.proofs.Common.{◌≡◌, ◌⊎◌, ℕ, Bool, true, false, cond, List, [], ◌∷◌, ◌++◌, Option, Some, None, Result, Ok, Err, refl, sym, ap, ◌∙◌, subst, inl, inr, append-nil}
+use Rattle.std.proofs.Common.{◌≡◌, ℕ, Bool, true, false, cond, List, [], ◌∷◌, ◌++◌, Option, Some, None, Result, Ok, Err, refl, sym, ◌∙◌, subst, inl, inr, append-nil}
 use Rattle.std.specs.Prelude.{IfErr, IfOk, IsErrOf, IsOk, OnErr, OnOk}
-use Rattle.kv_file.specs.Adding.{Adds}
-use Rattle.kv_file.specs.declared.appender.Sync.TheVariants.{Each}
 use Rattle.kv_keys.specs.declared.error.KvError.{KvError}
-use Rattle.kv_model.specs.Configuration.{Configuration}
 use Rattle.kv_model.specs.Given.{Item}
 use Rattle.kv_model.specs.State.{State, Watch, after, after_item, after_stop, after_take, add_watch, has_room, next_of, open_at, opened}
 use Rattle.kv_model.specs.declared.call.Call.TheVariants as calls
 use Rattle.kv_model.specs.declared.options.Options.{Options}
 use Rattle.kv_single.specs.Held.{Represents}
-use Rattle.kv_journal.specs.Entries.{Entry, acts_of}
 use Rattle.kv_journal.specs.Records.{Content}
-use Rattle.kv_durable.specs.Durables.{IsAt, IsHanded, IsRecorded, IsRefusal}
-use Rattle.kv_durable.specs.Journals.{IsLeft, Keeps, is_stopped, told_next}
+use Rattle.kv_durable.specs.Durables.{IsHanded, IsRecorded, IsRefusal}
+use Rattle.kv_durable.specs.Journals.{is_stopped, told_next}
 use Rattle.kv_durable.specs.declared.durable.Durable.{Durable}
 use Rattle.kv_durable.specs.declared.error.DurableError.{DurableError}
 use Rattle.kv_durable.specs.declared.error.DurableError.TheVariants.{Refused, FileFault, FileDamaged, FileBusy, OtherBucket}
@@ -25,7 +21,7 @@ use Rattle.kv_keys.specs.declared.error.KvError.TheVariants.{OutOfMemory}
 use Rattle.kv_model.specs.Answers.{Answer}
 use Rattle.kv_model.specs.declared.call.Call.{Call}
 use Rattle.kv_single.specs.Stepping.{IsStep}
-use Rattle.kv_durable_script.specs.Keeping.{HasKept, KeepsMore, KeepsOn, batch_told_as, keeps_on_itself, told_as}
+use Rattle.kv_durable_script.specs.Keeping.{KeepsOn, batch_told_as, keeps_on_itself, told_as}
 
 -- ---- refusals
 

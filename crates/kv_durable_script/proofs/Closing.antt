@@ -11,7 +11,7 @@ use Rattle.kv_durable.specs.Endings.{IsClosed}
 use Rattle.kv_durable.specs.Journals.{Keeps, is_stopped}
 use Rattle.kv_durable.specs.declared.durable.Durable.{Durable}
 use Rattle.kv_durable.specs.declared.journal.Journal.{Journal}
-use Rattle.kv_durable_script.specs.Keeping.{HasKept, KeepsMore, KeepsOn}
+use Rattle.kv_durable_script.specs.Keeping.{HasKept, KeepsOn}
 use Rattle.kv_durable_script.specs.Runs.{ClosesBehind}
 
 module _ {F : Type 0} (has : F → List ℕ → List ℕ → Type 0) (usable : F → Bool) where

@@ -1,15 +1,14 @@
 -- What was written where a run has ended.
-use Rattle.std.proofs.Common.{◌≡◌, ◌⊎◌, ℕ, List, Option, Result, Ok, Err, refl, sym, ap, subst, inl, inr}
+use Rattle.std.proofs.Common.{◌≡◌, ◌⊎◌, ℕ, List, Option, Result, Ok, Err, refl, sym, subst, inl, inr}
 use Rattle.std.specs.Prelude.{⊤, IfErr, OnOk}
 use Rattle.kv_keys.specs.declared.error.KvError.{KvError}
 use Rattle.kv_keys.specs.declared.error.KvError.TheVariants.{OutOfMemory, BadBucket, BadConfig, BadKey, BadFilter, OptionsClash, ValueTooLarge, Sealed, JournalFull, KeyExists, WrongLastRevision, KeyNotFound, NoSuchWatch, TooManyWatches, NoReader, BadCommand, ReadFault, WriteFault, BadFloor, WatchBehind, Lagged}
 use Rattle.kv_script.specs.declared.form.Form.{Form}
 use Rattle.kv_replay.specs.Faults.{IsRunFault}
-use Rattle.kv_replay.specs.Outcome.{Replays}
 use Rattle.kv_replay.specs.Replaying.{RanFrom}
-use Rattle.kv_replay.specs.Sessions.{Session, text_from, whole_from}
+use Rattle.kv_replay.specs.Sessions.{Session}
 use Rattle.kv_durable.specs.declared.error.DurableError.{DurableError}
-use Rattle.kv_durable.specs.declared.error.DurableError.TheVariants.{Refused, FileFault}
+use Rattle.kv_durable.specs.declared.error.DurableError.TheVariants.{Refused}
 use Rattle.kv_durable_script.specs.Runs.{EndsBy, IsOutcome, IsUnclosed}
 
 abbrev run_ok : Result ⊤ KvError

@@ -1,18 +1,18 @@
 -- The entries of a journal can be dumped.
-use Rattle.std.proofs.Common.{◌≡◌, ℕ, ◌+◌, ◌^◌, ◌<◌, ◌≤◌, Bool, true, false, cond, List, [], ◌∷◌, ◌++◌, length, Result, Ok, Err, refl, sym, ap, ◌∙◌, subst, arith, append_assoc, append-nil, length-append}
+use Rattle.std.proofs.Common.{◌≡◌, ◌≤◌, Bool, true, false, cond, List, [], ◌∷◌, ◌++◌, length, Result, Ok, Err, refl, sym, ap, subst, arith, append_assoc, append-nil, length-append}
 use Rattle.std.specs.Prelude.{nat_le, nat_lt, ◌||◌, ◌&&◌}
 use Rattle.std.specs.List.{AllByRecursion}
 use Rattle.std.proofs.lemmas.Bool.{and_parts, leb-true, leb-false}
 use Rattle.kv_keys.specs.declared.error.KvError.{KvError}
 use Rattle.kv_keys.specs.declared.error.KvError.TheVariants.{ValueTooLarge, Sealed, JournalFull}
-use Rattle.kv_model.specs.Acceptance.{IsAccepted, LawfulFrom, accept, is_full, next_write, objection, unless}
+use Rattle.kv_model.specs.Acceptance.{IsAccepted, LawfulFrom, is_full, next_write, objection, unless}
 use Rattle.kv_model.specs.Acts.{Act, Wrote, Seal, Compact, Write, is_sealed, writes_of}
 use Rattle.kv_model.specs.Compaction.{stored_writes}
 use Rattle.kv_model.specs.Configuration.{Configuration, IsLegal, has_legal_numbers}
 use Rattle.kv_model.specs.Requests.{Asked, value_of}
-use Rattle.kv_model.proofs.Numbered.{writes_of-append, writes_of-compact, writes_of-seal, writes_of-wrote}
+use Rattle.kv_model.proofs.Numbered.{writes_of-compact, writes_of-seal, writes_of-wrote}
 use Rattle.kv_model.proofs.Storing.{good_floor}
-use Rattle.kv_journal.specs.Entries.{AreLawful, Entry, IsLawfulContent, acts_in, acts_of}
+use Rattle.kv_journal.specs.Entries.{AreLawful, Entry, IsLawfulContent, acts_in}
 use Rattle.kv_journal.specs.Records.{Content, did, did_all, closed}
 use Rattle.kv_journal.proofs.Accepting.{accepted_is_recordable}
 use Rattle.kv_journal.proofs.Together.{short_record}

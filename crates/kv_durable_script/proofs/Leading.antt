@@ -14,10 +14,9 @@ use Rattle.kv_keys.specs.declared.error.KvError.TheVariants.{BadFloor, ValueTooL
 use Rattle.kv_model.specs.Acceptance.{IsAccepted, LawfulFrom, accept, is_full, next_write, objection, unless}
 use Rattle.kv_model.specs.Acts.{Act, Wrote, Seal, Compact, Write, is_sealed, writes_of}
 use Rattle.kv_model.specs.Batches.{accept_all, after_batch, and_rest, behind_one}
-use Rattle.kv_model.specs.Compaction.{is_bad_floor}
 use Rattle.kv_model.specs.Configuration.{Configuration, IsLegal}
-use Rattle.kv_model.specs.Requests.{Asked, create, delete, key_of, op_of, purge, put, update, value_of, write_for}
-use Rattle.kv_model.specs.State.{State, after_compact, after_write, may_compact}
+use Rattle.kv_model.specs.Requests.{Asked, create, delete, key_of, purge, put, update, value_of, write_for}
+use Rattle.kv_model.specs.State.{State, after_compact, after_write}
 use Rattle.kv_model.specs.declared.batch.BatchRefused.{BatchRefused}
 use Rattle.kv_model.proofs.Numbered.{accepted_is_next, writes_of-append}
 use Rattle.kv_script.specs.Commands as commands
@@ -30,7 +29,7 @@ use Rattle.kv_replay.specs.Text.{steps, steps_next}
 use Rattle.kv_replay.proofs.Standing.{turn_counted}
 use Rattle.kv_journal.specs.Entries.{AreLawful, Entry, IsLawfulContent, acts_in, acts_of}
 use Rattle.kv_journal.specs.Records.{Content, did, did_all, closed}
-use Rattle.kv_durable_script.specs.Dumps.{IsOfBytes, act_line, batch_lines, commands_of, content_lines, dump_text, is_write, lines_text}
+use Rattle.kv_durable_script.specs.Dumps.{IsOfBytes, act_line, commands_of, content_lines, dump_text, is_write, lines_text}
 use Rattle.kv_durable_script.proofs.Asking.{batch_asks, batch_is_line, compact_asks, compact_is_line, delete_asks, delete_is_line, delete_writes, purge_asks, purge_is_line, purge_writes, put_asks, put_is_line, put_writes, seal_asks, value_words}
 use Rattle.kv_durable_script.proofs.Lawful.{IsWithin, accepted_within, can_acts, can_content, fits_act, most_revisions, most_value, passes}
 use Rattle.kv_durable_script.proofs.Words.{IsLine, is_line_byte, no_feed}

@@ -1,23 +1,19 @@
 -- The lines of entries are those of their records.
-use Rattle.std.proofs.Common.{◌≡◌, ◌≢◌, ℕ, ◌+◌, ◌^◌, ◌<◌, ◌≤◌, Bool, true, false, cond, List, [], ◌∷◌, ◌++◌, length, get_or, drop, Option, Some, None, refl, sym, ap, ◌∙◌, subst, arith, append_assoc, append-nil, length-append}
-use Rattle.std.specs.Prelude.{⊤, map, codes, decimal, nat_lt, MatchOption, ◌&&◌}
-use Rattle.std.specs.Int.{w32, w64, to_be_bytes}
+use Rattle.std.proofs.Common.{◌≡◌, ◌≢◌, ℕ, ◌+◌, ◌^◌, ◌<◌, Bool, true, false, cond, List, [], ◌∷◌, ◌++◌, length, get_or, drop, Some, None, refl, sym, ap, ◌∙◌, arith, append_assoc, append-nil, length-append}
+use Rattle.std.specs.Prelude.{map, nat_lt, ◌&&◌}
+use Rattle.std.specs.Int.{w32, to_be_bytes}
 use Rattle.std.specs.List.{AllByRecursion, list_all}
-use Rattle.std.proofs.lemmas.Bool.{cases_Bool}
-use Rattle.kv_keys.specs.Grammar.{is_key}
-use Rattle.kv_model.specs.Acts.{Act, Wrote, Seal, Compact, is_put}
+use Rattle.kv_model.specs.Acts.{Act, Wrote, Seal, Compact}
 use Rattle.kv_model.specs.Requests.{asked, key_of, op_of, value_of}
-use Rattle.kv_model.specs.declared.request.Request.{Request}
 use Rattle.kv_journal.specs.Entries.{Entry, payload_of}
-use Rattle.kv_journal.specs.Records.{Content, did, did_all, closed, IsRecordable, IsRecordableAct, act_record, act_records, kind_of, record_of, write_record}
-use Rattle.kv_journal.specs.Says.{Says, SaysWrite}
+use Rattle.kv_journal.specs.Records.{Content, did, did_all, closed, IsRecordable, act_record, act_records, kind_of, record_of}
+use Rattle.kv_journal.specs.Says.{Says}
 use Rattle.kv_journal.specs.declared.decode.Record.{Record}
 use Rattle.kv_journal.specs.declared.decode.Record.TheVariants as records
 use Rattle.kv_journal.proofs.Saying.{kind_low, same_number, same_write}
 use Rattle.kv_journal.proofs.Together.{one_part, some_there}
-use Rattle.kv_frames.proofs.Fronts.{same_number as same_length}
-use Rattle.kv_durable_script.specs.Dumps.{act_line, batch_lines, commands_of, content_lines, is_write, lines_text, write_line}
-use Rattle.kv_durable_script.specs.inside.Dumpable.{CanDump, CanDumpAct, CanDumpEntry, FitsAct, FitsRecord, IsSingle, said_lines}
+use Rattle.kv_durable_script.specs.Dumps.{act_line, content_lines, is_write, lines_text}
+use Rattle.kv_durable_script.specs.inside.Dumpable.{CanDump, CanDumpAct, FitsRecord, IsSingle, said_lines}
 
 -- ---- lines
 

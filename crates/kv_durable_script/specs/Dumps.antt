@@ -1,13 +1,13 @@
 -- The script of a file: the commands of its entries, one a line.
-use Rattle.std.specs.Prelude.{◌≡◌, ℕ, ◌<◌, ◌^◌, ⊤, Bool, true, false, if◌then◌else◌, List, [], ◌∷◌, ◌++◌, length, map, codes, decimal}
-use Rattle.std.specs.List.{AllByRecursion, flat_map, list_all}
+use Rattle.std.specs.Prelude.{ℕ, ⊤, Bool, true, false, if◌then◌else◌, List, [], ◌∷◌, ◌++◌, length, map, codes, decimal}
+use Rattle.std.specs.List.{list_all}
 use Rattle.base64.specs.Engines.{standard}
 use Rattle.base64.specs.GeneralPurpose.{IsBytes, encode_of}
 use Rattle.kv_model.specs.Acts.{Act, Wrote, Seal, Compact}
 use Rattle.kv_model.specs.declared.write.Op.{Op}
 use Rattle.kv_model.specs.declared.write.Op.TheVariants.{Put, Delete, Purge}
 use Rattle.kv_journal.specs.Entries.{Entry}
-use Rattle.kv_journal.specs.Records.{Content, did, did_all, closed, IsRecordableAct, act_record}
+use Rattle.kv_journal.specs.Records.{Content, did, did_all, closed}
 
 -- the word of a value: a dash for the empty one, else its base64
 abbrev pub value_word : List ℕ → List ℕ

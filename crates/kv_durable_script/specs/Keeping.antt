@@ -1,5 +1,5 @@
 -- What a durable bucket has kept while a script runs on it.
-use Rattle.std.specs.Prelude.{◌≡◌, ◌⊎◌, ℕ, Bool, true, List, [], ◌∷◌, ◌++◌}
+use Rattle.std.specs.Prelude.{◌≡◌, ◌⊎◌, ℕ, Bool, true, List, [], ◌++◌}
 use Rattle.std.proofs.Common.{refl, sym, ap, ◌∙◌, append_assoc, append-nil}
 use Rattle.kv_model.specs.Acts.{IsPrefix}
 use Rattle.kv_model.specs.State.{State}
