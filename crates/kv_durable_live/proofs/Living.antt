@@ -1,5 +1,6 @@
 -- Lives of a durable bucket that threads share.
-use Rattle.std.proofs.Common.{◌≡◌, ◌⊎◌, ℕ, Bool, List, [], ◌∷◌, ◌++◌, refl, sym, ap, ◌∙◌, subst, inl, inr, append-nil}
+use Rattle.std.proofs.Common.{◌≡◌, ◌⊎◌, ℕ, Bool, List, [], ◌∷◌, ◌++◌, Result, map, refl, sym, ap, ◌∙◌, subst, inl, inr, append-nil}
+use Rattle.kv_bucket.specs.Batches.{IsKeptBatch}
 use Rattle.kv_bucket.specs.Keeping as kept
 use Rattle.kv_bucket.specs.Keeping.{IsKeptStep}
 use Rattle.kv_durable.specs.Durables as durables
@@ -16,10 +17,14 @@ use Rattle.kv_file.specs.declared.appender.Sync.TheVariants.{Each}
 use Rattle.kv_journal.specs.Entries.{AreLawful, Entry, acts_of}
 use Rattle.kv_journal.specs.Records.{Content}
 use Rattle.kv_journal.proofs.Going.{acts_of-append}
-use Rattle.kv_model.specs.Acts.{Act, IsPrefix}
+use Rattle.kv_model.specs.Acts.{Act, IsPrefix, Write}
 use Rattle.kv_model.specs.Answers.{Answer}
+use Rattle.kv_model.specs.Batches.{accept_all, after_batch}
+use Rattle.kv_model.specs.Requests.{asked}
 use Rattle.kv_model.specs.State.{State, after}
+use Rattle.kv_model.specs.declared.batch.BatchRefused.{BatchRefused}
 use Rattle.kv_model.specs.declared.call.Call.{Call}
+use Rattle.kv_model.specs.declared.request.Request.{Request}
 use Rattle.kv_publish.proofs.Prefixes.{prefix_self, prefix_trans}
 
 -- the acts of the first entries begin those of all
@@ -30,20 +35,31 @@ module _ {F : Type 0} (has : F → List ℕ → List ℕ → Type 0) (usable : F
   pub published_acts : (state : State) (entries loose : List Entry) (shared : Shared F) → IsAt has usable state entries loose shared.kept shared.journal → shared.kept.published ≡ acts_of (entries ++ loose)
   published_acts state entries loose shared at = at.published ∙ at.durable.acts
 
-  pub recorded_goes_on : (call : Call) (answer : Answer) (told : State → List Content) (old new : Shared F) → IsKeptStep old.kept call answer new.kept
-      → durables.IsRecorded has usable (λ state. after state call) told (durable_of old.kept old.journal) (durable_of new.kept new.journal) → new.journal.appender.sync ≡ old.journal.appender.sync → GoesOn has usable old new
-  recorded_goes_on call answer told old new step recorded same = λ state entries loose at.
+  -- a call that leads from each state to another, and that is added to the file
+  added_goes_on : (later : State → State) (told : State → List Content) (old new : Shared F) → ((state : State) → kept.IsAt state old.kept → kept.IsAt (later state) new.kept)
+      → durables.IsRecorded has usable later told (durable_of old.kept old.journal) (durable_of new.kept new.journal) → new.journal.appender.sync ≡ old.journal.appender.sync → GoesOn has usable old new
+  added_goes_on later told old new step recorded same = λ state entries loose at.
       let there = recorded state entries loose at.durable in
       let more = told_next old.journal (told state) in
-      let before : kept.IsAt state old.kept = record { represents = at.durable.represents; published = at.published } in
-      let on = (step state before).1 in
-      let here : IsAt has usable (after state call) there.0 there.1 new.kept new.journal = record { durable = there.4; published = on.published } in
+      let on = step state (record { represents = at.durable.represents; published = at.published }) in
+      let here : IsAt has usable (later state) there.0 there.1 new.kept new.journal = record { durable = there.4; published = on.published } in
       let all : IsPrefix (entries ++ loose) (there.0 ++ there.1) = (more, sym (all_added entries loose more there.0 there.1 there.2)) in
       let acts = front_acts (entries ++ loose) (there.0 ++ there.1) all in
       let published : IsPrefix old.kept.published new.kept.published =
       subst (λ (xs : List Act). IsPrefix xs new.kept.published) (sym (published_acts state entries loose old at))
-      (subst (IsPrefix (acts_of (entries ++ loose))) (sym (published_acts (after state call) there.0 there.1 new here)) acts) in
-      (after state call, there.0, there.1, added_kept entries loose more there.0 there.1 there.2, all, published, (λ each none. there.3 each), same, here)
+      (subst (IsPrefix (acts_of (entries ++ loose))) (sym (published_acts (later state) there.0 there.1 new here)) acts) in
+      (later state, there.0, there.1, added_kept entries loose more there.0 there.1 there.2, all, published, (λ each none. there.3 each), same, here)
+
+  pub recorded_goes_on : (call : Call) (answer : Answer) (told : State → List Content) (old new : Shared F) → IsKeptStep old.kept call answer new.kept
+      → durables.IsRecorded has usable (λ state. after state call) told (durable_of old.kept old.journal) (durable_of new.kept new.journal) → new.journal.appender.sync ≡ old.journal.appender.sync → GoesOn has usable old new
+  recorded_goes_on call answer told old new step recorded same = added_goes_on (λ state. after state call) told old new (λ state at. (step state at).1) recorded same
+
+  pub batch_goes_on : (requests : List Request) (first : ℕ) (old new : Shared F) → IsKeptBatch old.kept requests first new.kept
+      → durables.IsRecorded has usable (λ state. after_batch state (accept_all state.config (map asked requests) state.acts)) (λ state. durables.batch_of (accept_all state.config (map asked requests) state.acts)) (durable_of old.kept old.journal) (durable_of new.kept new.journal)
+      → new.journal.appender.sync ≡ old.journal.appender.sync → GoesOn has usable old new
+  batch_goes_on requests first old new batch recorded same =
+      added_goes_on (λ state. after_batch state (accept_all state.config (map asked requests) state.acts)) (λ state. durables.batch_of (accept_all state.config (map asked requests) state.acts)) old new
+      (λ state at. let done = batch state at in subst (λ (r : Result (List Write) BatchRefused). kept.IsAt (after_batch state r) new.kept) (sym done.1.0) done.1.1.1) recorded same
 
   pub synced_goes_on : (old new : Shared F) → ((state : State) (entries loose : List Entry) → IsAt has usable state entries loose old.kept old.journal → IsAt has usable state (entries ++ loose) [] new.kept new.journal)
       → new.kept ≡ old.kept → new.journal.appender.sync ≡ old.journal.appender.sync → GoesOn has usable old new

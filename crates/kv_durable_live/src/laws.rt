@@ -1,8 +1,9 @@
 //! What a crash takes back of a durable bucket that threads share: under `Sync::Each`, nothing that anybody saw.
 
-ghost use Rattle.std.specs.Prelude.{◌≡◌, ◌⊎◌, ◌++◌, [], ℕ, List};
+ghost use Rattle.std.specs.Prelude.{◌≡◌, ◌⊎◌, ◌++◌, [], ℕ, List, map};
+ghost use Rattle.kv_bucket.specs.Batches.{IsKeptBatch};
 ghost use Rattle.kv_bucket.specs.Keeping.{IsKeptStep};
-ghost use Rattle.kv_durable.specs.Durables.{IsRecorded};
+ghost use Rattle.kv_durable.specs.Durables.{IsRecorded, batch_of};
 ghost use Rattle.kv_durable.specs.Files.{HasForgery, IsBetween};
 ghost use Rattle.kv_durable.specs.Openings.{IsReopened};
 ghost use Rattle.kv_durable.specs.declared.durable.Durable.{Durable};
@@ -14,8 +15,11 @@ ghost use Rattle.kv_journal.specs.Entries.{AreLawful, Entry, acts_of};
 ghost use Rattle.kv_journal.specs.Records.{Content};
 ghost use Rattle.kv_model.specs.Acts.{Act, IsPrefix};
 ghost use Rattle.kv_model.specs.Answers.{Answer};
+ghost use Rattle.kv_model.specs.Batches.{accept_all, after_batch};
+ghost use Rattle.kv_model.specs.Requests.{asked};
 ghost use Rattle.kv_model.specs.State.{State, after};
 ghost use Rattle.kv_model.specs.declared.call.Call.{Call};
+ghost use Rattle.kv_model.specs.declared.request.Request.{Request};
 
 use kv_durable::JournalFile;
 
@@ -26,11 +30,17 @@ pub fn published_is_in_the_file<F: JournalFile>()
         shared.kept.published ≡ acts_of (entries ++ loose) }
 {}
 
-/// Each call that is answered goes on: one that was recorded, as a write, a seal and a compaction; and a sync.
+/// Each call that is answered goes on: one that was recorded, as a write, a seal and a compaction; a batch; and a sync.
 pub fn each_call_goes_on<F: JournalFile>()
     ensures recorded { (call : Call) (answer : Answer) (told : State → List Content) (old new : Shared F) →
         IsKeptStep old.kept call answer new.kept →
         IsRecorded F.has F.usable (λ state. after state call) told (durable_of old.kept old.journal) (durable_of new.kept new.journal) →
+        new.journal.appender.sync ≡ old.journal.appender.sync → GoesOn F.has F.usable old new }
+    ensures batched { (requests : List Request) (first : ℕ) (old new : Shared F) →
+        IsKeptBatch old.kept requests first new.kept →
+        IsRecorded F.has F.usable (λ state. after_batch state (accept_all state.config (map asked requests) state.acts))
+        (λ state. batch_of (accept_all state.config (map asked requests) state.acts))
+        (durable_of old.kept old.journal) (durable_of new.kept new.journal) →
         new.journal.appender.sync ≡ old.journal.appender.sync → GoesOn F.has F.usable old new }
     ensures synced { (old new : Shared F) → ((state : State) (entries loose : List Entry) →
         IsAt F.has F.usable state entries loose old.kept old.journal →

@@ -134,13 +134,22 @@ impl<N: LiveName, F: JournalFile> DurableKeeper<N, F> {
         ensures recorded { OnOk result (IsRecorded F.has F.usable (λ state. after state (Write request.now))
             (λ state. map did (act_of (accept state.config (asked request.now) state.acts)))
             (durable_of self.old.keeper self.old.journal) (durable_of self.new.keeper self.new.journal)) }
+        ensures every { OnOk result ((n : ℕ) → self.old.journal.appender.sync ≡ Every n → 0 < n →
+            self.new.journal.appender.waiting < n) }
         ensures refused { IfErr result (λ e. (x : AnError) → e ≡ Refused x → (state : State) →
             IsAt state self.old.keeper → Refuses x (accept state.config (asked request.now) state.acts)) }
         ensures untouched { IfErr result (λ e. (x : AnError) → e ≡ Refused x → self.new ≡ self.old) }
         ensures unchanged { OnErr result (self.new.keeper ≡ self.old.keeper) }
+        ensures handed { OnErr result (IsHanded F.has F.usable
+            (λ state. map did (act_of (accept state.config (asked request.now) state.acts)))
+            (durable_of self.old.keeper self.old.journal) (durable_of self.new.keeper self.new.journal)) }
+        ensures fault { IsErrOf result FileFault → (is_stopped F.usable self.old.journal ≡ true)
+            ⊎ (F.faults self.old.journal.appender.file < F.faults self.new.journal.appender.file) }
         ensures stops { IsErrOf result FileFault → is_stopped F.usable self.new.journal ≡ true }
         ensures stopped { is_stopped F.usable self.old.journal ≡ true → (result ≡ Err FileFault) × (self.new ≡ self.old) }
         ensures no_other { IfErr result IsRefusal }
+        ensures same { (self.new.journal.framing ≡ self.old.journal.framing)
+            × (self.new.journal.appender.sync ≡ self.old.journal.appender.sync) }
     {
         let revision = self.write(rt, request)?;
         Ok((revision, self.keeper.receipt(revision)))
