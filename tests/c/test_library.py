@@ -3,7 +3,7 @@ for memory refused; with sanitizers and valgrind where they are installed."""
 import shutil, unittest
 
 from tests.c.compiling import CHECKED, ProgramTest, ran
-from tests.pages.examples import blocks, first_block, lines_of
+from tests.pages.examples import first_block, lines_of
 
 
 class Programs(ProgramTest):
@@ -38,8 +38,6 @@ class Programs(ProgramTest):
 class Quoted(unittest.TestCase):
     def test_the_page_quotes_the_example(self) -> None:
         self.assertEqual(first_block("docs/c.md", "c"), lines_of("tests/c/example.c"))
-        self.assertIn(lines_of("tests/c/batch_example.c"), blocks("docs/c.md", "c"))
-        self.assertIn(lines_of("tests/c/batch_example.stdout"), blocks("docs/c.md", "text"))
 
 
 if __name__ == "__main__":
