@@ -6,7 +6,7 @@ is 'K left out', with the reasons.
 PROGRAM is a built kvbucket, and BENCH a built kv_bench, and where none is named the one in its crate; FOLDER is where libvilgoued lies,
 or else lib/, where ./library puts it; TESTS is a proved test program, crates/NAME/out/NAME_tests, whose requests for memory the part
 `refusals` refuses. The part `lint` runs those linters that are installed. The part `server` starts a nats-server on loopback with its store in a temporary folder, and ends it; where there is none, and Debian's
-package is not to be had, all of it is left out. How much is run, other parts read from variables: RACES, WRITES, MOST and JOBS."""
+package is not to be had, all of it is left out. How much is run, other parts read from variables: RACES, KILLS, WRITES, MOST and JOBS."""
 import argparse, collections, contextlib, os, sys, tempfile, unittest
 from typing import Any, Iterator, Sequence
 
@@ -25,7 +25,7 @@ PARTS = {
     "streams": ["tests.test_streams"],
     "compactions": ["tests.test_compactions"],
     "races": ["tests.test_races"],
-    "journal": ["tests.test_journal"],
+    "journal": ["tests.test_journal", "tests.test_program_journal"],
     "scripts": ["tests.test_scripts"],
     "refusals": ["tests.memory.test_refusals"],
     "library": ["tests.c.test_headers", "tests.c.test_library", "tests.c.test_shared", "tests.python.test_vilgoued", "tests.python.test_batches",
@@ -40,7 +40,7 @@ PARTS = {
     "pages": ["tests.pages.test_pages", "tests.pages.test_man", "tests.pages.test_contracts", "tests.pages.test_layers"],
 }
 # Those that run the program, and those that stand on the library.
-RUN, LINKED = {"arguments", "streams", "compactions", "races", "scripts", "pages"}, {"library", "rust", "go"}
+RUN, LINKED = {"arguments", "streams", "compactions", "races", "journal", "scripts", "pages"}, {"library", "rust", "go"}
 
 
 def missing(part: str) -> str:

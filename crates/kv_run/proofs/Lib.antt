@@ -1,6 +1,7 @@
 pub mod ArgumentOptions
 pub mod Dealt
 pub mod Lines
+pub mod OnFiles
 pub mod Plans
 pub mod Programs
 pub mod Racing

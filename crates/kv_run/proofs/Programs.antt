@@ -11,6 +11,7 @@ use Rattle.kv_keys.specs.declared.error.KvError.TheVariants.{OutOfMemory, ReadFa
 use Rattle.kv_model.specs.Configuration.{Configuration}
 use Rattle.kv_script.specs.declared.form.Form.{Form}
 use Rattle.kv_replay.specs.Faults.{IsBadConfiguration}
+use Rattle.kv_run.specs.Arguments.{Wanted}
 use Rattle.kv_run.specs.Programs.{EndsBy, IsRefusedBy, RanAs, status_of}
 use Rattle.kv_run.proofs.Statuses.{run_refused, status_two}
 
@@ -42,3 +43,12 @@ module _ (kinds : Kinds) (form : Form) (race : Option ℕ) (config : Configurati
     | inl ran ↦ (fine, run_refused form race config unread left held holds e ran two)
     | inr lacks ↦ absurd (subst IsBadConfiguration (same_error e OutOfMemory lacks.0) (status_two e two))
   ]
+
+-- what ended the run under what the words are found to ask for, did so under what they ask for
+pub ends_as_wanted : (kinds : Kinds) (found wanted : Wanted) (unread left held holds : Option (List ℕ)) (e : KvError) (Same ReaderFailed WriterFailed : Type 0) → found ≡ wanted
+    → RanAs found.form found.race found.config unread left held holds (failed e) ⊎ (IsErrOf (failed e) OutOfMemory × Same) → kinds ≡ []
+    → (Same → (left ≡ unread) × (holds ≡ held)) → (IsErrOf (failed e) ReadFault → ReaderFailed) → (IsErrOf (failed e) WriteFault → WriterFailed) → status_of e ≡ 1
+    → EndsBy kinds wanted.form wanted.race wanted.config unread left held holds ReaderFailed WriterFailed e
+ends_as_wanted kinds found wanted unread left held holds e Same ReaderFailed WriterFailed is ended fine kept read_fault write_fault one =
+    subst (λ (w : Wanted). EndsBy kinds w.form w.race w.config unread left held holds ReaderFailed WriterFailed e) is
+    (ends_by kinds found.form found.race found.config unread left held holds e Same ended fine ReaderFailed WriterFailed kept read_fault write_fault one)

@@ -1,5 +1,5 @@
 -- What the words of a command line ask for: the program's name, and then options with their values.
-use Rattle.std.specs.Prelude.{ℕ, ◌^◌, ◌&&◌, nat_lt, Bool, true, false, if◌then◌else◌, List, [], ◌∷◌, length, Option, Some, None, option_and_then, codes, bytes_eq, unwrap_or}
+use Rattle.std.specs.Prelude.{◌≡◌, ℕ, ◌^◌, ◌&&◌, is_none, nat_lt, Bool, true, false, if◌then◌else◌, List, [], ◌∷◌, length, Option, Some, None, option_and_then, codes, bytes_eq, unwrap_or}
 use Rattle.std.specs.Char.{digit_value}
 use Rattle.std.specs.List.{list_all}
 use Rattle.std.specs.Option.{option_map_or}
@@ -38,6 +38,18 @@ race_option =
 abbrev pub form_option : Rule
 form_option = record (new_rule (codes "text")) { long = Some (codes "text"); action = Some SetTrue }
 
+-- an option with a text, which has none where it is not given
+abbrev pub word_option : Text → Rule
+word_option name = record (new_rule name) { long = Some name; action = Some Set; value_names = 1 }
+
+-- with the options for files: one that keeps the bucket, when that is brought onto the disk, and one whose script is asked for
+abbrev pub with_files : App → App
+with_files app =
+    with_rule (with_rule (with_rule app
+    (word_option (codes "journal")))
+    (word_option (codes "sync")))
+    (word_option (codes "dump"))
+
 -- a program that tells its version
 abbrev pub versioned : App → App
 versioned app = on_top (λ shape. record shape { has_version = true }) app
@@ -54,10 +66,10 @@ with_limits app =
 -- the program, and its options
 abbrev pub program_app : App
 program_app =
-    with_rule (with_rule (with_limits (with_rule (versioned (new_app (codes "kvbucket")))
+    with_files (with_rule (with_rule (with_limits (with_rule (versioned (new_app (codes "kvbucket")))
     (text_option (codes "bucket") (codes "kv"))))
     race_option)
-    form_option
+    form_option)
 
 -- why the words are refused, if they are; to ask for help is among the reasons
 abbrev pub faults_of : List Text → Kinds
@@ -115,18 +127,48 @@ form_asked false = forms.Base64
 abbrev pub form_of : List Text → Form
 form_of words = form_asked (is_given (codes "text") (matches_of program_app words))
 
--- what the words ask for: a configuration, perhaps a race of so many workers, and how values stand
+-- the text of an option, where it is given
+abbrev pub word_of : Text → List Text → Option Text
+word_of name words = first_of name (matches_of program_app words)
+
+-- what the words ask for: a configuration, perhaps a race of so many workers, how values stand, and the words of the options for
+-- files
 pub record Wanted : Type 0 where
   pub config : Configuration
   pub race : Option ℕ
   pub form : Form
+  pub journal : Option Text
+  pub sync : Option Text
+  pub dump : Option Text
+
+-- they speak of no file
+abbrev pub is_in_memory : Wanted → Bool
+is_in_memory wanted = (is_none wanted.journal && is_none wanted.sync) && is_none wanted.dump
 
 abbrev pub wanted_of : List Text → Wanted
-wanted_of words = record { config = config_of words; race = race_of words; form = form_of words }
+wanted_of words = record {
+  config = config_of words;
+  race = race_of words;
+  form = form_of words;
+  journal = word_of (codes "journal") words;
+  sync = word_of (codes "sync") words;
+  dump = word_of (codes "dump") words;
+}
 
--- a configuration alone, with no race, and values in base64
+-- where the words are fine, they speak of no file
+abbrev pub AreInMemory : List Text → Type 0
+AreInMemory words = faults_of words ≡ [] → is_in_memory (wanted_of words) ≡ true
+
+-- a configuration alone, with no race, values in base64, and no file
 abbrev pub alone : Configuration → Wanted
-alone config = record { config = config; race = None; form = forms.Base64 }
+alone config = record {
+  config = config;
+  race = None;
+  form = forms.Base64;
+  journal = None;
+  sync = None;
+  dump = None;
+}
 
 -- the configuration where no option is given
 abbrev pub defaults : Configuration

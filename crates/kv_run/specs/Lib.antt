@@ -1,5 +1,6 @@
 pub mod Arguments
 pub mod Dealing
+pub mod Files
 pub mod Planning
 pub mod Programs
 pub mod Races

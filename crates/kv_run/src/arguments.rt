@@ -1,12 +1,12 @@
 //! The arguments of the program.
 
-ghost use Rattle.std.specs.Prelude.{◌≡◌, false, IfOk, IfErr, MatchResult, [], map, string_bytes};
+ghost use Rattle.std.specs.Prelude.{◌≡◌, false, IfOk, IfErr, MatchResult, [], map, option_map, string_bytes};
 ghost use Rattle.clap.specs.Kinds.{HasKind};
 ghost use Rattle.clap.specs.Simple.{app_of};
 ghost use Rattle.clap.specs.Matches.{found_of};
 ghost use Rattle.clap.specs.Walk.{rows_of, rule_of};
 ghost use Rattle.kv_keys.specs.declared.error.KvError.TheVariants.{OutOfMemory};
-ghost use Rattle.kv_run.specs.Arguments.{faults_of, form_asked, form_option, number_in, number_option, program_app, race_option, text_option, wanted_of, with_limits};
+ghost use Rattle.kv_run.specs.Arguments.{faults_of, form_asked, form_option, is_in_memory, number_in, number_option, program_app, race_option, text_option, wanted_of, with_files, with_limits, word_option};
 
 use crate::help::VERSION;
 use clap::{Arg, ArgAction, ArgMatches, Command, Error, value_parser};
@@ -26,6 +26,9 @@ pub(crate) struct Arguments<'a> {
     revision_limit: u64,
     race: Option<u64>,
     form: Form,
+    journal: Option<&'a str>,
+    sync: Option<&'a str>,
+    dump: Option<&'a str>,
 }
 
 /// An option that takes a text.
@@ -70,6 +73,27 @@ fn form<'a>(alloc: Global) -> Arg<'a>
         .action(ArgAction::SetTrue)
 }
 
+/// An option that takes a text, and has none where it is not given.
+fn word<'a>(alloc: Global, name: &'a str, value_name: &'a str) -> Arg<'a>
+    ensures rule { rule_of result ≡ word_option name.entry.now }
+    ensures local { result.global ≡ false }
+{
+    Arg::new(alloc, name)
+        .long(name)
+        .action(ArgAction::Set)
+        .value_name(value_name)
+}
+
+/// The program with the options for files.
+fn with_files<'a>(alloc: Global, command: Command<'a>) -> Result<Command<'a>, AllocError>
+    ensures { IfOk result (λ more. app_of more ≡ with_files (app_of command.entry)) }
+{
+    command
+        .arg(word(alloc, "journal", "FILE"))?
+        .arg(word(alloc, "sync", "WHEN"))?
+        .arg(word(alloc, "dump", "FILE"))
+}
+
 /// How values stand.
 fn form_asked(as_text: bool) -> Form
     ensures { result ≡ form_asked as_text }
@@ -95,9 +119,10 @@ fn command<'a>(alloc: Global) -> Result<Command<'a>, AllocError>
     let named = Command::new(alloc, "kvbucket")
         .version(VERSION)
         .arg(text(alloc, "bucket", "NAME", "kv"))?;
-    with_limits(alloc, named)?
+    let raced = with_limits(alloc, named)?
         .arg(race(alloc))?
-        .arg(form(alloc))
+        .arg(form(alloc))?;
+    with_files(alloc, raced)
 }
 
 /// The number that is given for an option, or else its default.
@@ -108,6 +133,7 @@ fn number_given(matches: &ArgMatches<'_>, name: &str, default: u64) -> u64
 }
 
 impl<'a> Model for Arguments<'a> {
+    ghost use Rattle.std.specs.Prelude.{option_map};
     ghost use Rattle.kv_run.specs.Arguments.{Wanted};
 
     ghost Value = { Wanted };
@@ -122,6 +148,9 @@ impl<'a> Model for Arguments<'a> {
       };
       race = a.race;
       form = a.form;
+      journal = option_map (λ word. word.now) a.journal;
+      sync = option_map (λ word. word.now) a.sync;
+      dump = option_map (λ word. word.now) a.dump;
     } };
 }
 
@@ -142,6 +171,9 @@ impl<'a> Arguments<'a> {
             revision_limit: number_given(&matches, "revision-limit", 4_294_967_295),
             race: matches.get_one::<u64>("race"),
             form: form_asked(matches.get_one::<bool>("text").unwrap_or(false)),
+            journal: matches.get_str("journal"),
+            sync: matches.get_str("sync"),
+            dump: matches.get_str("dump"),
         })
     }
 
@@ -157,6 +189,34 @@ impl<'a> Arguments<'a> {
         ensures { result ≡ self.now.form }
     {
         self.form
+    }
+
+    /// The file that keeps the bucket, where they name one.
+    pub(crate) fn journal(&self) -> Option<&'a str>
+        ensures { option_map (λ word. word.now) result ≡ self.now.journal }
+    {
+        self.journal
+    }
+
+    /// When what is added to the file is brought onto the disk, as a word, where one is given.
+    pub(crate) fn sync(&self) -> Option<&'a str>
+        ensures { option_map (λ word. word.now) result ≡ self.now.sync }
+    {
+        self.sync
+    }
+
+    /// The file whose script is asked for, where they name one.
+    pub(crate) fn dump(&self) -> Option<&'a str>
+        ensures { option_map (λ word. word.now) result ≡ self.now.dump }
+    {
+        self.dump
+    }
+
+    /// Whether they speak of no file.
+    pub(crate) fn is_in_memory(&self) -> bool
+        ensures { result ≡ is_in_memory self.now }
+    {
+        self.journal.is_none() & self.sync.is_none() & self.dump.is_none()
     }
 
     /// The configuration that they ask for. It is not checked here.

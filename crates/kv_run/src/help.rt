@@ -16,6 +16,11 @@ Options:
       --race N              read the whole script first, deal its writes to N workers that write at once, 1 to 16,
                             and show each watch from its beginning
       --text                values are text: in a line all that stands behind the space, in an answer a JSON string
+      --journal FILE        keep the bucket in FILE, which is made if it isn't there: each answer to a write, a seal or a
+                            compaction comes after its record
+      --sync WHEN           when records are brought onto the disk: each one before its answer, so many at a time and at
+                            the end, or only at the end: each, a number from 1, or close [each]
+      --dump FILE           write the commands that make the bucket of FILE anew, and read no script
   -h, --help                show this
   -V, --version             show the version, and the kit that proved it
 
@@ -47,6 +52,10 @@ Exit status, and what to do:
      ReadFault              the input can't be read: only the lines before are answered, so mend it and run it again
      WriteFault             the output can't be written: make room, or keep its reader going, and run it again
      NoReader               a race could not be shown: run it again
+     FileFault              the file can't be read or written: what was answered is in it, so make room and run the rest
+     FileDamaged            the file was changed from outside, or is no journal: take a copy that is whole
+     FileBusy               another process has the file: wait for its end
+     OtherBucket            the file has another name, history or limit: give the options that it was made with
   2  BadBucket, BadConfig   the name, or a number, is not as the options say: give another
      and other faults       an argument is unknown, twice there, or has no such value: standard error shows which
 

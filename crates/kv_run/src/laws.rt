@@ -1,6 +1,6 @@
 //! Laws of the arguments.
 
-ghost use Rattle.std.specs.Prelude.{◌≡◌, ◌++◌, ℕ, List, [], ◌∷◌, None, codes};
+ghost use Rattle.std.specs.Prelude.{◌≡◌, ◌++◌, ℕ, List, [], ◌∷◌, Some, codes};
 ghost use Rattle.kv_run.specs.Arguments.{alone, defaults, faults_of, number_of, number_or, wanted_of};
 
 use kv_script::Form;
@@ -30,8 +30,17 @@ pub fn each_option_sets_its_part()
         ≡ alone (record defaults { revision_limit = number_or 4294967295 value }) }
     ensures race { (program value : List ℕ) →
         wanted_of (program ∷ (codes "--race=" ++ value) ∷ [])
-        ≡ record { config = defaults; race = number_of value; form = Form.Base64 } }
+        ≡ record (alone defaults) { race = number_of value } }
     ensures text { (program : List ℕ) →
         wanted_of (program ∷ codes "--text" ∷ [])
-        ≡ record { config = defaults; race = None; form = Form.Text } }
+        ≡ record (alone defaults) { form = Form.Text } }
+    ensures journal { (program value : List ℕ) →
+        wanted_of (program ∷ (codes "--journal=" ++ value) ∷ [])
+        ≡ record (alone defaults) { journal = Some value } }
+    ensures sync { (program value : List ℕ) →
+        wanted_of (program ∷ (codes "--sync=" ++ value) ∷ [])
+        ≡ record (alone defaults) { sync = Some value } }
+    ensures dump { (program value : List ℕ) →
+        wanted_of (program ∷ (codes "--dump=" ++ value) ∷ [])
+        ≡ record (alone defaults) { dump = Some value } }
 {}

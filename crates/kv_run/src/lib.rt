@@ -2,6 +2,7 @@
 #![tactic(auto)]
 
 mod arguments;
+mod files;
 mod help;
 pub mod laws;
 mod races;

@@ -1,15 +1,17 @@
 //! The program, over the words, the reader and the writers that it is handed.
 
-ghost use Rattle.std.specs.Prelude.{◌≡◌, ◌≤◌, ◌+◌, ◌⊎◌, ℕ, take, map, string_bytes, OnOk, OnErr, IfErr, IsErrOf};
+ghost use Rattle.std.specs.Prelude.{◌≡◌, ◌≤◌, ◌+◌, ◌⊎◌, ℕ, take, map, string_bytes, OnOk, OnErr, IfErr, IsErrOf, List, [], None, Some};
 ghost use Rattle.std.specs.Io.KnownBytes.{Appends};
 ghost use Rattle.clap.specs.Kinds.{HasKind, Kinds};
 ghost use Rattle.kv_keys.specs.declared.error.KvError.TheVariants.{OutOfMemory};
-ghost use Rattle.kv_run.specs.Arguments.{config_of, faults_of, form_of, race_of};
+ghost use Rattle.kv_run.specs.Arguments.{AreInMemory, config_of, faults_of, form_of, race_of, wanted_of};
 ghost use Rattle.kv_replay.specs.Faults.{IsBadConfiguration};
+ghost use Rattle.kv_run.specs.Files.{IsDumped, IsRunOn};
 ghost use Rattle.kv_run.specs.Programs.{fault_text, status_of, AreWrong, EndsBy, IsRefusedBy, IsRun, IsShown, RanAs, ShowingEnds};
 ghost use Rattle.kv_replay.specs.declared.streams.TheConstants.{READ_CALLS};
 
 use crate::arguments::Arguments;
+use crate::files::with_file;
 use crate::help::{HELP, VERSION};
 use crate::races::over_scripts::replay_race;
 use clap::Error;
@@ -17,6 +19,8 @@ use clap::error::ErrorKind;
 use kv_keys::KvError;
 use kv_replay::{Input, Output, replay_in};
 use std::alloc::Global;
+use std::fs::{File, Files};
+use std::random::RandomSource;
 use std::sync::Wait;
 use std::thread::Threads;
 
@@ -124,18 +128,19 @@ fn refuse<W: Output, F: Output>(alloc: Global, error: &Error, writer: &mut W, fa
 ///
 /// With the option for a race the script is read to its end first, and workers race over it: their threads are those of
 /// `rt`. Memory goes to the bucket, to one line, and to 64 KiB and one answer.
-pub fn program<T: Threads + Wait + Sync, R: Input, W: Output, F: Output>(
-    rt: &T,
-    alloc: Global,
-    words: &[String],
-    reader: &mut R,
-    writer: &mut W,
-    faults: &mut F,
-) -> u8
+///
+/// With the option for a journal the bucket is that of a file of the system, which [`run_durable`](kv_durable_script::run_durable)
+/// keeps in step with the answers, and with the option for a dump the script of such a file is written.
+pub fn program<
+    T: Threads + Wait + Sync + Files<File = File> + RandomSource,
+    R: Input,
+    W: Output,
+    F: Output,
+>(rt: &T, alloc: Global, words: &[String], reader: &mut R, writer: &mut W, faults: &mut F) -> u8
     ensures status { result ≤ 2 }
     // All was read, and its text under the configuration of the words, which is legal, was written; or the words ask
     // for a text, which was written. Nothing is told of faults.
-    ensures done { result ≡ 0 → (faults.new ≡ faults.old)
+    ensures done { AreInMemory (map string_bytes words.now) → result ≡ 0 → (faults.new ≡ faults.old)
         × (IsRun (faults_of (map string_bytes words.now)) (form_of (map string_bytes words.now))
         (race_of (map string_bytes words.now))
         (config_of (map string_bytes words.now))
@@ -143,7 +148,7 @@ pub fn program<T: Threads + Wait + Sync, R: Input, W: Output, F: Output>(
         ⊎ (IsShown (faults_of (map string_bytes words.now)) (W.held writer.old) (W.held writer.new)
         × (reader.new ≡ reader.old))) }
     // The run ended by a refusal, which is told unless `faults` failed, and what it says of the bytes holds.
-    ensures stopped { result ≡ 1 → (error : KvError) ×
+    ensures stopped { AreInMemory (map string_bytes words.now) → result ≡ 1 → (error : KvError) ×
         ((Appends (F.held faults.old) (F.held faults.new) (fault_text error) ⊎ F.failed_between faults.old faults.new)
         × EndsBy (faults_of (map string_bytes words.now)) (form_of (map string_bytes words.now))
         (race_of (map string_bytes words.now))
@@ -153,14 +158,26 @@ pub fn program<T: Threads + Wait + Sync, R: Input, W: Output, F: Output>(
         (W.failed_between writer.old writer.new) error) }
     // The words are wrong, or the configuration that they ask for is refused, which is told; then nothing was read or
     // written. So where the words are fine and the configuration is legal, the status is 0 or 1.
-    ensures refused { result ≡ 2 → ((reader.new ≡ reader.old) × (writer.new ≡ writer.old))
+    ensures refused { AreInMemory (map string_bytes words.now) → result ≡ 2 → ((reader.new ≡ reader.old) × (writer.new ≡ writer.old))
         × (AreWrong (faults_of (map string_bytes words.now)) ⊎ ((error : KvError) ×
         (IsRefusedBy (faults_of (map string_bytes words.now)) (race_of (map string_bytes words.now))
         (config_of (map string_bytes words.now)) error
         × (Appends (F.held faults.old) (F.held faults.new) (fault_text error)
         ⊎ F.failed_between faults.old faults.new)))) }
+    // Words that name a journal: all was read, and its text on a bucket of some acts was written, or the status is not 0.
+    ensures kept { result ≡ 0 → faults_of (map string_bytes words.now) ≡ [] → (path : List ℕ) →
+        (wanted_of (map string_bytes words.now)).journal ≡ Some path →
+        IsRunOn (form_of (map string_bytes words.now)) (config_of (map string_bytes words.now))
+        (R.left reader.old) (R.left reader.new) (W.held writer.old) (W.held writer.new) }
+    // And those that ask for a dump: the commands of entries were written.
+    ensures dumped { result ≡ 0 → faults_of (map string_bytes words.now) ≡ [] → (path : List ℕ) →
+        (wanted_of (map string_bytes words.now)).journal ≡ None → (wanted_of (map string_bytes words.now)).dump ≡ Some path →
+        IsDumped (config_of (map string_bytes words.now)) (W.held writer.old) (W.held writer.new) }
 {
     match Arguments::parse(alloc, words) {
+        Ok(arguments) if !arguments.is_in_memory() => {
+            with_file(rt, alloc, &arguments, reader, writer, faults)
+        }
         Ok(arguments) => match run(rt, alloc, &arguments, reader, writer) {
             Ok(()) => 0,
             Err(error) => fail(error, faults),

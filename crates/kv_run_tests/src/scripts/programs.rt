@@ -1,6 +1,8 @@
 //! The program: its arguments, its status and what it tells of faults. What it answers to scripts stands in tests/scripts.
 
 use super::*;
+use std::fs::{File, Files};
+use std::random::RandomSource;
 use std::sync::Wait;
 use std::thread::Threads;
 
@@ -25,7 +27,7 @@ struct Done {
     faults: Vec<u8>,
 }
 
-fn run_once<T: Threads + Wait + Sync>(
+fn run_once<T: Threads + Wait + Sync + Files<File = File> + RandomSource>(
     rt: &T,
     alloc: Global,
     words: &[String],
@@ -65,7 +67,7 @@ fn has_lack(done: &Done) -> bool {
 }
 
 // Runs the program, and runs it again where it lacked memory.
-fn run<T: Threads + Wait + Sync>(
+fn run<T: Threads + Wait + Sync + Files<File = File> + RandomSource>(
     rt: &T,
     alloc: Global,
     arguments: &[&str],
@@ -81,7 +83,7 @@ fn run<T: Threads + Wait + Sync>(
 }
 
 // Whether the program writes this text and answers 0.
-fn gives<T: Threads + Wait + Sync>(
+fn gives<T: Threads + Wait + Sync + Files<File = File> + RandomSource>(
     rt: &T,
     alloc: Global,
     arguments: &[&str],

@@ -1,7 +1,7 @@
 use Rattle.std.proofs.Common.{◌≡◌, codes, ap, ap₂, ◌∙◌}
 use Rattle.std.proofs.lemmas.Result.{IfOk-weaker}
 use Rattle.clap.specs.Simple.{app_of, app_of_fields, new_app, with_rule}
-use Rattle.kv_run.specs.Arguments.{versioned, with_limits}
+use Rattle.kv_run.specs.Arguments.{versioned, with_files, with_limits}
 use Rattle.kv_run.proofs.arguments.command.Goals as goal
 
 pub returns : goal.returns
@@ -11,4 +11,5 @@ returns c =
     let named = c.in_ok-named.ensures.shape c.text.ensures.local ∙ ap₂ with_rule versioned c.text.ensures.rule in
     let limited = c.in_ok-with_limits.ensures ∙ ap with_limits named in
     let raced = c.in_ok-arg.ensures.shape c.race.ensures.local ∙ ap₂ with_rule limited c.race.ensures.rule in
-    IfOk-weaker c.arg-3.result _ _ (λ made adds. adds.shape c.form.ensures.local ∙ ap₂ with_rule raced c.form.ensures.rule) c.arg-3.ensures
+    let formed = c.in_ok-raced.ensures.shape c.form.ensures.local ∙ ap₂ with_rule raced c.form.ensures.rule in
+    IfOk-weaker c.with_files.result _ _ (λ made is. is ∙ ap with_files formed) c.with_files.ensures

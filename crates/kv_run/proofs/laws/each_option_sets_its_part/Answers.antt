@@ -29,3 +29,15 @@ returns-clause-race c = λ program value. refl
 pub returns-clause-text : goal.returns-clause-text
 unfolding clap_on_literals
 returns-clause-text c = λ program. refl
+
+pub returns-clause-journal : goal.returns-clause-journal
+unfolding clap_on_literals
+returns-clause-journal c = λ program value. refl
+
+pub returns-clause-sync : goal.returns-clause-sync
+unfolding clap_on_literals
+returns-clause-sync c = λ program value. refl
+
+pub returns-clause-dump : goal.returns-clause-dump
+unfolding clap_on_literals
+returns-clause-dump c = λ program value. refl

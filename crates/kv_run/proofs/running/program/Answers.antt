@@ -1,12 +1,12 @@
-use Rattle.std.proofs.Common.{◌≡◌, sym, subst, map, string_bytes, inr, ◌∙◌}
-use Rattle.kv_run.specs.Arguments.{Wanted, faults_of}
+use Rattle.std.proofs.Common.{◌≡◌, ap, refl, sym, subst, map, string_bytes, inl, inr, ◌∙◌}
+use Rattle.kv_run.specs.Arguments.{Wanted, faults_of, wanted_of}
 use Rattle.kv_run.specs.Programs.{IsRefusedBy, status_of}
-use Rattle.kv_run.proofs.Programs.{refused_by}
+use Rattle.kv_run.proofs.Programs.{ends_as_wanted, refused_by}
 use Rattle.kv_run.proofs.Statuses.{status_two}
 use Rattle.kv_run.proofs.running.program.Goals as goal
 
 pub returns-in-Err-run-clause-refused : goal.returns-in-Err-run-clause-refused
-returns-in-Err-run-clause-refused g c = λ two.
+returns-in-Err-run-clause-refused g c = λ in_memory two.
     let error = c.in-Err-run.error in
     let wanted = c.in-Ok.arguments in
     let kinds = faults_of (map string_bytes c.args.words.now) in
@@ -14,4 +14,31 @@ returns-in-Err-run-clause-refused g c = λ two.
     let refused = refused_by kinds wanted.form wanted.race wanted.config _ _ _ _ error _ c.in-Err-run.ensures.ran c.in-Ok.ensures.0 status in (
       c.in-Err-run.ensures.refused (status_two error status),
       inr (error, (subst (λ (same : Wanted). IsRefusedBy kinds same.race same.config error) c.in-Ok.ensures.1 refused, c.fail.ensures.told)),
+    )
+
+pub returns-in-Err-run-clause-stopped : goal.returns-in-Err-run-clause-stopped
+returns-in-Err-run-clause-stopped g c = λ in_memory one.
+    let error = c.in-Err-run.error in
+    let wanted = c.in-Ok.arguments in
+    let kinds = faults_of (map string_bytes c.args.words.now) in
+    let ran = c.in-Err-run.ensures in (
+      error,
+      (
+        c.fail.ensures.told,
+        ends_as_wanted kinds wanted (wanted_of (map string_bytes c.args.words.now)) _ _ _ _ error _ _ _ c.in-Ok.ensures.1 ran.ran c.in-Ok.ensures.0
+            (λ same. (ap g.R.Input.left same.0, ap g.W.Output.held same.1)) ran.read_fault ran.write_fault (sym c.fail.ensures.status ∙ one),
+      ),
+    )
+
+pub returns-in-Err-clause-stopped : goal.returns-in-Err-clause-stopped
+returns-in-Err-clause-stopped g c = λ in_memory one.
+    let ended = c.refuse.ensures.stopped one (faults_of (map string_bytes c.args.words.now)) c.in-Err.ensures in (
+      ended.0,
+      (
+        ended.1.0,
+        elim ended.1.1 [
+          | inl shown ↦ inr (inl shown)
+          | inr none ↦ inr (inr (none.0, (refl, ap g.W.Output.held none.1)))
+        ],
+      ),
     )

@@ -1,13 +1,15 @@
-use Rattle.std.proofs.Common.{◌≡◌, List, ap, sym, map, ◌∙◌, codes, string_bytes}
+use Rattle.std.proofs.Common.{◌≡◌, List, ap, sym, subst, map, option_map, ◌∙◌, codes, string_bytes}
+use Rattle.std.proofs.lemmas.Result.{err_from_is_err_and}
 use Rattle.std.specs.Option.{unwrap_or}
 use Rattle.std.specs.contracts.prelude.U64FromStr.TheImpl as reader
 use Rattle.std.specs.contracts.prelude.BoolFromStr.TheImpl as flag_reader
 use Rattle.clap.specs.Faults.{fault_of, is_simple_and_free}
+use Rattle.clap.specs.Kinds.{HasKind}
 use Rattle.clap.specs.Matches.{found_of, one_text}
 use Rattle.clap.specs.Simple.{is_simple, matches_of}
 use Rattle.clap.specs.Walk.{Row, Text, rows_of, first_of, one_of}
 use Rattle.clap.proofs.WalkLemmas.{first_value-rows, one_text-rows}
-use Rattle.kv_run.specs.Arguments.{form_asked, form_of, number_in, program_app, race_of, text_in}
+use Rattle.kv_run.specs.Arguments.{form_asked, form_of, number_in, program_app, race_of, text_in, word_of}
 use Rattle.kv_run.proofs.ArgumentOptions.{flag_given, number_found, program_is_free, program_is_simple, unwrap_text}
 use Rattle.kv_run.proofs.arguments.Arguments.parse.Goals as goal
 
@@ -35,11 +37,27 @@ returns c =
     (λ none. c.get_one.ensures.none (read (codes "race") ∙ none)) (λ text some. c.get_one.ensures.value text (read (codes "race") ∙ some)) (λ _ _ parsed. parsed.0) in
     let form : c.form_asked.result ≡ form_of words =
     c.form_asked.ensures ∙ ap form_asked (c.unwrap_or-2.ensures ∙ flag_given {gives = flag_reader.ghosts.from_str_gives} _ c.get_one-2.result
-    (λ none. c.get_one-2.ensures.none (read (codes "text") ∙ none)) (λ text some. c.get_one-2.ensures.value text (read (codes "text") ∙ some)) (λ _ _ parsed. parsed)) in (
+    (λ none. c.get_one-2.ensures.none (read (codes "text") ∙ none)) (λ text some. c.get_one-2.ensures.value text (read (codes "text") ∙ some)) (λ _ _ parsed. parsed)) in
+    let journal : option_map (λ s. s.now) c.get_str-2.result ≡ word_of (codes "journal") words =
+    c.get_str-2.ensures ∙ first_value-rows found (codes "journal") ∙ ap (first_of (codes "journal")) rows in
+    let sync : option_map (λ s. s.now) c.get_str-3.result ≡ word_of (codes "sync") words =
+    c.get_str-3.ensures ∙ first_value-rows found (codes "sync") ∙ ap (first_of (codes "sync")) rows in
+    let dump : option_map (λ s. s.now) c.get_str-4.result ≡ word_of (codes "dump") words =
+    c.get_str-4.ensures ∙ first_value-rows found (codes "dump") ∙ ap (first_of (codes "dump")) rows in (
       ap (λ a. fault_of a words) (sym app) ∙ c.in_ok-matches.ensures.kinds (ap is_simple_and_free app ∙ program_is_free),
       λ i. record {
         config = record { bucket = bucket i; history = history i; value_limit = value_limit i; write_limit = write_limit i; revision_limit = revision_limit i };
         race = race i;
         form = form i;
+        journal = journal i;
+        sync = sync i;
+        dump = dump i;
       },
     )
+
+pub returns-in_err-matches : goal.returns-in_err-matches
+returns-in_err-matches c =
+    let words = map string_bytes c.args.words.now in
+    let app = c.in_ok-command.ensures in
+    let kept = err_from_is_err_and c.from_residual-in_err-matches.result c.from_residual-in_err-matches.ensures.1 in
+    rw (kept.1, kept.2) (subst (λ a. HasKind (fault_of a words) c.in_err-matches.field-0.0) app (c.in_err-matches.ensures.kinds (ap is_simple_and_free app ∙ program_is_free)))
