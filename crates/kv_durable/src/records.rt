@@ -16,11 +16,7 @@ use std::alloc::{AllocError, Global};
 
 impl<F: JournalFile> Journal<F> {
     /// The frame of an accepted request that is added next.
-    pub fn frame_of_write(
-        &self,
-        alloc: Global,
-        request: &Request,
-    ) -> Result<Vec<u8>, AllocError>
+    pub fn frame_of_write(&self, alloc: Global, request: &Request) -> Result<Vec<u8>, AllocError>
         requires { length (value_of (asked request.now)) < 2 ^ 31 }
         ensures is { IfOk result (λ v. (revision : ℕ) →
             IsFrameOf self.now (did (Wrote (write_for (asked request.now) revision))) v.items) }
@@ -31,11 +27,7 @@ impl<F: JournalFile> Journal<F> {
     }
 
     /// The frame of a batch of accepted requests that is added next.
-    pub fn frame_of_batch(
-        &self,
-        alloc: Global,
-        requests: &[Request],
-    ) -> Result<Vec<u8>, AllocError>
+    pub fn frame_of_batch(&self, alloc: Global, requests: &[Request]) -> Result<Vec<u8>, AllocError>
         ensures is { IfOk result (λ v. (acts : List Act) → act_records acts ≡ asked_records (map asked requests.now) →
             IsFrameOf self.now (did_all acts) v.items) }
         ensures short { IfOk result (λ v. length v.items < 2 ^ 33) }
@@ -54,11 +46,7 @@ impl<F: JournalFile> Journal<F> {
     }
 
     /// The frame of a compaction that is added next.
-    pub fn frame_of_compaction(
-        &self,
-        alloc: Global,
-        floor: u64,
-    ) -> Result<Vec<u8>, AllocError>
+    pub fn frame_of_compaction(&self, alloc: Global, floor: u64) -> Result<Vec<u8>, AllocError>
         ensures is { IfOk result (λ v. IsFrameOf self.now (did (Compact floor)) v.items) }
         ensures short { IfOk result (λ v. length v.items < 2 ^ 33) }
     {
