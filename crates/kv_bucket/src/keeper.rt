@@ -21,7 +21,7 @@ ghost use Rattle.kv_bucket.specs.Keeping.{ComesNext, IsAt, IsSomewhere, IsKeptSt
 ghost use Rattle.kv_model.specs.State.{State, answer_to, may_compact, next_number};
 
 use crate::feed::Feed;
-use crate::prepared::{Prepared, written};
+use crate::prepared::Prepared;
 use crate::publisher::Publisher;
 use crate::reader::Reader;
 use crate::receipt::{Mark, Receipt};
@@ -104,7 +104,7 @@ impl<N: LiveName> Keeper<N> {
             publisher: _,
             ring,
         } = self;
-        let made = written(ring, bucket.version(), bucket.alloc(), request)?;
+        let made = Ring::with_write(ring, bucket.version(), bucket.alloc(), request)?;
         let revision = made.version().revision();
         Prepared::new(GhostAct::wrote(request, revision), made)
     }

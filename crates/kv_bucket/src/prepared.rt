@@ -1,18 +1,11 @@
 //! What is made and not published yet: all that can be refused is done.
 
-ghost use Rattle.std.specs.Prelude.{◌≡◌, ◌++◌, ◌∷◌, ◌⊎◌, [], IfErr, IfOk, IfSome, List, None, Ok};
-ghost use Rattle.kv_keys.specs.Outcome.{Refuses};
+ghost use Rattle.std.specs.Prelude.{◌≡◌, IfErr, IfOk};
 ghost use Rattle.kv_keys.specs.declared.error.KvError.TheVariants.{OutOfMemory};
-ghost use Rattle.kv_model.specs.Acceptance.{accept};
-ghost use Rattle.kv_model.specs.Acts.{Act, Wrote, Write as AWrite};
-ghost use Rattle.kv_model.specs.Requests.{asked};
-ghost use Rattle.kv_store.specs.Standing.{StandsFor};
 
 use kv_keys::KvError;
-use kv_model::Request;
 use kv_publish::GhostAct;
 use kv_store::{Ring, Version};
-use std::alloc::Global;
 use std::marker::Model;
 
 /// An act that is made and not published yet, by `Keeper::next`, `next_seal` or `next_compaction`. All that can be refused
@@ -138,36 +131,5 @@ impl PreparedBatch {
             ring,
         } = self;
         (first, own, shown, ring)
-    }
-}
-
-/// Makes a write behind a version, in the ring that is like it, and hands out the ring with the write. Where there is no ring,
-/// as behind an act that was made and let go, one begins with the version behind the write. Where the write is refused the ring
-/// stays.
-pub(crate) fn written(
-    ring: &mut Option<Ring>,
-    version: &Version,
-    alloc: Global,
-    request: &Request,
-) -> Result<Ring, KvError>
-    requires alike { IfSome ring.old (λ r. (r.config ≡ version.now.config)
-        × ((acts : List Act) → StandsFor acts version.now → StandsFor acts r)) }
-    ensures config { IfOk result (λ made. made.config ≡ version.now.config) }
-    ensures ok { IfOk result (λ made. (acts : List Act) → StandsFor acts version.now →
-        (w : AWrite)
-        × ((accept version.now.config (asked request.now) acts ≡ Ok w) × StandsFor (acts ++ Wrote w ∷ []) made)) }
-    ensures refused { IfErr result (λ e. (acts : List Act) → StandsFor acts version.now →
-        Refuses e (accept version.now.config (asked request.now) acts)) }
-    ensures left { (ring.new ≡ None) ⊎ (ring.new ≡ ring.old) }
-{
-    let Some(mut made) = ring.take() else {
-        return Ok(Ring::new(version.apply(alloc, request)?));
-    };
-    match made.write(alloc, request) {
-        Ok(()) => Ok(made),
-        Err(refusal) => {
-            *ring = Some(made);
-            Err(refusal)
-        }
     }
 }

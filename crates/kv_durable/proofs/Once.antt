@@ -1,17 +1,11 @@
 -- Entries that can be added to a file are told apart by their payloads.
-use Rattle.std.proofs.Common.{◌≡◌, ℕ, ◌^◌, ◌<◌, ◌≤◌, Bool, true, false, cond, List, [], ◌∷◌, ◌++◌, length, get_or, take, drop, append-nil, append_assoc, Err, Ok, refl, sym, ap, ◌∙◌, subst, arith, length-append}
-use Rattle.std.specs.Prelude.{nat_lt, nat_le, ◌&&◌, Result}
-use Rattle.std.proofs.lemmas.Bool.{or_parts, and_parts, leb-true, leb-false}
+use Rattle.std.proofs.Common.{◌≡◌, ℕ, ◌^◌, ◌<◌, List, [], ◌∷◌, ◌++◌, length, get_or, take, drop, append-nil, append_assoc, refl, sym, ap, ◌∙◌, subst, arith}
 use Rattle.kv_frames.proofs.Fronts.{same_number as same_length}
-use Rattle.kv_keys.specs.declared.error.KvError.TheVariants.{ValueTooLarge, Sealed, JournalFull}
-use Rattle.kv_model.specs.Acceptance.{accept, objection, next_write, unless, is_full, IsAccepted, IsLawful, LawfulFrom}
-use Rattle.kv_model.specs.Acts.{Act, Wrote, Seal, Compact, Write, writes_of, is_sealed}
-use Rattle.kv_model.specs.Compaction.{stored_writes}
+use Rattle.kv_model.specs.Acceptance.{IsAccepted, IsLawful, LawfulFrom}
+use Rattle.kv_model.specs.Acts.{Act, Wrote, Seal, Compact, Write, writes_of}
 use Rattle.kv_model.specs.Configuration.{Configuration, IsLegal}
-use Rattle.kv_model.specs.Requests.{Asked, value_of}
 use Rattle.kv_model.specs.declared.write.Op.{Op}
-use Rattle.kv_model.proofs.Numbered.{writes_of-wrote, writes_of-seal, writes_of-compact}
-use Rattle.kv_model.proofs.Storing.{lawful_by, next_revision, good_floor}
+use Rattle.kv_model.proofs.Storing.{next_revision, good_floor}
 use Rattle.kv_store.proofs.Standings.{lawful-push}
 use Rattle.kv_journal.specs.Records.{Content, did, did_all, closed, act_record, act_records, kind_of, record_of}
 use Rattle.kv_journal.specs.Entries.{Entry, payload_of, payloads_of, acts_in, IsLawfulContent, IsLawfulEntry, AreLawful}

@@ -19,6 +19,7 @@ ghost use Rattle.kv_durable.specs.declared.error.DurableError.TheVariants.{FileF
 use crate::acceptance::Prepared;
 use crate::durable::Durable;
 use crate::error::DurableError;
+use crate::ringed::Next;
 use kv_file::JournalFile;
 
 impl<F: JournalFile> Durable<F> {
@@ -34,8 +35,10 @@ impl<F: JournalFile> Durable<F> {
         ensures no_other { IfErr result IsRefusal }
     {
         self.journal.may_add()?;
-        let next = self.bucket.version().seal(self.bucket.alloc())?;
-        let frames = self.journal.frame_of_seal(self.bucket.alloc())?;
+        let bucket = self.bucket.single();
+        let made = bucket.version().seal(bucket.alloc())?;
+        let frames = self.journal.frame_of_seal(bucket.alloc())?;
+        let next = Next::apart(made);
         Ok(Prepared { next, frames })
     }
 
@@ -54,11 +57,11 @@ impl<F: JournalFile> Durable<F> {
         ensures no_other { IfErr result IsRefusal }
     {
         self.journal.may_add()?;
-        self.bucket.may_compact(floor)?;
-        let next = self.bucket.version().compact(self.bucket.alloc(), floor)?;
-        let frames = self
-            .journal
-            .frame_of_compaction(self.bucket.alloc(), floor)?;
+        let bucket = self.bucket.single();
+        bucket.may_compact(floor)?;
+        let made = bucket.version().compact(bucket.alloc(), floor)?;
+        let frames = self.journal.frame_of_compaction(bucket.alloc(), floor)?;
+        let next = Next::apart(made);
         Ok(Prepared { next, frames })
     }
 

@@ -12,6 +12,7 @@ pub mod laws;
 mod open;
 mod records;
 mod recovery;
+mod ringed;
 mod watch;
 mod write;
 

@@ -221,7 +221,7 @@ fn opened_of<F: JournalFile>(file: F, found: Found, sync: Sync) -> Opened<F>
     } = found;
     let journal = Journal::new(file, framing, place, sync);
     Opened {
-        durable: Durable { bucket, journal },
+        durable: Durable::from_parts(bucket, journal),
         dropped,
     }
 }

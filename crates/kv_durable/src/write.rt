@@ -20,47 +20,50 @@ ghost use Rattle.kv_durable.specs.declared.error.DurableError.TheVariants.{FileF
 use crate::acceptance::Prepared;
 use crate::durable::Durable;
 use crate::error::DurableError;
+use crate::ringed::{Next, Ringed};
 use kv_file::JournalFile;
 use kv_keys::KvError;
 use kv_model::Request;
-use kv_single::Bucket;
-use kv_store::Version;
 
 // No bucket takes a longer value.
 const MOST_VALUE: usize = 1_048_576;
 
 // The version with one write more, made apart. What no bucket takes is refused first, as the rules do.
-fn next_of(bucket: &Bucket, request: &Request) -> Result<Version, KvError>
-    ensures config { IfOk result (λ next. next.config ≡ bucket.now.version.config) }
-    ensures ok { IfOk result (λ next. Accepts bucket.now request.now next) }
+fn next_of(bucket: &mut Ringed, request: &Request) -> Result<Next, KvError>
+    ensures config { IfOk result (λ next. next.config ≡ bucket.old.version.config) }
+    ensures ok { IfOk result (λ next. Accepts bucket.old request.now next) }
     ensures short { OnOk result (length (value_of (asked request.now)) ≤ 1048576) }
-    ensures refused { IfErr result (λ e. (state : State) → Represents state bucket.now →
+    ensures refused { IfErr result (λ e. (state : State) → Represents state bucket.old →
         Refuses e (accept state.config (asked request.now) state.acts)) }
+    ensures same { bucket.new ≡ bucket.old }
 {
     if request.value().len() > MOST_VALUE {
         return Err(KvError::ValueTooLarge);
     }
-    bucket.version().apply(bucket.alloc(), request)
+    bucket.next(request)
 }
 
 impl<F: JournalFile> Durable<F> {
     // The next version, and the frame of the write that leads to it.
-    fn prepared_write(&self, request: &Request) -> Result<Prepared, DurableError>
-        ensures goes { OnOk result (is_stopped F.usable self.now.journal ≡ false) }
-        ensures config { IfOk result (λ p. p.next.config ≡ self.now.bucket.version.config) }
-        ensures accepts { IfOk result (λ p. Accepts self.now.bucket request.now p.next) }
+    fn prepared_write(&mut self, request: &Request) -> Result<Prepared, DurableError>
+        ensures goes { OnOk result (is_stopped F.usable self.old.journal ≡ false) }
+        ensures config { IfOk result (λ p. p.next.config ≡ self.old.bucket.version.config) }
+        ensures accepts { IfOk result (λ p. Accepts self.old.bucket request.now p.next) }
         ensures frame { IfOk result (λ p. (revision : ℕ) →
-            IsFrameOf self.now.journal (did (Wrote (write_for (asked request.now) revision))) p.frames.items) }
+            IsFrameOf self.old.journal (did (Wrote (write_for (asked request.now) revision))) p.frames.items) }
         ensures short { IfOk result (λ p. length p.frames.items < 2 ^ 33) }
         ensures refused { IfErr result (λ e. (x : AnError) → e ≡ Refused x → (state : State) →
-            Represents state self.now.bucket → Refuses x (accept state.config (asked request.now) state.acts)) }
-        ensures fault { IsErrOf result FileFault → is_stopped F.usable self.now.journal ≡ true }
-        ensures stopped { is_stopped F.usable self.now.journal ≡ true → result ≡ Err FileFault }
+            Represents state self.old.bucket → Refuses x (accept state.config (asked request.now) state.acts)) }
+        ensures fault { IsErrOf result FileFault → is_stopped F.usable self.old.journal ≡ true }
+        ensures stopped { is_stopped F.usable self.old.journal ≡ true → result ≡ Err FileFault }
         ensures no_other { IfErr result IsRefusal }
+        ensures same { self.new ≡ self.old }
     {
         self.journal.may_add()?;
-        let next = next_of(&self.bucket, request)?;
-        let frames = self.journal.frame_of_write(self.bucket.alloc(), request)?;
+        let next = next_of(&mut self.bucket, request)?;
+        let frames = self
+            .journal
+            .frame_of_write(self.bucket.single().alloc(), request)?;
         Ok(Prepared { next, frames })
     }
 
@@ -88,7 +91,7 @@ impl<F: JournalFile> Durable<F> {
             × (self.new.journal.appender.sync ≡ self.old.journal.appender.sync) }
     {
         let prepared = self.prepared_write(request)?;
-        let revision = prepared.next.revision();
+        let revision = prepared.next.version().revision();
         self.keep(prepared)?;
         Ok(revision)
     }

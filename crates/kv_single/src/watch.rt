@@ -45,6 +45,7 @@ impl Bucket {
         ensures refused { IfErr result
             (λ e. (state : State) → Represents state self.old → Refuses e (next_number state)) }
         ensures unchanged { OnErr result (self.new ≡ self.old) }
+        ensures version { self.new.version ≡ self.old.version }
     {
         if !self.has_room() {
             return Err(KvError::TooManyWatches);
@@ -93,7 +94,8 @@ impl Bucket {
     /// first, and want of memory loses no item. Where there is none, or no watch of the number is open, nothing is handed
     /// out.
     pub fn pass(&mut self, number: u64)
-        ensures { (state : State) → Represents state self.old → Represents (after state (Take number)) self.new }
+        ensures step { (state : State) → Represents state self.old → Represents (after state (Take number)) self.new }
+        ensures version { self.new.version ≡ self.old.version }
     {
         if let Some(index) = index_of(&self.watches, number) {
             let held = &mut self.watches[index];
@@ -106,6 +108,7 @@ impl Bucket {
         ensures ok { IfOk result (λ stopped. IsStep self.old (Stop number) (Ended stopped.handed) self.new) }
         ensures refused { IfErr result (λ e. (e ≡ NoSuchWatch) × IsStep self.old (Stop number) (Refused e) self.new) }
         ensures unchanged { OnErr result (self.new ≡ self.old) }
+        ensures version { self.new.version ≡ self.old.version }
     {
         let Some(index) = index_of(&self.watches, number) else {
             return Err(KvError::NoSuchWatch);

@@ -1,4 +1,5 @@
 pub mod Asked
+pub mod Rings
 pub mod Batches
 pub mod Places
 pub mod PuttingBack

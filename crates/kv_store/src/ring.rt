@@ -1,12 +1,13 @@
 //! A version and the two before it, of which the oldest becomes the next by the writes that it lacks.
 
-ghost use Rattle.std.specs.Prelude.{◌≡◌, ◌∷◌, ◌++◌, if◌then◌else◌, ◌<◌, ◌^◌, List, [], true, false, Ok, Err, IfErr, IfOk, IfSome, OnErr, OnOk};
+ghost use Rattle.std.specs.Prelude.{◌≡◌, ◌∷◌, ◌++◌, ◌⊎◌, if◌then◌else◌, ◌<◌, ◌^◌, List, [], true, false, None, Ok, Err, IfErr, IfOk, IfSome, OnErr, OnOk};
 ghost use Rattle.kv_keys.specs.Outcome.{Refuses};
 ghost use Rattle.kv_keys.specs.declared.error.KvError.TheVariants.{BadFloor, OutOfMemory};
 ghost use Rattle.kv_model.specs.Acceptance.{accept};
 ghost use Rattle.kv_model.specs.Acts.{Act, Wrote, Seal, Compact, Write as AWrite};
 ghost use Rattle.kv_model.specs.Compaction.{is_bad_floor};
 ghost use Rattle.kv_model.specs.Requests.{asked};
+ghost use Rattle.kv_store.specs.Rings.{StandsAlike};
 ghost use Rattle.kv_store.specs.Standing.{StandsFor};
 ghost use Rattle.kv_store.specs.inside.Following.{IsAlike, IsMadeOf, LeadsTo};
 ghost use Rattle.kv_store.specs.inside.Next.{HasOneMore};
@@ -226,6 +227,36 @@ impl Ring {
         let next = self.next(alloc, request)?;
         self.go_on_to(next);
         Ok(())
+    }
+
+    /// Makes a write behind a version, in the ring that is like it, and hands out the ring with the write. Where there is no
+    /// ring, as behind a write that was made and let go, one begins with the version behind the write. Where the write is
+    /// refused the ring stays.
+    pub fn with_write(
+        ring: &mut Option<Ring>,
+        version: &Version,
+        alloc: Global,
+        request: &Request,
+    ) -> Result<Ring, KvError>
+        requires alike { IfSome ring.old (StandsAlike version.now) }
+        ensures config { IfOk result (λ made. made.config ≡ version.now.config) }
+        ensures ok { IfOk result (λ made. (acts : List Act) → StandsFor acts version.now →
+            (w : AWrite)
+            × ((accept version.now.config (asked request.now) acts ≡ Ok w) × StandsFor (acts ++ Wrote w ∷ []) made)) }
+        ensures refused { IfErr result (λ e. (acts : List Act) → StandsFor acts version.now →
+            Refuses e (accept version.now.config (asked request.now) acts)) }
+        ensures left { (ring.new ≡ None) ⊎ (ring.new ≡ ring.old) }
+    {
+        let Some(mut made) = ring.take() else {
+            return Ok(Ring::new(version.apply(alloc, request)?));
+        };
+        match made.write(alloc, request) {
+            Ok(()) => Ok(made),
+            Err(refusal) => {
+                *ring = Some(made);
+                Err(refusal)
+            }
+        }
     }
 
     /// Seals its version, as `Version::seal` does, and lets go of those before it.

@@ -6,13 +6,13 @@ use Rattle.kv_single.proofs.Answering.{pass_none, moved_on}
 use Rattle.kv_model.proofs.Finds.{found_there}
 use Rattle.kv_single.proofs.bucket.Bucket.pass.Goals as goal
 
-pub returns-in_default : goal.returns-in_default
-returns-in_default c = rw (← c.self.view_is) (λ state r.
+pub returns-in_default-clause-step : goal.returns-in_default-clause-step
+returns-in_default-clause-step c = rw (← c.self.view_is) (λ state r.
     let none : position (has_number c.args.number) c.self.inside.watches.items ≡ None = sym (rw c.deref.ensures.value at c.in_default.ensures) in
     pass_none state _ c.args.number none r)
 
-pub returns-in-Some : goal.returns-in-Some
-returns-in-Some c = rw (← c.self.view_is) (λ state r.
+pub returns-in-Some-clause-step : goal.returns-in-Some-clause-step
+returns-in-Some-clause-step c = rw (← c.self.view_is) (λ state r.
     let watches = c.self.inside.watches.items in
     let place = c.in-Some.index in
     let now : Bucketed = record { version = c.self.inside.version; watches = watches; opened = c.self.inside.opened } in
