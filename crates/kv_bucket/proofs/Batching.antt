@@ -16,7 +16,9 @@ use Rattle.kv_model.specs.declared.call.Call.TheVariants as calls
 use Rattle.kv_model.specs.declared.request.Request.{Request}
 use Rattle.kv_model.proofs.Batching.{accept_take, after_none, as_many, batch_runs, memory_at, none_stays, refused_at, rest_of, split_ok}
 use Rattle.kv_model.proofs.Numbered.{accepted_is_next, writes_of-wrote}
+use Rattle.kv_publish.specs.Openings.{Opening}
 use Rattle.kv_publish.specs.Steps.{acts_from}
+use Rattle.kv_publish.proofs.Prefixes.{prefix_trans}
 use Rattle.kv_store.specs.Batches.{Leaves, LeavesEach}
 use Rattle.kv_store.specs.Standing.{StandsFor}
 use Rattle.kv_store.specs.Stored.{Stored}
@@ -43,11 +45,12 @@ split_prefix {A} (x ∷ xs) (y ∷ ys) zs p =
     (split_prefix xs ys zs (p.0, cc (p.1)))
 
 -- several acts more need a version for each of their beginnings
-pub goes_on_by_all : (config : Configuration) (acts more : List Act) (version : Stored) → IsPublishedHistory config acts → version.config ≡ config → StandsFor (acts ++ more) version → HasBeginnings config acts more → IsPublishedHistory config (acts ++ more)
-goes_on_by_all config acts more version before same stands each = record {
-  lawful = lawful_under config (acts ++ more) version same stands;
-  versions = λ beginning p. ⊎_elim
-      (λ (q : IsPrefix beginning acts). before.versions beginning q)
+pub goes_on_by_all : (opening : Opening) (acts more : List Act) (version : Stored) → IsPublishedHistory opening acts → version.config ≡ opening.config → StandsFor (acts ++ more) version → HasBeginnings opening.config acts more → IsPublishedHistory opening (acts ++ more)
+goes_on_by_all opening acts more version before same stands each = record {
+  lawful = lawful_under opening.config (acts ++ more) version same stands;
+  begins = prefix_trans opening.book.began acts (acts ++ more) before.begins (more, refl);
+  versions = λ beginning from p. ⊎_elim
+      (λ (q : IsPrefix beginning acts). before.versions beginning from q)
       (λ (q : (part : List Act) × (IsPrefix part more × (beginning ≡ acts ++ part))).
       let there = each q.0 q.1.0 in (there.0, (there.1.0, subst (λ (l : List Act). StandsFor l there.0) (sym q.1.1) there.1.1)))
       (split_prefix beginning acts more p);

@@ -1,5 +1,6 @@
 pub mod Feeds
 pub mod Follow
+pub mod Former
 pub mod Keeping
 pub mod Numbers
 pub mod Going

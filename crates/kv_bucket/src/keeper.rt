@@ -65,7 +65,7 @@ impl<N: LiveName> Keeper<N> {
     pub(crate) fn is_somewhere(&self)
         ensures state { IsSomewhere N.opening.config self.now }
         ensures lawful { IsLawful N.opening.config self.now.published }
-        ensures history { IsPublishedHistory N.opening.config self.now.published }
+        ensures history { IsPublishedHistory N.opening self.now.published }
     {
         self.bucket();
         self.publisher.history();
@@ -76,7 +76,7 @@ impl<N: LiveName> Keeper<N> {
     pub fn bucket(&self) -> &Bucket
         ensures value { result.now ≡ self.now.bucket }
         ensures state { IsSomewhere N.opening.config self.now }
-        ensures history { IsPublishedHistory N.opening.config self.now.published }
+        ensures history { IsPublishedHistory N.opening self.now.published }
     {
         self.publisher.history();
         &self.bucket

@@ -1,16 +1,17 @@
 //! A bucket that threads share: writers take one lock, readers none.
 
-ghost use Rattle.std.specs.Prelude.{◌≡◌, List, [], Ok, IfErr, IfOk, OnOk, All, length};
+ghost use Rattle.std.specs.Prelude.{◌≡◌, List, [], Err, Ok, IfErr, IfOk, OnOk, All, length};
 ghost use Rattle.std.specs.Sync.Mutex.{mutex_guard_value};
 ghost use Rattle.kv_keys.specs.declared.error.KvError.TheVariants.{OutOfMemory, NoReader};
 ghost use Rattle.kv_keys.specs.Outcome.{Refuses};
 ghost use Rattle.kv_model.specs.Acceptance.{IsLawful};
 ghost use Rattle.kv_model.specs.Acts.{Act};
 ghost use Rattle.kv_model.specs.Requests.{asked};
-ghost use Rattle.kv_model.specs.State.{empty};
+ghost use Rattle.kv_publish.specs.Beginnings.{counted};
+ghost use Rattle.kv_store.specs.Standing.{StandsFor};
 ghost use Rattle.kv_bucket.specs.ReaderState.{IsUnread};
 ghost use Rattle.kv_bucket.specs.Histories.{IsPublishedHistory};
-ghost use Rattle.kv_bucket.specs.Keeping.{IsAt, IsSomewhere, PublishesWrite, WritesSomewhere, RefusedSomewhere, CompactsSomewhere, UncompactedSomewhere, may_open};
+ghost use Rattle.kv_bucket.specs.Keeping.{IsAt, IsSomewhere, PublishesWrite, Shows, state_of, WritesSomewhere, RefusedSomewhere, CompactsSomewhere, UncompactedSomewhere, may_open};
 
 use crate::keeper::Keeper;
 use crate::publisher::Publisher;
@@ -18,9 +19,9 @@ use crate::reader::Reader;
 use crate::receipt::Receipt;
 use kv_keys::KvError;
 use kv_model::{Config, Request};
-use kv_publish::{FreshJournal, LiveName, Notifier};
+use kv_publish::{Began, FreshJournal, LiveName, Notifier};
 use kv_single::Bucket;
-use kv_store::Ring;
+use kv_store::{Ring, Version};
 use std::alloc::Global;
 use std::marker::{Brand, Model};
 use std::sync::{Mutex, MutexGuard, Wait};
@@ -33,6 +34,8 @@ const MOST_READERS: usize = 32;
 pub struct Opened {
     alloc: Global,
     bucket: Bucket,
+    /// What readers begin on.
+    empty: Version,
     fresh: FreshJournal,
     readers: usize,
 }
@@ -43,6 +46,7 @@ impl Drop for Opened {
         let Self {
             alloc: _,
             bucket: _,
+            empty: _,
             fresh: _,
             readers: _,
         } = self;
@@ -50,10 +54,9 @@ impl Drop for Opened {
 }
 
 impl Model for Opened {
-    ghost use Rattle.std.specs.Prelude.{◌<◌, ◌≤◌};
+    ghost use Rattle.std.specs.Prelude.{◌<◌, ◌≤◌, []};
     ghost use Rattle.kv_single.specs.Held.{Represents};
-    ghost use Rattle.kv_bucket.specs.Keeping.{Unnamed};
-    ghost use Rattle.kv_model.specs.State.{empty};
+    ghost use Rattle.kv_bucket.specs.Keeping.{Shows, Unnamed, state_of};
 
     ghost Value = { Unnamed };
 
@@ -62,7 +65,8 @@ impl Model for Opened {
       readers = o.readers;
     } };
 
-    ghost invariant = { λ o. Represents (empty o.bucket.version.config) o.bucket × (0 < o.readers) × (o.readers ≤ 32) };
+    ghost invariant = { λ o. Represents (state_of o.bucket.version.config o.fresh.witness.book.began []) o.bucket
+        × Shows o.bucket.version.config [] o.empty × (0 < o.readers) × (o.readers ≤ 32) };
 }
 
 /// The bucket of the opening N. Threads share it by reference. It is not `Drop`: end it by `close`.
@@ -79,20 +83,70 @@ impl Live<Brand> {
         ensures ok { IfOk result
             (λ opened. (may_open config.now readers ≡ Ok config.now) × (opened.opening.config ≡ config.now)
             × (opened.readers ≡ readers)) }
+        ensures new { IfOk result (λ opened. opened.opening.book.began ≡ []) }
         ensures refused { IfErr result (λ e. Refuses e (may_open config.now readers)) }
     {
-        config.check()?;
-        if readers == 0 || readers > MOST_READERS {
-            return Err(KvError::NoReader);
-        }
+        check(config, readers)?;
         let bucket = Bucket::open(alloc, config)?;
+        let empty = bucket.version().snapshot()?;
         Ok(Opened {
             alloc,
             bucket,
+            empty,
             fresh: FreshJournal::new(),
             readers,
         })
     }
+
+    /// Opens a bucket that has acts, which this version stands for, for 1 to 32 readers: what is published begins with these
+    /// acts. It is for a layer that makes the version again from what it keeps.
+    pub fn open_from<B: Began>(
+        alloc: Global,
+        config: &Config,
+        version: Version,
+        readers: usize,
+    ) -> Result<Opened, KvError>
+        requires { Shows config.now B.acts version }
+        ensures ok { IfOk result
+            (λ opened. (may_open config.now readers ≡ Ok config.now) × (opened.opening.config ≡ config.now)
+            × (opened.readers ≡ readers)) }
+        ensures began { IfOk result (λ opened. opened.opening.book.began ≡ B.acts) }
+        ensures refused { IfErr result (λ e. Refuses e (may_open config.now readers)) }
+    {
+        check(config, readers)?;
+        let empty = Version::empty(alloc, config)?;
+        let fresh = FreshJournal::after::<B>(counted_in(&version));
+        Ok(Opened {
+            alloc,
+            bucket: Bucket::from_version(alloc, version),
+            empty,
+            fresh,
+            readers,
+        })
+    }
+}
+
+// What the acts count as that a version stands for: one, where there are any.
+fn counted_in(version: &Version) -> u64
+    ensures { (acts : List Act) → StandsFor acts version.now → result ≡ counted acts }
+{
+    if version.sealed() || version.revision() > 0 {
+        1
+    } else {
+        0
+    }
+}
+
+// Whether there is an opening of this configuration for so many readers.
+fn check(config: &Config, readers: usize) -> Result<(), KvError>
+    ensures ok { OnOk result (may_open config.now readers ≡ Ok config.now) }
+    ensures refused { IfErr result (λ e. may_open config.now readers ≡ Err e) }
+{
+    config.check()?;
+    if readers == 0 || readers > MOST_READERS {
+        return Err(KvError::NoReader);
+    }
+    Ok(())
 }
 
 fn readers_and_notifier<N: LiveName>(
@@ -129,28 +183,36 @@ fn with_readers<N: LiveName, R: Wait>(
 }
 
 impl Opened {
-    /// What lies under the lock of the bucket under a name: its keeper, at the state of no act and no watch, what tells its
-    /// readers, and these, which have seen nothing. It is for a layer that has a lock of its own. Where it is refused the
+    /// What lies under the lock of the bucket under a name: its keeper, at the state of the acts that it was opened with and no
+    /// watch, what tells its readers, and these, which have seen nothing and are told of these acts. It is for a layer that has a lock of its own. Where it is refused the
     /// opening ends.
     pub fn keeper<N: LiveName, R: Wait>(
         self,
         rt: &R,
     ) -> Result<(Keeper<N>, Notifier<N>, Vec<Reader<N>>), KvError>
         requires { self.opening ≡ N.opening }
-        ensures empty { IfOk result (λ r. IsAt (empty N.opening.config) r.0) }
+        ensures at { IfOk result (λ r. IsAt (state_of N.opening.config N.opening.book.began []) r.0) }
         ensures ok { IfOk result
             (λ r. (length r.2.items ≡ self.readers)
-            × All (λ reader. (reader.seen ≡ []) × (reader.told ≡ [])) r.2.items) }
+            × All (λ reader. (reader.seen ≡ []) × (reader.told ≡ N.opening.book.began)) r.2.items) }
         ensures err { IfErr result IsUnread }
     {
         let Opened {
             alloc,
             bucket,
+            empty,
             fresh,
             readers,
         } = self;
         let ring = Ring::new(bucket.version().snapshot()?);
-        let publisher: Publisher<N> = Publisher::new(rt, alloc, fresh, bucket.version(), readers)?;
+        let publisher: Publisher<N> = Publisher::new(
+            rt,
+            alloc,
+            fresh,
+            &empty,
+            bucket.version(),
+            readers,
+        )?;
         let keeper = Keeper {
             bucket,
             publisher,
@@ -159,12 +221,13 @@ impl Opened {
         with_readers(rt, keeper, readers)
     }
 
-    /// The bucket under a name, and its readers, which have seen nothing. Where it is refused the opening ends.
+    /// The bucket under a name, and its readers, which have seen nothing and are told of the acts that the bucket was opened
+    /// with: all that they see begins with these. Where it is refused the opening ends.
     pub fn live<N: LiveName, R: Wait>(self, rt: &R) -> Result<(Live<N>, Vec<Reader<N>>), KvError>
         requires { self.opening ≡ N.opening }
         ensures ok { IfOk result
             (λ r. (length r.1.items ≡ self.readers)
-            × All (λ reader. (reader.seen ≡ []) × (reader.told ≡ [])) r.1.items) }
+            × All (λ reader. (reader.seen ≡ []) × (reader.told ≡ N.opening.book.began)) r.1.items) }
         ensures err { IfErr result IsUnread }
     {
         let (keeper, notifier, readers) = self.keeper::<N, R>(rt)?;
@@ -173,6 +236,20 @@ impl Opened {
             notifier,
         };
         Ok((live, readers))
+    }
+
+    // That of a new bucket, whose readers are told of nothing.
+    pub(crate) fn new_live<N: LiveName, R: Wait>(
+        self,
+        rt: &R,
+    ) -> Result<(Live<N>, Vec<Reader<N>>), KvError>
+        requires name { self.opening ≡ N.opening }
+        requires new { N.opening.book.began ≡ [] }
+        ensures count { IfOk result (λ r. length r.1.items ≡ self.readers) }
+        ensures fresh { IfOk result (λ r. All (λ reader. (reader.seen ≡ []) × (reader.told ≡ [])) r.1.items) }
+        ensures err { IfErr result IsUnread }
+    {
+        self.live(rt)
     }
 }
 
@@ -228,7 +305,7 @@ impl<N: LiveName> Live<N> {
     /// history, of which all that anybody has seen or was told is a beginning. It waits until the lock is free.
     pub fn lock<R: Wait>(&self, rt: &R) -> MutexGuard<'_, Keeper<N>>
         ensures state { IsSomewhere N.opening.config (mutex_guard_value result) }
-        ensures history { IsPublishedHistory N.opening.config (mutex_guard_value result).published }
+        ensures history { IsPublishedHistory N.opening (mutex_guard_value result).published }
     {
         let keeper = self.keeper.lock(rt);
         keeper.is_somewhere();

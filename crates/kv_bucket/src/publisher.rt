@@ -6,7 +6,9 @@ ghost use Rattle.kv_model.specs.Acts.{IsPrefix};
 ghost use Rattle.kv_store.specs.Standing.{StandsFor};
 ghost use Rattle.kv_bucket.specs.ReaderState.{IsUnread};
 ghost use Rattle.kv_bucket.specs.Histories.{IsPublishedHistory};
+ghost use Rattle.kv_bucket.specs.Keeping.{Shows};
 ghost use Rattle.kv_bucket.specs.Receipts.{EndsAt};
+ghost use Rattle.kv_publish.specs.Beginnings.{count_of};
 ghost use Rattle.kv_publish.specs.Publications.{IsOf};
 ghost use Rattle.kv_publish.specs.Steps.{acts_from, step_of};
 ghost use Rattle.kv_bucket.specs.inside.Beginnings.{HasBeginnings};
@@ -31,7 +33,7 @@ const MOST_ACTS: u64 = 1 << 61;
 // Waits for room for one act more. There always is; where there were none, this would wait for ever, as a call that waits
 // may: no refusal stands for it.
 fn await_room<N: LiveName, R: Wait>(rt: &R, journal: &Journal<N>)
-    ensures { length journal.now < 2 ^ 61 }
+    ensures { count_of N.opening.book.began journal.now < 2 ^ 61 }
 {
     for _ in rt.forever() {
         if journal.len() < MOST_ACTS {
@@ -66,27 +68,37 @@ impl<N: LiveName> Model for Publisher<N> {
     ghost view = { λ p. p.journal };
 
     ghost invariant = { λ p. IsSome p.buffer × IfSome p.buffer (λ c. c ≡ p.journal) × IsOf N.opening p.empty ×
-        (p.empty.raw_prefix.acts ≡ []) × IsPublishedHistory N.opening.config p.journal };
+        (p.empty.raw_prefix.acts ≡ []) × IsPublishedHistory N.opening p.journal };
 }
 
-// What a publisher begins with besides its copies: its notifier, the empty publication, its history, of which nothing is
-// published, and the rights of the copies.
+// What a publisher begins with besides its copies: its notifier, the empty publication, its history, which has what the bucket
+// had when it was opened, and the rights of the copies.
 fn beginning<N: LiveName>(
     alloc: Global,
     fresh: FreshJournal,
-    version: &Version,
+    empty: &Version,
 ) -> Result<(Notifier<N>, Publication, Journal<N>, Right<N>, Right<N>), KvError>
     requires book { fresh.witness.book ≡ N.opening.book }
-    requires config { version.now.config ≡ N.opening.config }
-    requires stands { StandsFor [] version.now }
-    ensures { MatchResult result (λ r. IsOf N.opening r.1 × (r.1.raw_prefix.acts ≡ []) × (r.2 ≡ []))
+    requires stands { Shows N.opening.config [] empty.now }
+    ensures { MatchResult result (λ r. IsOf N.opening r.1 × (r.1.raw_prefix.acts ≡ []) × (r.2 ≡ N.opening.book.began))
         (λ e. e ≡ OutOfMemory) }
 {
-    let notifier = Notifier::new(alloc)?;
-    let version = version.snapshot()?;
+    let empty = empty.snapshot()?;
     let (journal, first, second) = fresh.named::<N>();
-    let empty = Publication::new(version, journal.raw_prefix());
+    let notifier = Notifier::new(alloc, journal.len())?;
+    let empty = Publication::new(empty, journal.nothing());
     Ok((notifier, empty, journal, first, second))
+}
+
+// A publication of this version, which stands for all that the history has.
+fn first_publication<N: LiveName>(
+    journal: &Journal<N>,
+    version: &Version,
+) -> Result<Publication, KvError>
+    requires { Shows N.opening.config journal.now version.now }
+    ensures { MatchResult result (λ p. IsOf N.opening p × (p.raw_prefix.acts ≡ journal.now)) (λ e. e ≡ OutOfMemory) }
+{
+    Ok(Publication::new(version.snapshot()?, journal.raw_prefix()))
 }
 
 // Adds an act to the history, and publishes the version after it.
@@ -97,7 +109,7 @@ fn show<N: LiveName, R: Wait>(
     ghost_act: GhostAct,
     version: Version,
 ) -> DoubleBuffer<N>
-    requires room { length journal.old < 2 ^ 62 }
+    requires room { count_of N.opening.book.began journal.old < 2 ^ 62 }
     requires stands { StandsFor (journal.old ++ ghost_act ∷ []) version }
     requires config { version.config ≡ N.opening.config }
     ensures added { journal.new ≡ journal.old ++ ghost_act ∷ [] }
@@ -117,7 +129,7 @@ fn show_all<N: LiveName, R: Wait>(
     revision: u64,
     version: Version,
 ) -> (DoubleBuffer<N>, Step<N>)
-    requires room { length journal.old < 2 ^ 62 }
+    requires room { count_of N.opening.book.began journal.old < 2 ^ 62 }
     requires small { revision < 2 ^ 32 }
     requires stands { StandsFor (journal.old ++ acts_from revision requests.now) version }
     requires config { version.config ≡ N.opening.config }
@@ -149,23 +161,25 @@ fn end<N: LiveName, R: Wait>(rt: &R, buffer: Option<DoubleBuffer<N>>) {
 }
 
 impl<N: LiveName> Publisher<N> {
-    /// The publisher of an opening of which nothing is published, with room for so many readers. The notifier's word has
-    /// room to count that many of them asleep.
+    /// The publisher of an opening of which just that is published which the bucket had when it was opened, with room for so
+    /// many readers. The notifier's word has room to count that many of them asleep.
     pub fn new<R: Wait>(
         rt: &R,
         alloc: Global,
         fresh: FreshJournal,
+        empty: &Version,
         version: &Version,
         readers: usize,
     ) -> Result<Publisher<N>, KvError>
         requires book { fresh.witness.book ≡ N.opening.book }
-        requires config { version.now.config ≡ N.opening.config }
-        requires stands { StandsFor [] version.now }
+        requires empty { Shows N.opening.config [] empty.now }
+        requires stands { Shows N.opening.config N.opening.book.began version.now }
         requires readers { (0 < readers) × (readers < 2 ^ 16) }
-        ensures { MatchResult result (λ p. p ≡ []) (λ e. e ≡ OutOfMemory) }
+        ensures { MatchResult result (λ p. p ≡ N.opening.book.began) (λ e. e ≡ OutOfMemory) }
     {
-        let (notifier, empty, journal, first, second) = beginning(alloc, fresh, version)?;
-        let buffer = DoubleBuffer::new(rt, alloc, first, second, &empty, readers)?;
+        let (notifier, empty, journal, first, second) = beginning(alloc, fresh, empty)?;
+        let publication = first_publication(&journal, version)?;
+        let buffer = DoubleBuffer::new(rt, alloc, first, second, &publication, readers)?;
         Ok(Publisher {
             alloc,
             notifier,
@@ -226,7 +240,7 @@ impl<N: LiveName> Publisher<N> {
 
     // It does nothing: who calls it knows that what is published is a published history.
     pub fn history(&self)
-        ensures { IsPublishedHistory N.opening.config self.now }
+        ensures { IsPublishedHistory N.opening self.now }
     {
         self.journal.len();
     }

@@ -41,11 +41,12 @@ fn serve_on<N: LiveName, R: Wait, S: Service<R>>(
     opened: Opened,
     service: S,
 ) -> Result<S::Answer, KvError>
-    requires { opened.opening ≡ N.opening }
+    requires name { opened.opening ≡ N.opening }
+    requires new { N.opening.book.began ≡ [] }
     ensures ok { IfOk result (λ answer. S.answers service opened.opening.config opened.readers answer) }
     ensures err { IfErr result IsUnread }
 {
-    let (live, readers) = opened.live::<N, R>(rt)?;
+    let (live, readers) = opened.new_live::<N, R>(rt)?;
     let answer = service.run(rt, &live, readers);
     live.close(rt);
     Ok(answer)

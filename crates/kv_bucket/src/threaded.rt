@@ -170,13 +170,14 @@ fn serve_on<N: LiveName + Send + Sync, R: Threads + Wait + Sync, S: ThreadedServ
     opened: Opened,
     service: &S,
 ) -> Result<(S::Answer, Vec<S::Followed>), KvError>
-    requires { opened.opening ≡ N.opening }
+    requires name { opened.opening ≡ N.opening }
+    requires new { N.opening.book.began ≡ [] }
     ensures led { IfOk result (λ r. S.leads service.now opened.opening.config r.0) }
     ensures followed { IfOk result
         (λ r. AnswersEach (S.follows service.now opened.opening.config) opened.readers r.1.items) }
     ensures err { IfErr result IsUnread }
 {
-    let (live, readers) = opened.live::<N, R>(rt)?;
+    let (live, readers) = opened.new_live::<N, R>(rt)?;
     let done = run(rt, alloc, service, &live, readers);
     live.close(rt);
     done

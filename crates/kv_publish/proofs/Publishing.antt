@@ -16,6 +16,10 @@ pub at_ok : {X E : Type 0} (r : Result X E) (P : X → Type 0) (Q : E → Type 0
 at_ok (Ok x) P Q R f ok h = f x h
 at_ok (Err e) P Q R f ok h = absurd (cc ok)
 
+pub at_err : {X E : Type 0} (r : Result X E) (P : X → Type 0) (Q : E → Type 0) (R : Type 0) → ((e : E) → Q e → R) → is_ok r ≡ false → MatchResult r P Q → R
+at_err (Ok x) P Q R f err h = absurd (cc err)
+at_err (Err e) P Q R f err h = f e h
+
 -- where nothing waits, what is pending is all
 pub nothing_waits : {A : Type 0} (pending all : List A) (offered : Option A) → is_some offered ≡ false → pending ++ waiting offered ≡ all → pending ≡ all
 nothing_waits pending all None f e = sym (append-nil pending) ∙ e

@@ -3,12 +3,13 @@
 ghost use Rattle.std.specs.Prelude.{◌≡◌, ◌≤◌, ◌<◌, ◌^◌, ◌+◌, ◌++◌, ◌∷◌, [], true, false, length};
 ghost use Rattle.logbook.specs.Pages.{nib, may_write};
 ghost use Rattle.kv_model.specs.Acts.{IsPrefix};
+ghost use Rattle.kv_publish.specs.Beginnings.{count_of, counted};
 ghost use Rattle.kv_publish.specs.Rules.{IsSide, IsStepFrom, IsWhole, acts_in, head_of};
 ghost use Rattle.kv_publish.specs.Steps.{acts_from, step_of};
 
 use crate::ghost_act::GhostAct;
 use crate::prefix::{Prefix, RawPrefix};
-use crate::protocol::{Anchor, Empty, LiveName, SeenLog};
+use crate::protocol::{Anchor, Began, Empty, LiveName, NoActs, SeenLog};
 use crate::raw_journal::RawJournal;
 use crate::side::Right;
 use crate::step::Step;
@@ -17,23 +18,35 @@ use kv_model::Request;
 use logbook::{Pen, Start};
 use std::marker::Model;
 
-/// An empty history, which has no name yet.
+/// A history to which nothing was added, and which has no name yet.
 #[derive(Drop)]
 pub struct FreshJournal {
+    base: u64,
     head: Anchor,
     first: Anchor,
     second: Anchor,
     pen: Pen,
     pub witness: Witness,
     pub ghost empty: { witness.log ≡ [] },
+    ghost counts: { (base ≡ counted witness.book.began) × (base ≤ 1) },
     ghost head_is: { head ≡ head_of witness.book.written_in },
     ghost sides: { IsSide witness.book.written_in first × IsSide witness.book.written_in second },
     ghost right: { (pen.book ≡ witness.book.written_in) × (pen.nib ≡ nib may_write witness.book.first 0) },
 }
 
 impl FreshJournal {
-    /// A history without acts, which is told from any other by its log and by the first right to add to it.
-    pub fn new() -> FreshJournal {
+    /// A history that begins with no act, which is told from any other by its log and by the first right to add to it.
+    pub fn new() -> FreshJournal
+        ensures { result.witness.book.began ≡ [] }
+    {
+        FreshJournal::after::<NoActs>(0)
+    }
+
+    /// A history that begins with these acts. They count as so much: one, where there are any.
+    pub fn after<B: Began>(base: u64) -> FreshJournal
+        requires { base ≡ counted B.acts }
+        ensures { result.witness.book.began ≡ B.acts }
+    {
         let (seen, mut pens) = SeenLog::open_row::<(), Empty>(&(), Start::alone(), 3);
         let mut for_head = pens.take();
         let mut for_first = pens.take();
@@ -41,8 +54,9 @@ impl FreshJournal {
         let head = Anchor::tracked(0, &mut for_head);
         let first = Anchor::tracked(0, &mut for_first);
         let second = Anchor::tracked(0, &mut for_second);
-        let (witness, pen) = Witness::begin(seen, &head);
+        let (witness, pen) = Witness::begin::<B>(seen, &head);
         FreshJournal {
+            base,
             head,
             first,
             second,
@@ -51,12 +65,13 @@ impl FreshJournal {
         }
     }
 
-    /// The history under a name, with nothing in it, and the rights of the two copies.
+    /// The history under a name, with what it begins with, and the rights of the two copies.
     pub fn named<N: LiveName>(self) -> (Journal<N>, Right<N>, Right<N>)
         requires { self.witness.book ≡ N.opening.book }
-        ensures { result.0 ≡ [] }
+        ensures { result.0 ≡ N.opening.book.began }
     {
         let FreshJournal {
+            base,
             head,
             first,
             second,
@@ -64,7 +79,7 @@ impl FreshJournal {
             witness,
         } = self;
         let journal = Journal {
-            raw: RawJournal::new(witness, head, pen),
+            raw: RawJournal::new(witness, head, pen, base),
         };
         (journal, Right::new(first), Right::new(second))
     }
@@ -78,13 +93,13 @@ pub struct Journal<N: LiveName> {
 }
 
 impl<N: LiveName> Model for Journal<N> {
-    ghost use Rattle.std.specs.Prelude.{List};
+    ghost use Rattle.std.specs.Prelude.{◌++◌, List};
     ghost use Rattle.kv_model.specs.Acts.{Act};
     ghost use Rattle.kv_publish.specs.Rules.{IsWhole, acts_in};
 
     ghost Value = { List Act };
 
-    ghost view = { λ w. acts_in w.raw };
+    ghost view = { λ w. N.opening.book.began ++ acts_in w.raw };
 
     ghost invariant = { λ w. IsWhole w.raw };
 }
@@ -108,9 +123,9 @@ fn add_writes<N: LiveName>(raw: &mut RawJournal<N>, requests: &[Request], revisi
 }
 
 impl<N: LiveName> Journal<N> {
-    /// How many acts it has.
+    /// How far it is.
     pub fn len(&self) -> u64
-        ensures { result ≡ length self.now }
+        ensures { result ≡ count_of N.opening.book.began self.now }
     {
         self.raw.len()
     }
@@ -129,9 +144,16 @@ impl<N: LiveName> Journal<N> {
         RawPrefix::new(self.raw.len(), self.raw.witness())
     }
 
+    /// Nothing of it, which doesn't name it either.
+    pub fn nothing(&self) -> RawPrefix
+        ensures { (result.acts ≡ []) × (result.book ≡ N.opening.book) }
+    {
+        RawPrefix::nothing(self.raw.witness())
+    }
+
     /// Adds an act, which is a step. It always does: nobody else has the right to.
     pub fn add(&mut self, ghost_act: GhostAct)
-        requires { length self.old < 2 ^ 62 }
+        requires { count_of N.opening.book.began self.old < 2 ^ 62 }
         ensures { self.new ≡ self.old ++ ghost_act ∷ [] }
     {
         self.raw.add(ghost_act, true);
@@ -140,12 +162,12 @@ impl<N: LiveName> Journal<N> {
     /// Adds the writes for these requests in one step, the first with this revision and the others with those from there
     /// on. What anybody sees of the history has all of them or none.
     pub fn add_all(&mut self, requests: &[Request], revision: u64) -> Step<N>
-        requires room { length self.old < 2 ^ 62 }
+        requires room { count_of N.opening.book.began self.old < 2 ^ 62 }
         requires small { revision < 2 ^ 32 }
         ensures added { self.new ≡ self.old ++ acts_from revision requests.now }
         ensures step { result ≡ step_of self.old self.new }
     {
-        let before = self.raw.len();
+        let before = self.raw.entries();
         add_writes(&mut self.raw, requests, revision);
         Step::new(before, self.raw.len(), self.raw.witness())
     }
@@ -154,8 +176,7 @@ impl<N: LiveName> Journal<N> {
     pub fn no_step(&self) -> Step<N>
         ensures { result ≡ step_of self.now self.now }
     {
-        let acts = self.raw.len();
-        Step::new(acts, acts, self.raw.witness())
+        Step::new(self.raw.entries(), self.raw.len(), self.raw.witness())
     }
 
     /// Whether all of it was seen. What was seen of it is always a beginning of it.

@@ -25,7 +25,7 @@ pub use journal::{FreshJournal, Journal};
 pub use last_published::LastPublished;
 pub use notifier::{Notifier, Woken};
 pub use prefix::{Prefix, RawPrefix};
-pub use protocol::LiveName;
+pub use protocol::{Began, LiveName};
 pub use publication::Publication;
 pub use rule::{Gets, PublishRule};
 pub use side::{Right, Side};

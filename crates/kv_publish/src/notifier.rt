@@ -14,7 +14,7 @@ use std::sync::{Arc, OnceLock, Wait};
 use std::thread;
 use std::time::{Duration, Instant};
 
-// One word: whether the opening was closed, how many acts are published, and how many sleep. The high bits are so
+// One word: whether the opening was closed, how far what is published is, and how many sleep. The high bits are so
 // few that no opening has so many readers, and the middle ones so many that no opening publishes so often.
 const CLOSED: u64 = 1;
 
@@ -66,12 +66,12 @@ fn what_woke(said: u64, acts: u64) -> Option<Woken> {
 }
 
 impl<N: LiveName> Notifier<N> {
-    /// A notifier that has notified nobody. It costs an entry.
-    pub fn new(alloc: Global) -> Result<Notifier<N>, KvError>
+    /// A notifier of a history that is so far. It has notified nobody. It costs an entry.
+    pub fn new(alloc: Global, published: u64) -> Result<Notifier<N>, KvError>
         ensures { IfErr result (λ e. e ≡ OutOfMemory) }
     {
         let board = Shared {
-            word: AtomicU64::new(0),
+            word: AtomicU64::new(PUBLISHED.wrapping_mul(published)),
             closed: AtomicBool::new(false),
             last: OnceLock::new(),
         };

@@ -1,14 +1,16 @@
 //! A beginning of a history that was seen.
 
-ghost use Rattle.std.specs.Prelude.{◌≡◌, ◌≤◌, ◌⊎◌, [], true, false, length, take};
+ghost use Rattle.std.specs.Prelude.{◌≡◌, ◌≤◌, ◌+◌, ◌++◌, ◌⊎◌, [], true, false, length, take};
 ghost use Rattle.kv_model.specs.Acts.{IsPrefix};
+ghost use Rattle.kv_publish.specs.Beginnings.{IsFrom, count_of, counted};
 ghost use Rattle.kv_publish.specs.Rules.{IsStepFrom, IsWhole, acts_in};
 
 use crate::protocol::LiveName;
 use crate::witness::Witness;
 use std::marker::{Model, PhantomData};
 
-/// A beginning of some history that ends with a step, with its length. Contracts see its acts, and which history it is of.
+/// A beginning of some history that ends with a step, with how far it is. Contracts see its acts, and which history it is of.
+/// It has nothing, or all that the history began with, and what was added up to there.
 #[derive(Drop)]
 pub struct RawPrefix {
     acts: u64,
@@ -16,29 +18,41 @@ pub struct RawPrefix {
 }
 
 impl Model for RawPrefix {
-    ghost use Rattle.std.specs.Prelude.{◌≡◌, length};
-    ghost use Rattle.kv_publish.specs.Rules.{IsWhole, acts_in};
+    ghost use Rattle.kv_publish.specs.Beginnings.{IsSoFar, seen_of};
+    ghost use Rattle.kv_publish.specs.Rules.{IsWhole};
     ghost use Rattle.kv_publish.specs.Prefixes.{JournalPrefix};
 
     ghost Value = { JournalPrefix };
 
-    ghost view = { λ g. record { acts = acts_in g.witness.log; book = g.witness.book } };
+    ghost view = { λ g. record {
+      acts = seen_of g.acts g.witness.book.began g.witness.log;
+      book = g.witness.book;
+    } };
 
-    ghost invariant = { λ g. (g.acts ≡ length g.witness.log) × IsWhole g.witness.log };
+    ghost invariant = { λ g. IsSoFar g.acts g.witness.book.began g.witness.log × IsWhole g.witness.log };
 }
 
 impl RawPrefix {
     pub(crate) fn new(acts: u64, witness: Witness) -> RawPrefix
-        requires acts { acts ≡ length witness.log }
+        requires acts { acts ≡ counted witness.book.began + length witness.log }
         requires whole { IsWhole witness.log }
-        ensures { (result.acts ≡ acts_in witness.log) × (result.book ≡ witness.book) }
+        ensures { (result.acts ≡ witness.book.began ++ acts_in witness.log) × (result.book ≡ witness.book) }
     {
         RawPrefix { acts, witness }
     }
 
-    /// How many acts it has.
+    /// Nothing of a history.
+    pub(crate) fn nothing(witness: Witness) -> RawPrefix
+        requires { IsWhole witness.log }
+        ensures { (result.acts ≡ []) × (result.book ≡ witness.book) }
+    {
+        RawPrefix { acts: 0, witness }
+    }
+
+    /// How far it is.
     pub fn len(&self) -> u64
-        ensures { result ≡ length self.now.acts }
+        ensures value { result ≡ count_of self.now.book.began self.now.acts }
+        ensures begins { IsFrom self.now.book.began self.now.acts }
     {
         self.acts
     }
@@ -58,14 +72,14 @@ impl RawPrefix {
         requires { witness.now.book ≡ self.now.book }
         ensures book { result.book ≡ witness.now.book }
         ensures that { IsPrefix witness.now.log result.log }
-        ensures this { IsPrefix self.now.acts (acts_in result.log) }
+        ensures this { IsPrefix self.now.acts (result.book.began ++ acts_in result.log) }
     {
         let mut both = witness.again();
         both.learn(&self.witness);
         both
     }
 
-    // Whether it is as long as the other one of the same history, or longer.
+    // Whether it is as far as the other one of the same history, or farther.
     fn covers(&self, other: &RawPrefix) -> bool
         requires { other.now.book ≡ self.now.book }
         ensures yes { result ≡ true → IsPrefix other.now.acts self.now.acts }
@@ -76,14 +90,14 @@ impl RawPrefix {
         other.acts <= self.acts
     }
 
-    // Whether it has the last step of a beginning of the same history, which so many acts are before. It has all of it
+    // Whether it has the last step of a beginning of the same history, which so many added acts are before. It has all of it
     // or nothing.
     pub(crate) fn has_step(&self, step: &Witness, before: u64, acts: u64) -> bool
         requires book { step.now.book ≡ self.now.book }
-        requires acts { (acts ≡ length step.now.log) × (before ≤ acts) }
+        requires acts { (acts ≡ counted step.now.book.began + length step.now.log) × (before ≤ length step.now.log) }
         requires step { IsStepFrom before step.now.log }
-        ensures yes { result ≡ true → IsPrefix (acts_in step.now.log) self.now.acts }
-        ensures no { result ≡ false → IsPrefix self.now.acts (take before (acts_in step.now.log)) }
+        ensures yes { result ≡ true → IsPrefix (step.now.book.began ++ acts_in step.now.log) self.now.acts }
+        ensures no { result ≡ false → IsPrefix self.now.acts (step.now.book.began ++ take before (acts_in step.now.log)) }
     {
         let mut both = self.witness.again();
         both.learn(step);
@@ -121,9 +135,10 @@ impl<N: LiveName> Prefix<N> {
         }
     }
 
-    /// How many acts it has seen.
+    /// How far it has seen.
     pub fn len(&self) -> u64
-        ensures { result ≡ length self.now }
+        ensures value { result ≡ count_of N.opening.book.began self.now }
+        ensures begins { IsFrom N.opening.book.began self.now }
     {
         self.raw_prefix.len()
     }

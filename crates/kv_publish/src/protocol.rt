@@ -4,7 +4,7 @@
 use crate::entry::Entry;
 use crate::ghost_act::GhostAct;
 use logbook::{Gain, Opening, Pen, Plain, Play, Rule, Seen, Word};
-use std::marker::Brand;
+use std::marker::{Brand, PhantomData};
 use std::snapshot::Snapshot;
 
 /// The rule of the log.
@@ -37,15 +37,40 @@ impl Opening<(), Entry> for Empty {
     ghost log = { λ count about. [] };
 }
 
-/// The log that tells the first right of a history begins, and ends, with an entry before that right.
-pub struct Titled;
+/// Stands for the acts that a bucket has when it is opened.
+///
+/// A function generic over it is called with std's `Brand`.
+pub trait Began {
+    ghost use Rattle.std.specs.Prelude.{List};
+    ghost use Rattle.kv_model.specs.Acts.{Act};
 
-impl Opening<Pen, Entry> for Titled {
-    ghost use Rattle.std.specs.Prelude.{true, [], ◌∷◌};
-    ghost use Rattle.kv_model.specs.Acts.{Seal};
-    ghost use Rattle.kv_publish.specs.Rules.{entry};
+    ghost acts: { List Act };
+}
 
-    ghost log = { λ count pen. entry Seal true 0 pen.nib.key ∷ [] };
+impl Began for Brand {
+    ghost use Rattle.std.specs.Prelude.{[]};
+
+    ghost acts = { [] };
+}
+
+/// A new bucket has none.
+pub struct NoActs;
+
+impl Began for NoActs {
+    ghost use Rattle.std.specs.Prelude.{[]};
+
+    ghost acts = { [] };
+}
+
+/// The log that tells the first right of a history, and the acts that it begins with. It ends with them.
+pub struct Titled<B: Began> {
+    of: PhantomData<B>,
+}
+
+impl<B: Began> Opening<Pen, Entry> for Titled<B> {
+    ghost use Rattle.kv_publish.specs.Beginnings.{title_of};
+
+    ghost log = { λ count pen. title_of pen.nib.key B.acts };
 }
 
 /// Callers trade nothing.
@@ -137,7 +162,7 @@ impl LiveName for Brand {
     ghost use Rattle.std.specs.Prelude.{[]};
 
     ghost opening = { record {
-      book = record { written_in = record { number = 0; log_name = 0; cells_name = 0 }; first = 0 };
+      book = record { written_in = record { number = 0; log_name = 0; cells_name = 0 }; first = 0; began = [] };
       config = record { bucket = []; history = 1; value_limit = 0; write_limit = 1; revision_limit = 1 };
     } };
 }

@@ -1,7 +1,8 @@
 //! What is published.
 
-ghost use Rattle.std.specs.Prelude.{◌≡◌, IfOk, IfErr, length};
+ghost use Rattle.std.specs.Prelude.{◌≡◌, IfOk, IfErr};
 ghost use Rattle.kv_keys.specs.declared.error.KvError.TheVariants.{OutOfMemory};
+ghost use Rattle.kv_publish.specs.Beginnings.{count_of};
 ghost use Rattle.kv_store.specs.Standing.{StandsFor};
 
 use crate::prefix::RawPrefix;
@@ -63,9 +64,9 @@ impl Publication {
         &self.raw_prefix
     }
 
-    /// How many acts that beginning has.
+    /// How far that beginning is.
     pub fn acts(&self) -> u64
-        ensures { result ≡ length self.now.raw_prefix.acts }
+        ensures { result ≡ count_of self.now.raw_prefix.book.began self.now.raw_prefix.acts }
     {
         self.raw_prefix.len()
     }

@@ -1,7 +1,8 @@
 //! A step of a history: the acts that were published in one.
 
-ghost use Rattle.std.specs.Prelude.{◌≡◌, ◌≤◌, true, false, length, take};
+ghost use Rattle.std.specs.Prelude.{◌≡◌, ◌≤◌, ◌+◌, ◌++◌, true, false, length, take};
 ghost use Rattle.kv_model.specs.Acts.{IsPrefix};
+ghost use Rattle.kv_publish.specs.Beginnings.{counted};
 ghost use Rattle.kv_publish.specs.Rules.{IsStepFrom, IsWhole, acts_in};
 
 use crate::prefix::{Prefix, RawPrefix};
@@ -13,31 +14,40 @@ use std::marker::{Model, PhantomData};
 /// history between them.
 #[derive(Drop)]
 pub struct Step<N: LiveName> {
+    /// How many acts were added before it.
     before: u64,
+    /// How far the history is with it.
     acts: u64,
     witness: Witness,
     of: PhantomData<N>,
 }
 
 impl<N: LiveName> Model for Step<N> {
-    ghost use Rattle.std.specs.Prelude.{◌≡◌, ◌≤◌, length, take};
+    ghost use Rattle.std.specs.Prelude.{◌≡◌, ◌≤◌, ◌+◌, ◌++◌, length, take};
+    ghost use Rattle.kv_publish.specs.Beginnings.{counted};
     ghost use Rattle.kv_publish.specs.Rules.{IsStepFrom, IsWhole, acts_in};
     ghost use Rattle.kv_publish.specs.Steps.{JournalStep};
 
     ghost Value = { JournalStep };
 
-    ghost view = { λ s. record { before = take s.before (acts_in s.witness.log); acts = acts_in s.witness.log } };
+    ghost view = { λ s. record {
+      before = s.witness.book.began ++ take s.before (acts_in s.witness.log);
+      acts = s.witness.book.began ++ acts_in s.witness.log;
+    } };
 
-    ghost invariant = { λ s. (s.acts ≡ length s.witness.log) × (s.witness.book ≡ N.opening.book) ×
-        IsWhole s.witness.log × IsStepFrom s.before s.witness.log × (s.before ≤ s.acts) };
+    ghost invariant = { λ s. (s.acts ≡ counted s.witness.book.began + length s.witness.log) × (s.witness.book ≡ N.opening.book) ×
+        IsWhole s.witness.log × IsStepFrom s.before s.witness.log × (s.before ≤ length s.witness.log) };
 }
 
 impl<N: LiveName> Step<N> {
     pub(crate) fn new(before: u64, acts: u64, witness: Witness) -> Step<N>
         requires book { witness.book ≡ N.opening.book }
-        requires acts { (acts ≡ length witness.log) × (before ≤ acts) }
+        requires acts { (acts ≡ counted witness.book.began + length witness.log) × (before ≤ length witness.log) }
         requires step { IsWhole witness.log × IsStepFrom before witness.log }
-        ensures { result ≡ record { before = take before (acts_in witness.log); acts = acts_in witness.log } }
+        ensures { result ≡ record {
+          before = witness.book.began ++ take before (acts_in witness.log);
+          acts = witness.book.began ++ acts_in witness.log;
+        } }
     {
         Step {
             before,

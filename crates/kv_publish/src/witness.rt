@@ -8,7 +8,7 @@ ghost use Rattle.kv_publish.specs.declared.entry.Entry.{Entry};
 
 use crate::entry::Entry;
 use crate::ghost_act::GhostAct;
-use crate::protocol::{Adds, Anchor, Claim, Looks, Makes, Noted, Nothing, SeenLog, Titled};
+use crate::protocol::{Adds, Anchor, Began, Claim, Looks, Makes, Noted, Nothing, SeenLog, Titled};
 use logbook::{Offer, Pen, Start};
 use std::marker::Model;
 use std::snapshot::Snapshot;
@@ -18,19 +18,20 @@ use std::snapshot::Snapshot;
 #[derive(Drop)]
 pub struct Witness {
     seen: SeenLog,
-    /// A log of one entry, which tells the first right, and can be copied.
+    /// A log that tells the first right, and the acts that the history began with. It can be copied.
     title: SeenLog,
 }
 
 impl Model for Witness {
-    ghost use Rattle.kv_publish.specs.Rules.{history_from, right_behind};
+    ghost use Rattle.kv_publish.specs.Beginnings.{began_in, first_in};
+    ghost use Rattle.kv_publish.specs.Rules.{history_from};
     ghost use Rattle.kv_publish.specs.Witnesses.{Witnessed};
 
     ghost Value = { Witnessed };
 
     ghost view = { λ w. record {
-      log = history_from (right_behind 0 w.title.log) w.seen.log;
-      book = record { written_in = w.seen.book; first = right_behind 0 w.title.log };
+      log = history_from (first_in w.title.log) w.seen.log;
+      book = record { written_in = w.seen.book; first = first_in w.title.log; began = began_in w.title.log };
     } };
 }
 
@@ -49,16 +50,17 @@ fn make_right(head: &Anchor, seen: &mut SeenLog) -> Pen
 }
 
 impl Witness {
-    /// Of a history without entries in the log that was seen, and the first right to add to it.
-    pub(crate) fn begin(seen: SeenLog, head: &Anchor) -> (Witness, Pen)
+    /// Of a history that begins with acts and without entries in the log that was seen, and the first right to add to it.
+    pub(crate) fn begin<B: Began>(seen: SeenLog, head: &Anchor) -> (Witness, Pen)
         requires { head.now ≡ head_of seen.book }
         ensures empty { result.0.log ≡ [] }
         ensures book { (result.0.book.written_in ≡ seen.book) × (result.1.book ≡ seen.book) }
+        ensures began { result.0.book.began ≡ B.acts }
         ensures right { result.1.nib ≡ nib may_write result.0.book.first 0 }
     {
         let mut seen = seen;
         let pen = make_right(head, &mut seen);
-        let (title, _) = SeenLog::open_row::<Pen, Titled>(&pen, Start::alone(), 1);
+        let (title, _) = SeenLog::open_row::<Pen, Titled<B>>(&pen, Start::alone(), 1);
         (Witness { seen, title }, pen)
     }
 

@@ -1,7 +1,16 @@
 use Rattle.std.proofs.Common.{◌≡◌, ◌++◌, ◌∷◌, [], ap, sym, ◌∙◌, drop, fold}
+use Rattle.kv_publish.specs.inside.Waiting.{waiting}
 use Rattle.kv_publish.specs.Publications.{common_of, common_after}
-use Rattle.kv_publish.proofs.Publishing.{common_last, at_ok, nothing_waits}
+use Rattle.kv_publish.proofs.Publishing.{common_last, at_err, at_ok, nothing_waits}
 use Rattle.kv_publish.proofs.double_buffer.show.Goals as goal
+
+pub loop-preserved : goal.loop-preserved
+loop-preserved g c =
+    let left = c.publish_as-left.result.0 in
+    let was = drop c.args.writer.behind c.args.writer.log.items in
+    at_err c.publish_as-left.result.1 _ _ (drop left.behind left.log.items ++ waiting c.append-offered.result ≡ was ++ c.args.publication ∷ [])
+    (λ e h. ap (λ l. l ++ waiting c.append-offered.result) h.1 ∙ (c.append-offered.ensures.pending ∙ c.loop.invariant))
+    (sym c.is_ok.ensures.value ∙ c.if-is_ok.false) c.publish_as-left.ensures.values
 
 pub publish_as-left-requires : goal.publish_as-left-requires
 publish_as-left-requires g c next is views h at =

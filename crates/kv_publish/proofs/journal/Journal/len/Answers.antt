@@ -1,6 +1,6 @@
-use Rattle.std.proofs.Common.{length, sym, ap, ◌∙◌}
-use Rattle.kv_publish.proofs.Seeing.{acts_length}
+use Rattle.std.proofs.Common.{sym, ◌∙◌}
+use Rattle.kv_publish.proofs.Former.{count_all}
 use Rattle.kv_publish.proofs.journal.Journal.len.Goals as goal
 
 pub returns : goal.returns
-returns g c = c.len.ensures ∙ (sym (acts_length c.self.inside.raw) ∙ ap length c.self.view_is)
+returns g c = c.len.ensures ∙ sym (count_all g.N.LiveName.opening.book.began c.args.self.now c.self.inside.raw c.self.view_is)

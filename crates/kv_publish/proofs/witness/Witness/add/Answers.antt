@@ -1,6 +1,7 @@
 use Rattle.std.proofs.Common.{◌≡◌, ◌++◌, ◌∷◌, [], ap, sym, ◌∙◌}
 use Rattle.logbook.specs.Pages.{Nib, nib, may_write}
 use Rattle.kv_publish.specs.declared.entry.Entry.{Entry}
+use Rattle.kv_publish.specs.Beginnings.{first_in}
 use Rattle.kv_publish.specs.Rules.{history_from, right_behind}
 use Rattle.kv_publish.specs.Witnesses.{Witnessed}
 use Rattle.kv_publish.proofs.Histories.{right_more}
@@ -27,7 +28,7 @@ compare_exchange-requires c =
 pub returns-clause-added : goal.returns-clause-added
 returns-clause-added c =
     let was = c.self.inside.seen.log in
-    let first = right_behind 0 c.self.inside.title.log in
+    let first = first_in c.self.inside.title.log in
     let offer = c.plain-offer.ensures in
     let ask = c.plain-offer.result.ask in
     let key : ask.right ≡ right_behind first (history_from first was) =
@@ -43,7 +44,7 @@ returns-clause-added c =
 pub returns-clause-right : goal.returns-clause-right
 returns-clause-right c =
     let was = c.self.inside.seen.log in
-    let first = right_behind 0 c.self.inside.title.log in
+    let first = first_in c.self.inside.title.log in
     let offer = c.plain-offer.ensures in
     let ask = c.plain-offer.result.ask in
     let key : ask.right ≡ right_behind first (history_from first was) =

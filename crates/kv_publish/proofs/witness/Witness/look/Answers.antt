@@ -2,6 +2,7 @@ use Rattle.std.proofs.Common.{ap, sym, ◌∙◌, subst, List}
 use Rattle.logbook.specs.Pages.{nib, may_write}
 use Rattle.kv_model.specs.Acts.{IsPrefix}
 use Rattle.kv_publish.specs.declared.entry.Entry.{Entry}
+use Rattle.kv_publish.specs.Beginnings.{first_in}
 use Rattle.kv_publish.specs.Rules.{history_from, right_behind}
 use Rattle.kv_publish.specs.Witnesses.{Witnessed}
 use Rattle.kv_publish.proofs.Histories.{history_prefix}
@@ -22,10 +23,10 @@ compare_exchange-requires c =
 pub returns-clause-longer : goal.returns-clause-longer
 returns-clause-longer c =
     let log = c.compare_exchange.new.seen.log in
-    let first = right_behind 0 c.self.inside.title.log in
+    let first = first_in c.self.inside.title.log in
     subst (λ (l : List Entry). IsPrefix l (history_from first log)) (ap (λ (w : Witnessed). w.log) c.self.view_is) (history_prefix first c.self.inside.seen.log log c.compare_exchange.ensures.6)
 
 pub returns-clause-all : goal.returns-clause-all
 returns-clause-all c all prefix is =
-    c.compare_exchange.ensures.7.1 (right_behind 0 c.self.inside.title.log) all (subst (IsPrefix all) (sym (ap (λ (w : Witnessed). w.log) c.self.view_is)) prefix)
+    c.compare_exchange.ensures.7.1 (first_in c.self.inside.title.log) all (subst (IsPrefix all) (sym (ap (λ (w : Witnessed). w.log) c.self.view_is)) prefix)
     (is ∙ ap (λ (w : Witnessed). nib may_write (right_behind w.book.first all) 0) (sym c.self.view_is))
