@@ -1,9 +1,9 @@
 -- Words of lines: keys, base64 and digits have neither a space nor a control, and are ASCII.
-use Rattle.std.proofs.Common.{◌≡◌, ℕ, zero, suc, ◌+◌, ◌*◌, ◌/◌, ◌%◌, ◌^◌, ◌<◌, ◌==◌, Bool, true, false, ◌&&◌, List, [], ◌∷◌, ◌++◌, length, replicate, slice_index, refl, ◌∙◌, arith}
+use Rattle.std.proofs.Common.{◌≡◌, ℕ, ◌^◌, ◌<◌, ◌==◌, Bool, true, false, ◌&&◌, List, [], ◌∷◌, ◌++◌, refl, ◌∙◌, arith}
 use Rattle.std.specs.Prelude.{nat_le, nat_lt, decimal}
 use Rattle.std.specs.List.{All, list_all}
 use Rattle.std.specs.Str.{all_ascii_digits, is_utf8}
-use Rattle.std.proofs.lemmas.Bool.{agree_below_at, and_from, and_parts}
+use Rattle.std.proofs.lemmas.Bool.{and_from, and_parts}
 use Rattle.std.proofs.lemmas.Bool.Decides.{nat_tests}
 use Rattle.std.proofs.lemmas.Fmt.{digits_decimal}
 use Rattle.std.proofs.lemmas.List.Elements.{All-weaker}
@@ -14,9 +14,9 @@ use Rattle.std.proofs.lemmas.Str.Ascii.{IsAscii-from_all}
 use Rattle.std.proofs.lemmas.Str.Parse.{numerals_by_value, tells_all_ascii_digits}
 use Rattle.base64.specs.Engines.{standard}
 use Rattle.base64.specs.GeneralPurpose.{IsBytes, encode_of}
-use Rattle.base64.specs.Rfc4648.{encode_symbols, encode_group, padding_len}
 use Rattle.kv_keys.specs.Grammar.{is_key, is_key_character}
 use Rattle.kv_keys.proofs.Keys.{key_characters}
+use Rattle.kv_script.proofs.Base64Symbols.{base64_passes}
 
 -- neither a space nor a control, and ASCII
 abbrev pub is_word_byte : ℕ → Bool
@@ -78,55 +78,8 @@ key_word key h = weaker is_key_character is_word_byte key_byte key (key_characte
 
 -- ---- base64
 
-abbrev symbols : List ℕ
-symbols = standard.encode_table
-
-symbol_word : (k : ℕ) → k < 64 → is_word_byte (slice_index symbols k) ≡ true
-symbol_word k h = agree_below_at (λ i. is_word_byte (slice_index symbols i)) (λ _. true) 64 k refl h
-
-word_cons : (byte : ℕ) (bytes : List ℕ) → is_word_byte byte ≡ true → IsWord bytes → IsWord (byte ∷ bytes)
-word_cons byte bytes one rest = and_from (is_word_byte byte) (list_all is_word_byte bytes) one rest
-
-word_append : (xs ys : List ℕ) → IsWord xs → IsWord ys → IsWord (xs ++ ys)
-word_append xs ys h k = list_all-append is_word_byte xs ys ∙ and_from _ _ h k
-
-word_one : (i : ℕ) → i < 64 → IsWord (slice_index symbols i ∷ [])
-word_one i h = word_cons (slice_index symbols i) [] (symbol_word i h) refl
-
-word_two : (i j : ℕ) → i < 64 → j < 64 → IsWord (slice_index symbols i ∷ slice_index symbols j ∷ [])
-word_two i j h k = word_cons (slice_index symbols i) (slice_index symbols j ∷ []) (symbol_word i h) (word_one j k)
-
-word_three : (i j k : ℕ) → i < 64 → j < 64 → k < 64 → IsWord (slice_index symbols i ∷ slice_index symbols j ∷ slice_index symbols k ∷ [])
-word_three i j k h l m = word_cons (slice_index symbols i) (slice_index symbols j ∷ slice_index symbols k ∷ []) (symbol_word i h) (word_two j k l m)
-
-word_group : (a b c : ℕ) → a < 256 → b < 256 → c < 256 → IsWord (encode_group symbols a b c)
-word_group a b c fits_a fits_b fits_c =
-    word_cons (slice_index symbols (a / 4))
-    (slice_index symbols (a % 4 * 16 + b / 16) ∷ slice_index symbols (b % 16 * 4 + c / 64) ∷ slice_index symbols (c % 64) ∷ [])
-    (symbol_word (a / 4) (omega arith))
-    (word_three (a % 4 * 16 + b / 16) (b % 16 * 4 + c / 64) (c % 64) (omega arith) (omega arith) (omega arith))
-
-word_symbols : (bytes : List ℕ) → IsBytes bytes → IsWord (encode_symbols symbols bytes)
-unfolding encode_symbols
-word_symbols [] h = refl
-word_symbols (a ∷ []) h =
-    let fits : a < 256 = h 0 in
-    word_two (a / 4) (a % 4 * 16) (omega arith) (omega arith)
-word_symbols (a ∷ b ∷ []) h =
-    let fits_a : a < 256 = h 0 in
-    let fits_b : b < 256 = h 1 in
-    word_three (a / 4) (a % 4 * 16 + b / 16) (b % 16 * 4) (omega arith) (omega arith) (omega arith)
-word_symbols (a ∷ b ∷ c ∷ rest) h =
-    word_append (encode_group symbols a b c) (encode_symbols symbols rest) (word_group a b c (h 0) (h 1) (h 2))
-    (word_symbols rest (λ i. h (suc (suc (suc i)))))
-
-word_padding : (count : ℕ) → IsWord (replicate count 61)
-word_padding zero = refl
-word_padding (suc count) = word_cons 61 (replicate count 61) refl (word_padding count)
-
 pub base64_word : (bytes : List ℕ) → IsBytes bytes → IsWord (encode_of standard bytes)
-base64_word bytes h =
-    word_append (encode_symbols symbols bytes) (replicate (padding_len (length bytes)) 61) (word_symbols bytes h) (word_padding (padding_len (length bytes)))
+base64_word bytes h = base64_passes is_word_byte refl refl bytes h
 
 -- ---- digits
 
@@ -137,7 +90,7 @@ digits_word : (ds : List ℕ) → all_ascii_digits ds ≡ true → IsWord ds
 digits_word [] h = refl
 digits_word (c ∷ cs) h =
     let both = and_parts (nat_le 48 c && nat_le c 57) (all_ascii_digits cs) h in
-    word_cons c cs (digit_byte c both.0) (digits_word cs both.1)
+    and_from (is_word_byte c) (list_all is_word_byte cs) (digit_byte c both.0) (digits_word cs both.1)
 
 pub decimal_digits : (n : ℕ) → n < 2 ^ 64 → all_ascii_digits (decimal n) ≡ true
 decimal_digits n h = digits_decimal (numerals_by_value (λ word. all_ascii_digits word ≡ true) tells_all_ascii_digits) n h

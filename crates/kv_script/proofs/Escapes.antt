@@ -11,7 +11,7 @@ use Rattle.kv_keys.specs.Grammar.{has_one_to, is_key_character, is_key, is_name_
 use Rattle.kv_keys.proofs.Keys.{key_characters}
 use Rattle.kv_script.specs.Line.{in_quotes}
 use Rattle.kv_script.specs.Plain.{IsPlain, is_plain_byte}
-use Rattle.kv_script.proofs.PlainBase64.{plain_base64}
+use Rattle.kv_script.proofs.Base64Symbols.{base64_passes}
 
 escape_plain : (bytes : List ℕ) → IsPlain bytes → escape bytes ≡ bytes
 escape_plain [] plain = refl
@@ -50,4 +50,4 @@ unfolding is_name
 quoted_name name h = quoted_plain name (name_characters_plain name (and_parts (has_one_to 64 name) (list_all is_name_character name) h).1)
 
 pub quoted_value : (value : List ℕ) → IsBytes value → quoted (encode_of standard value) ≡ in_quotes (encode_of standard value)
-quoted_value value bytes = quoted_plain (encode_of standard value) (plain_base64 value bytes)
+quoted_value value bytes = quoted_plain (encode_of standard value) (base64_passes is_plain_byte refl refl value bytes)

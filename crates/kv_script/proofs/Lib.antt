@@ -1,3 +1,4 @@
+pub mod Base64Symbols
 pub mod Base64Words
 mod Cases
 pub mod Choosing
@@ -7,7 +8,6 @@ pub mod Digits
 pub mod Escapes
 pub mod Lines
 pub mod Places
-pub mod PlainBase64
 pub mod PutLines
 pub mod Sending
 pub mod Spaced
