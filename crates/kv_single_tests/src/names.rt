@@ -2,7 +2,7 @@
 
 use crate::equal::equal;
 use kv_keys::{Filter, Filters, Key, KvError, Place, Short, fnv32, is_name};
-use kv_test_tools::{again, again_on};
+use kv_test_tools::{again, again_checking};
 use std::alloc::{AllocError, Global};
 use std::process::Abort;
 use std::test::Fail;

@@ -6,7 +6,7 @@ use crate::limits::{DEFAULTS, Limits, keeping, limited};
 use kv_keys::{Key, KvError};
 use kv_model::{Config, Op, Request, Start, Status, Write};
 use kv_store::Version;
-use kv_test_tools::{again, again_on};
+use kv_test_tools::{again, again_checking, again_on};
 use std::alloc::Global;
 use std::process::Abort;
 use std::test::Fail;

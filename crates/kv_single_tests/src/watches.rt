@@ -6,7 +6,7 @@ use crate::limits::{keeping, limited};
 use kv_keys::{Filter, Filters, KvError};
 use kv_model::{Event, Op, Options, Request, Start};
 use kv_store::Version;
-use kv_test_tools::{LATEST, again, again_on, delete, purge, put};
+use kv_test_tools::{LATEST, again, again_checking, delete, purge, put};
 use kv_watch::{Cursor, Taken};
 use std::alloc::Global;
 use std::process::Abort;
@@ -107,11 +107,9 @@ fn open(
     options: Options,
 ) -> Result<Cursor, KvError> {
     let before = version.status();
-    let mut version = version;
-    again_on(
-        &mut version,
-        |version| equal(rt, version.status(), before),
-        |version| Cursor::open(alloc, *version, filters, options),
+    again_checking(
+        || equal(rt, version.status(), before),
+        || Cursor::open(alloc, version, filters, options),
     )
 }
 

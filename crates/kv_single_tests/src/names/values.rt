@@ -35,12 +35,7 @@ fn keys_are_ordered_by_bytes(rt: HostRuntime) -> Result<(), Fail> {
 
 // A copy, made again after a refusal, which leaves the text.
 fn copy_of<T: Parsed>(rt: &impl Abort, alloc: Global, from: &T, text: &str) -> Result<T, KvError> {
-    let mut from = from;
-    again_on(
-        &mut from,
-        |from| equal(rt, from.text(), text),
-        |from| from.copied(alloc),
-    )
+    again_checking(|| equal(rt, from.text(), text), || from.copied(alloc))
 }
 
 fn is_copied<T: Parsed>(rt: &impl Abort, alloc: Global, text: &str) -> Result<(), KvError> {
@@ -63,11 +58,9 @@ fn a_copy_has_the_same_text(rt: HostRuntime) -> Result<(), Fail> {
 
 // The list of one filter. A refusal leaves the filter.
 fn list_of_one(rt: &impl Abort, alloc: Global, from: &Filter) -> Result<Filters, KvError> {
-    let mut from = from;
-    again_on(
-        &mut from,
-        |from| equal(rt, from.as_str(), "a.*"),
-        |from| Filters::one(alloc, from),
+    again_checking(
+        || equal(rt, from.as_str(), "a.*"),
+        || Filters::one(alloc, from),
     )
 }
 

@@ -6,11 +6,9 @@ use facts::are_told;
 // The version that is made of another by a put, a delete or a seal. A refusal leaves that one as it is.
 fn made(rt: &impl Abort, alloc: Global, version: &Version, ask: Ask) -> Result<Version, KvError> {
     let before = version.status();
-    let mut version = version;
-    again_on(
-        &mut version,
-        |version| equal(rt, version.status(), before),
-        |version| driving::made_once(alloc, *version, "a", ask),
+    again_checking(
+        || equal(rt, version.status(), before),
+        || driving::made_once(alloc, version, "a", ask),
     )
 }
 

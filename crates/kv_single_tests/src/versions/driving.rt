@@ -34,11 +34,9 @@ fn made(
     twin: &Version,
     row: Row,
 ) -> Result<Version, KvError> {
-    let mut version = version;
-    again_on(
-        &mut version,
-        |version| tell_the_same(rt, *version, twin),
-        |version| made_once(alloc, *version, row.0, row.1),
+    again_checking(
+        || tell_the_same(rt, version, twin),
+        || made_once(alloc, version, row.0, row.1),
     )
 }
 

@@ -153,33 +153,6 @@ fn at_once(
     hands_out_all(rt, cursor, base, now, live);
 }
 
-fn hands_out_in_parts(
-    rt: &impl Abort,
-    alloc: Global,
-    base: &Version,
-    now: &Version,
-    filters: &Filters,
-    row: Row,
-) -> Result<(), KvError> {
-    let mut cursor = open(rt, alloc, base, filters, options_of(row))?;
-    stands_at_its_beginning(rt, &cursor, options_of(row));
-    in_parts(rt, &mut cursor, base, now, row.initial, row.live);
-    Ok(())
-}
-
-fn hands_out_later(
-    rt: &impl Abort,
-    alloc: Global,
-    base: &Version,
-    now: &Version,
-    filters: &Filters,
-    row: Row,
-) -> Result<(), KvError> {
-    let mut cursor = open(rt, alloc, base, filters, options_of(row))?;
-    at_once(rt, &mut cursor, base, now, row.initial, row.live);
-    Ok(())
-}
-
 fn before(alloc: Global, row: Row) -> Result<Version, KvError> {
     kept(alloc, row.history, row.before)
 }
@@ -198,8 +171,12 @@ fn gives_between(
     row: Row,
 ) -> Result<(), KvError> {
     lists(rt, alloc, base, now, filters, row)?;
-    hands_out_in_parts(rt, alloc, base, now, filters, row)?;
-    hands_out_later(rt, alloc, base, now, filters, row)
+    let mut cursor = open(rt, alloc, base, filters, options_of(row))?;
+    stands_at_its_beginning(rt, &cursor, options_of(row));
+    in_parts(rt, &mut cursor, base, now, row.initial, row.live);
+    let mut cursor = open(rt, alloc, base, filters, options_of(row))?;
+    at_once(rt, &mut cursor, base, now, row.initial, row.live);
+    Ok(())
 }
 
 fn gives_behind(
