@@ -236,7 +236,7 @@ fn write_all_on<N: LiveName, R: Wait>(
         (λ first. (later : List Act) × WritesAllSomewhere N.opening.config (map asked requests.now) first later) }
     ensures refused { IfErr result (λ refused. RefusedAllSomewhere N.opening.config (map asked requests.now) refused) }
 {
-    keeper.is_somewhere();
+    keeper.bucket();
     keeper.write_all(rt, requests)
 }
 
@@ -250,9 +250,9 @@ fn write_all_and_tell<N: LiveName, R: Wait>(
     ensures lawful { IfOk result (λ r. IsLawful N.opening.config r.1.acts) }
     ensures refused { IfErr result (λ refused. RefusedAllSomewhere N.opening.config (map asked requests.now) refused) }
 {
-    keeper.is_somewhere();
+    keeper.bucket();
     let told = keeper.write_all_told(rt, requests)?;
-    keeper.is_somewhere();
+    keeper.bucket();
     Ok(told)
 }
 

@@ -48,6 +48,7 @@ pub struct Keeper<N: LiveName> {
 
 impl<N: LiveName> Model for Keeper<N> {
     ghost use Rattle.std.specs.Prelude.{IfSome};
+    ghost use Rattle.kv_bucket.specs.Histories.{IsPublishedHistory};
     ghost use Rattle.kv_bucket.specs.Keeping.{KeeperState, IsSomewhere, Shows, kept_of};
 
     ghost Value = { KeeperState };
@@ -55,21 +56,11 @@ impl<N: LiveName> Model for Keeper<N> {
     ghost view = { λ k. kept_of k.bucket k.publisher };
 
     ghost invariant = { λ k. IsSomewhere N.opening.config (kept_of k.bucket k.publisher)
-        × IfSome k.ring (Shows N.opening.config k.publisher) };
+        × IfSome k.ring (Shows N.opening.config k.publisher) × IsPublishedHistory N.opening k.publisher };
 }
 
 impl<N: LiveName> Keeper<N> {
     ghost use Rattle.kv_bucket.specs.contracts.keeper.Keeper.{the_row};
-
-    // It does nothing: who calls it knows that what lies under the lock is at a state of the model.
-    pub(crate) fn is_somewhere(&self)
-        ensures state { IsSomewhere N.opening.config self.now }
-        ensures lawful { IsLawful N.opening.config self.now.published }
-        ensures history { IsPublishedHistory N.opening self.now.published }
-    {
-        self.bucket();
-        self.publisher.history();
-    }
 
     /// The bucket. What is published is one lawful history, of which all that was seen or told of N is a beginning: a list
     /// of acts, and a version for each beginning of it.
@@ -78,7 +69,6 @@ impl<N: LiveName> Keeper<N> {
         ensures state { IsSomewhere N.opening.config self.now }
         ensures history { IsPublishedHistory N.opening self.now.published }
     {
-        self.publisher.history();
         &self.bucket
     }
 

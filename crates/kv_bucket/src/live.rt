@@ -266,7 +266,7 @@ fn write_on<N: LiveName, R: Wait>(
         keeper.new.published) }
     ensures refused { IfErr result (λ e. RefusedSomewhere N.opening.config (asked request.now) e) }
 {
-    keeper.is_somewhere();
+    keeper.bucket();
     keeper.write(rt, request)
 }
 
@@ -280,9 +280,9 @@ fn write_and_tell<N: LiveName, R: Wait>(
     ensures lawful { IfOk result (λ r. IsLawful N.opening.config r.1) }
     ensures refused { IfErr result (λ e. RefusedSomewhere N.opening.config (asked request.now) e) }
 {
-    keeper.is_somewhere();
+    keeper.bucket();
     let told = keeper.write_told(rt, request)?;
-    keeper.is_somewhere();
+    keeper.bucket();
     Ok(told)
 }
 
@@ -296,7 +296,7 @@ fn compact_on<N: LiveName, R: Wait>(
     ensures ok { OnOk result (CompactsSomewhere N.opening.config floor) }
     ensures refused { IfErr result (λ e. UncompactedSomewhere N.opening.config floor e) }
 {
-    keeper.is_somewhere();
+    keeper.bucket();
     keeper.compact(rt, floor)
 }
 
@@ -308,7 +308,7 @@ impl<N: LiveName> Live<N> {
         ensures history { IsPublishedHistory N.opening (mutex_guard_value result).published }
     {
         let keeper = self.keeper.lock(rt);
-        keeper.is_somewhere();
+        keeper.bucket();
         keeper
     }
 

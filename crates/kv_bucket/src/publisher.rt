@@ -175,7 +175,8 @@ impl<N: LiveName> Publisher<N> {
         requires empty { Shows N.opening.config [] empty.now }
         requires stands { Shows N.opening.config N.opening.book.began version.now }
         requires readers { (0 < readers) × (readers < 2 ^ 16) }
-        ensures { MatchResult result (λ p. p ≡ N.opening.book.began) (λ e. e ≡ OutOfMemory) }
+        ensures begins { MatchResult result (λ p. p ≡ N.opening.book.began) (λ e. e ≡ OutOfMemory) }
+        ensures history { IfOk result (IsPublishedHistory N.opening) }
     {
         let (notifier, empty, journal, first, second) = beginning(alloc, fresh, empty)?;
         let publication = first_publication(&journal, version)?;
@@ -194,7 +195,8 @@ impl<N: LiveName> Publisher<N> {
     pub fn publish<R: Wait>(&mut self, rt: &R, ghost_act: GhostAct, version: Version)
         requires stands { StandsFor (self.old ++ ghost_act ∷ []) version }
         requires config { version.config ≡ N.opening.config }
-        ensures { self.new ≡ self.old ++ ghost_act ∷ [] }
+        ensures added { self.new ≡ self.old ++ ghost_act ∷ [] }
+        ensures history { IsPublishedHistory N.opening self.new }
     {
         await_room(rt, &self.journal);
         let Some(buffer) = self.buffer.take() else {
@@ -220,6 +222,7 @@ impl<N: LiveName> Publisher<N> {
         requires each { HasBeginnings N.opening.config self.old (acts_from revision requests.now) }
         ensures added { self.new ≡ self.old ++ acts_from revision requests.now }
         ensures step { result ≡ step_of self.old self.new }
+        ensures history { IsPublishedHistory N.opening self.new }
     {
         await_room(rt, &self.journal);
         let Some(buffer) = self.buffer.take() else {
@@ -236,13 +239,6 @@ impl<N: LiveName> Publisher<N> {
         ensures { result ≡ step_of self.now self.now }
     {
         self.journal.no_step()
-    }
-
-    // It does nothing: who calls it knows that what is published is a published history.
-    pub fn history(&self)
-        ensures { IsPublishedHistory N.opening self.now }
-    {
-        self.journal.len();
     }
 
     /// Whether all that is published was seen. What was seen is always a beginning of that.

@@ -6,7 +6,7 @@ ghost use Rattle.kv_bucket.specs.FeedState.{HasLearned};
 ghost use Rattle.kv_bucket.specs.ReaderState.{IsUnread};
 ghost use Rattle.kv_race.specs.Telling.{Begin, BeginAll, IsEnded};
 
-use crate::feeding::{is_within, refresh};
+use crate::feeding::refresh;
 use crate::threads::Watched;
 use crate::watcher::collect;
 use kv_bucket::{Feed, LiveName, Reader, Receipt, Reply};
@@ -72,7 +72,7 @@ fn drain<N: LiveName, R: Wait>(
     ensures err { IfErr result IsUnread }
 {
     hear_all(feed, answers);
-    is_within(feed);
+    feed.handed();
     refresh(rt, feed)?;
     collect(alloc, feed, seen)?;
     feed.version()

@@ -45,14 +45,6 @@ pub(crate) fn refresh<N: LiveName, R: Wait>(rt: &R, feed: &mut Feed<N>) -> Resul
     }
 }
 
-// It does nothing: who calls it knows that the feed has handed out no more than it is given.
-pub(crate) fn is_within<N: LiveName>(feed: &Feed<N>)
-    ensures within { feed.now.handed ≤ length (given_by feed.now) }
-    ensures prefix { IsPrefix feed.now.began feed.now.acts }
-{
-    feed.handed();
-}
-
 impl<N: LiveName> Follows for Feed<N> {
     ghost watch = { λ feed. record { config = feed.config; began = feed.began; filters = feed.filters; options = feed.options } };
 
@@ -68,13 +60,13 @@ impl<N: LiveName> Follows for Feed<N> {
 
     #[tactic(auto, using(crate::proofs::Fed::went_on, crate::proofs::Fed::stayed))]
     fn go_on(&mut self) -> Result<(), KvError> {
-        is_within(self);
+        self.handed();
         self.refresh()
     }
 
     #[tactic(auto, using(crate::proofs::Fed::handed_on))]
     fn hand_out(&mut self, alloc: Global) -> Result<Option<Reply>, KvError> {
-        is_within(self);
+        self.handed();
         let taken = self.peek();
         let reply = copy_of(alloc, &taken)?;
         self.pass();

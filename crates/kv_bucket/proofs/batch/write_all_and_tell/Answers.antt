@@ -13,5 +13,5 @@ returns-clause-ok g c =
 pub returns-in_err-told-clause-refused : goal.returns-in_err-told-clause-refused
 returns-in_err-told-clause-refused g c =
     let inner : RefusedAllSomewhere g.N.LiveName.opening.config (map asked c.args.requests.now) c.in_err-told.field-0.0 =
-    refused_all_somewhere g.N.LiveName.opening.config c.args.keeper.now (map asked c.args.requests.now) c.in_err-told.field-0.0 c.is_somewhere.ensures.state c.in_err-told.ensures.refused in
+    refused_all_somewhere g.N.LiveName.opening.config c.args.keeper.now (map asked c.args.requests.now) c.in_err-told.field-0.0 c.bucket.ensures.state c.in_err-told.ensures.refused in
     search (rules, inner)

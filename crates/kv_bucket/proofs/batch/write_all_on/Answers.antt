@@ -12,11 +12,11 @@ returns-clause-ok g c =
     let requests = map asked c.args.requests.now in
     let later = c.write_all.new.self.published in
     IfOk-weaker c.write_all.result _ (λ first. (acts : List Act) × WritesAllSomewhere config requests first acts)
-    (λ first h. (later, all_somewhere config c.args.keeper.now requests first later c.is_somewhere.ensures.state h)) c.write_all.ensures.published
+    (λ first h. (later, all_somewhere config c.args.keeper.now requests first later c.bucket.ensures.state h)) c.write_all.ensures.published
 
 pub returns-clause-refused : goal.returns-clause-refused
 returns-clause-refused g c =
     let config = g.N.LiveName.opening.config in
     let requests = map asked c.args.requests.now in
     IfErr-weaker c.write_all.result _ (λ refused. RefusedAllSomewhere config requests refused)
-    (λ refused h. refused_all_somewhere config c.args.keeper.now requests refused c.is_somewhere.ensures.state h) c.write_all.ensures.refused
+    (λ refused h. refused_all_somewhere config c.args.keeper.now requests refused c.bucket.ensures.state h) c.write_all.ensures.refused

@@ -13,5 +13,5 @@ returns-clause-ok g c =
 pub returns-in_err-told-clause-refused : goal.returns-in_err-told-clause-refused
 returns-in_err-told-clause-refused g c =
     let inner : RefusedSomewhere g.N.LiveName.opening.config (asked c.args.request.now) c.in_err-told.field-0.0 =
-    refused_somewhere g.N.LiveName.opening.config c.args.keeper.now (asked c.args.request.now) c.in_err-told.field-0.0 c.is_somewhere.ensures.state c.in_err-told.ensures.refused in
+    refused_somewhere g.N.LiveName.opening.config c.args.keeper.now (asked c.args.request.now) c.in_err-told.field-0.0 c.bucket.ensures.state c.in_err-told.ensures.refused in
     search (rules, inner)

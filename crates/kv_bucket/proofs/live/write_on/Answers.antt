@@ -13,7 +13,7 @@ returns-clause-ok g c =
     let old = c.args.keeper.now in
     let later = c.write.new.self.published in
     IfOk-weaker c.write.result _ (λ revision. (acts : List Act) × WritesSomewhere config request revision acts)
-    (λ revision h. (later, writes_somewhere config old request revision later c.is_somewhere.ensures.state h)) c.write.ensures.published
+    (λ revision h. (later, writes_somewhere config old request revision later c.bucket.ensures.state h)) c.write.ensures.published
 
 pub returns-clause-refused : goal.returns-clause-refused
 returns-clause-refused g c =
@@ -21,4 +21,4 @@ returns-clause-refused g c =
     let request = asked c.args.request.now in
     let old = c.args.keeper.now in
     IfErr-weaker c.write.result _ (λ e. RefusedSomewhere config request e)
-    (λ e h. refused_somewhere config old request e c.is_somewhere.ensures.state h) c.write.ensures.refused
+    (λ e h. refused_somewhere config old request e c.bucket.ensures.state h) c.write.ensures.refused

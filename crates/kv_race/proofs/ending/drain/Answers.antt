@@ -25,9 +25,9 @@ returns-clause-ok g c =
     let heard = c.hear_all.new.feed in
     let went = c.refresh.new.feed in
     let last = c.collect.new.feed in
-    let within : heard.handed ≤ length (given_by heard) = c.is_within.ensures.within in
+    let within : heard.handed ≤ length (given_by heard) = rw c.handed.ensures.value at c.handed.ensures.within in
     IfOk-weaker c.version.result _ (λ version. IsEnded config _ c.args.feed.now c.args.seen.now.items last.reader.seen version c.collect.new.seen.items)
     (λ version shows. ended config _ c.args.feed.now heard went last last.reader.seen
     c.hear_all.ensures.heard c.hear_all.ensures.told c.in_ok-refresh.ensures.ok c.collect.ensures.place refl
-    c.args.seen.now.items c.collect.new.seen.items version shows c.is_within.ensures.prefix within c.collect.ensures.watch c.collect.ensures.seen c.in_ok-collect.ensures.all)
+    c.args.seen.now.items c.collect.new.seen.items version shows c.handed.ensures.prefix within c.collect.ensures.watch c.collect.ensures.seen c.in_ok-collect.ensures.all)
     c.version.ensures.ok

@@ -10,7 +10,7 @@ pub invariant_of-self : goal.invariant_of-self
 invariant_of-self g c =
     let was = c.self.inside in
     let old : KeeperState = kept_of was.bucket was.publisher in
-    (somewhere_quiet (calls.Stop c.args.number) (λ (stopped : Stopped). Ended stopped.handed) g.N.LiveName.opening.config old c.stop.new.self c.stop.result (quiet_stop c.args.number) c.self.invariant.0 c.stop.ensures.ok c.stop.ensures.unchanged, c.self.invariant.1)
+    (somewhere_quiet (calls.Stop c.args.number) (λ (stopped : Stopped). Ended stopped.handed) g.N.LiveName.opening.config old c.stop.new.self c.stop.result (quiet_stop c.args.number) c.self.invariant.0 c.stop.ensures.ok c.stop.ensures.unchanged, c.self.invariant.1, c.self.invariant.2)
 
 pub returns-clause-ok : goal.returns-clause-ok
 returns-clause-ok g c = quiet_ok (calls.Stop c.args.number) (λ (stopped : Stopped). Ended stopped.handed) c.args.self.now c.self.inside.bucket c.stop.new.self c.self.inside.publisher c.stop.result c.self.view_is (quiet_stop c.args.number) c.stop.ensures.ok

@@ -12,7 +12,7 @@ pub invariant_of-self : goal.invariant_of-self
 invariant_of-self g c =
     let was = c.self.inside in
     let old : KeeperState = kept_of was.bucket was.publisher in
-    (somewhere_taken (calls.Take c.args.number) (λ (taken : Taken). answer_item (item_taken taken)) g.N.LiveName.opening.config old c.take.follows.lender-at-none c.take.result (quiet_take c.args.number) c.self.invariant.0 c.take.follows.holds-at-none, c.self.invariant.1)
+    (somewhere_taken (calls.Take c.args.number) (λ (taken : Taken). answer_item (item_taken taken)) g.N.LiveName.opening.config old c.take.follows.lender-at-none c.take.result (quiet_take c.args.number) c.self.invariant.0 c.take.follows.holds-at-none, c.self.invariant.1, c.self.invariant.2)
 
 pub returns : goal.returns
 returns g c =

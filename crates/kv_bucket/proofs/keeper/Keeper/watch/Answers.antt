@@ -8,4 +8,4 @@ pub invariant_of-self : goal.invariant_of-self
 invariant_of-self g c =
     let was = c.self.inside in
     let old : KeeperState = kept_of was.bucket was.publisher in
-    (somewhere_quiet (calls.Watch c.args.filters.now c.args.options) Watching g.N.LiveName.opening.config old c.watch.new.self c.watch.result (quiet_watch c.args.filters.now c.args.options) c.self.invariant.0 c.watch.ensures.ok c.watch.ensures.unchanged, c.self.invariant.1)
+    (somewhere_quiet (calls.Watch c.args.filters.now c.args.options) Watching g.N.LiveName.opening.config old c.watch.new.self c.watch.result (quiet_watch c.args.filters.now c.args.options) c.self.invariant.0 c.watch.ensures.ok c.watch.ensures.unchanged, c.self.invariant.1, c.self.invariant.2)

@@ -18,3 +18,8 @@ invariant_of-result g c =
     let made = c.in_ok-notifier.ensures in
     let acts : c.in_ok-notifier.journal ≡ opening.book.began = made.2 in
     (refl, c.in_ok-buffer.ensures ∙ c.in_ok-publication.ensures.1, made.0, made.1, subst (IsPublishedHistory opening) (sym acts) (begins opening c.args.version.now c.requires.stands.0 c.requires.stands.1))
+
+pub returns-clause-history : goal.returns-clause-history
+returns-clause-history g c =
+    let opening = g.N.LiveName.opening in
+    subst (IsPublishedHistory opening) (sym c.in_ok-notifier.ensures.2) (begins opening c.args.version.now c.requires.stands.0 c.requires.stands.1)
