@@ -4,7 +4,8 @@ use Rattle.std.specs.Option.{option_to_list}
 use Rattle.std.proofs.lemmas.List.{take-append-le, take_more, append-nil}
 use Rattle.std.proofs.lemmas.Option.{slice_get_within, get_or_from_slice_get}
 use Rattle.kv_model.specs.Acts.{Act, IsPrefix}
-use Rattle.kv_model.specs.Given.{Item}
+use Rattle.kv_model.specs.Configuration.{Configuration}
+use Rattle.kv_model.specs.Given.{Item, given}
 use Rattle.kv_model.proofs.GivenLaws.{given_goes_on}
 use Rattle.kv_bucket.specs.FeedState.{FeedState, given_by, next_of, IsRefreshed, IsNotRefreshed, HasLearned, WentOn, HandsNext, after_item, IsStep, Step, IsRun, last_of, items_of, HandsOut}
 use Rattle.kv_bucket.proofs.Going.{went_by_refresh}
@@ -24,8 +25,10 @@ take_push xs n x at =
 went_on : (before after : FeedState) (items : List Item) → WentOn before after → HandsOut before items → HandsOut after items
 went_on before after items step hands =
     let to : FeedState = record before { reader = after.reader; acts = after.acts } in
-    let more = still_first before.handed items (given_by before) (given_by to)
-    (given_goes_on before.config.history before.began before.acts after.acts before.filters before.options hands.prefix step.grows) hands.within hands.first in
+    let goes_on : IsPrefix (given_by before) (given_by to) =
+    subst (λ (c : Configuration). IsPrefix (given_by before) (given c.history before.began after.acts before.filters before.options)) (sym step.reader.2)
+    (given_goes_on before.reader.config.history before.began before.acts after.acts before.filters before.options hands.prefix step.grows) in
+    let more = still_first before.handed items (given_by before) (given_by to) goes_on hands.within hands.first in
     let there : HandsOut to items = record {
       prefix = prefix_trans before.began before.acts after.acts hands.prefix step.grows;
       within = more.0;
@@ -37,9 +40,10 @@ refreshed : (before after : FeedState) (items : List Item) → IsRefreshed befor
 refreshed before after items step hands = went_on before after items (went_by_refresh before after step) hands
 
 -- another reader changes nothing of what was handed out
-with_reader : (before after : FeedState) (items : List Item) → after ≡ record before { reader = after.reader } → HandsOut before items → HandsOut after items
-with_reader before after items same hands =
-    let there : HandsOut (record before { reader = after.reader }) items = record { prefix = hands.prefix; within = hands.within; first = hands.first } in
+with_reader : (before after : FeedState) (items : List Item) → after.reader.config ≡ before.reader.config → after ≡ record before { reader = after.reader } → HandsOut before items → HandsOut after items
+with_reader before after items config same hands =
+    let parts = subst (λ (c : Configuration). let xs : List Item = given c.history before.began before.acts before.filters before.options in (before.handed ≤ length xs) × (items ≡ take before.handed xs)) (sym config) (hands.within, hands.first) in
+    let there : HandsOut (record before { reader = after.reader }) items = record { prefix = hands.prefix; within = parts.0; first = parts.1 } in
     subst (λ (f : FeedState). HandsOut f items) (sym same) there
 
 taken : (before : FeedState) (items : List Item) (item : Option Item) → item ≡ next_of before → HandsOut before items → HandsOut (after_item before item) (items ++ option_to_list item)
@@ -69,8 +73,8 @@ one_step before after items item step hands =
     let by_next : Next → Goal = λ s.
     subst (λ (f : FeedState). HandsOut f (items ++ option_to_list item)) (sym s.counts) (taken s.went items item s.value (went_on before s.went items s.goes hands)) in
     let by_taken : Taken → Goal = λ s. subst (λ (f : FeedState). HandsOut f (items ++ option_to_list item)) (sym s.1) (taken before items item s.0 hands) in
-    let by_learned : Learned → Goal = λ s. nothing_more after items item s.0 (with_reader before after items s.1.1.same hands) in
-    let by_refused : Refused → Goal = λ s. nothing_more after items item s.0 (with_reader before after items s.1.same hands) in
+    let by_learned : Learned → Goal = λ s. nothing_more after items item s.0 (with_reader before after items s.1.1.config s.1.1.same hands) in
+    let by_refused : Refused → Goal = λ s. nothing_more after items item s.0 (with_reader before after items s.1.reader.2 s.1.same hands) in
     let by_refreshed : Refreshed → Goal = λ s. nothing_more after items item s.0 (refreshed before after items s.1 hands) in
     let by_waited : Next ⊎ Passed → Goal = ⊎_elim by_next by_passed in
     let by_handed : Taken ⊎ (Next ⊎ Passed) → Goal = ⊎_elim by_taken by_waited in

@@ -9,11 +9,11 @@ abbrev moved : FeedState → ReaderState → List Act → FeedState
 moved feed reader acts = record feed { reader = reader; acts = acts }
 
 pub went_nowhere : (feed : FeedState) → WentOn feed feed
-went_nowhere feed = record { reader = (prefix_self feed.reader.seen, refl); grows = prefix_self feed.acts; told = inr refl; same = refl }
+went_nowhere feed = record { reader = (prefix_self feed.reader.seen, refl, refl); grows = prefix_self feed.acts; told = inr refl; same = refl }
 
 pub went_further : (first then last : FeedState) → WentOn first then → WentOn then last → WentOn first last
 went_further first then last p q = record {
-  reader = (prefix_trans first.reader.seen then.reader.seen last.reader.seen p.reader.0 q.reader.0, q.reader.1 ∙ p.reader.1);
+  reader = (prefix_trans first.reader.seen then.reader.seen last.reader.seen p.reader.0 q.reader.0, q.reader.1 ∙ p.reader.1, q.reader.2 ∙ p.reader.2);
   grows = prefix_trans first.acts then.acts last.acts p.grows q.grows;
   told = ⊎_elim
       (λ (reached : IsPrefix then.reader.told last.acts). inl (subst (λ (told : List Act). IsPrefix told last.acts) p.reader.1 reached))

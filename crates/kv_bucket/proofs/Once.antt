@@ -157,4 +157,4 @@ pub all_has_once : (config : Configuration) (feed : FeedState) (told : List Act)
 all_has_once config feed told w lawful prefix all owes =
     let given_all = given_by feed in
     ap (items_of_revision w.revision) (ap (λ (n : ℕ). take n given_all) all ∙ take_all (length given_all) given_all (omega arith))
-    ∙ given_once feed.config.history feed.began feed.acts feed.filters feed.options w (counts_from_lawful config feed.acts lawful) prefix told owes.reached owes.live owes.shown
+    ∙ given_once feed.reader.config.history feed.began feed.acts feed.filters feed.options w (counts_from_lawful config feed.acts lawful) prefix told owes.reached owes.live owes.shown

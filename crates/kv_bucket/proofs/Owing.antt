@@ -77,10 +77,10 @@ reached receipt feed learned refreshed between later learning run went more =
     let there : IsPrefix receipt refreshed.acts = prefix_trans receipt middle.reader.told refreshed.acts told (reaches middle refreshed went) in
     prefix_trans receipt refreshed.acts (last_of refreshed later).acts there (run_grown refreshed later more).1
 
-pub told_once : (feed : FeedState) (steps : List Step) (told : List Act) (w : Write) → IsPrefix feed.began feed.acts → feed.handed ≡ 0 → IsRun feed steps → IsLawful feed.config (last_of feed steps).acts
+pub told_once : (feed : FeedState) (steps : List Step) (told : List Act) (w : Write) → IsPrefix feed.began feed.acts → feed.handed ≡ 0 → IsRun feed steps → IsLawful feed.reader.config (last_of feed steps).acts
     → next_of (last_of feed steps) ≡ None → Owes (last_of feed steps) told w → HasOnce (last_of feed steps) w (items_of steps)
 told_once feed steps told w prefix none run lawful end owes =
     let last = last_of feed steps in
     let hands = run_hands_out feed steps prefix none run in
     let all : last.handed ≡ length (given_by last) = (ends (given_by last) last.handed hands.within).0 end in
-    subst (λ (items : List Item). HasOnce last w items) (sym hands.first) (all_has_once feed.config last told w lawful hands.prefix all owes)
+    subst (λ (items : List Item). HasOnce last w items) (sym hands.first) (all_has_once feed.reader.config last told w lawful hands.prefix all owes)

@@ -4,15 +4,13 @@ use Rattle.std.specs.List.{filter_map}
 use Rattle.kv_keys.specs.declared.error.KvError.{KvError}
 use Rattle.kv_keys.specs.declared.error.KvError.TheVariants.{Lagged, NoReader, OutOfMemory}
 use Rattle.kv_model.specs.Acts.{Act, IsPrefix, floor_of, writes_of}
-use Rattle.kv_model.specs.Configuration.{Configuration}
 use Rattle.kv_model.specs.declared.options.Options.{Options}
 use Rattle.kv_model.specs.Given.{Item, given, is_behind}
 use Rattle.kv_bucket.specs.ReaderState.{ReaderState}
 
--- a feed: the configuration of its bucket, its reader, the acts when it was opened, those that its version stands for,
--- what it matches and how it shows it, and how many items it handed out
+-- a feed: its reader, the acts when it was opened, those that its version stands for, what it matches and how it shows
+-- it, and how many items it handed out
 pub record FeedState : Type 0 where
-  pub config : Configuration
   pub reader : ReaderState
   pub began : List Act
   pub acts : List Act
@@ -22,7 +20,7 @@ pub record FeedState : Type 0 where
 
 -- all that it is given by the acts that its version stands for
 abbrev pub given_by : FeedState → List Item
-given_by feed = given feed.config.history feed.began feed.acts feed.filters feed.options
+given_by feed = given feed.reader.config.history feed.began feed.acts feed.filters feed.options
 
 -- the item that it hands out next, if any
 abbrev pub next_of : FeedState → Option Item
@@ -32,11 +30,11 @@ next_of feed = slice_get (given_by feed) feed.handed
 -- it is still to be handed out
 abbrev pub lags : ℕ → FeedState → Bool
 lags floor feed = nat_lt (length (writes_of feed.acts)) floor
-    || is_behind floor feed.handed feed.config.history feed.began feed.acts feed.filters feed.options
+    || is_behind floor feed.handed feed.reader.config.history feed.began feed.acts feed.filters feed.options
 
--- a reader has seen more, or as much as before
+-- a reader has seen more, or as much as before; nothing else of it changed
 abbrev pub HasSeenMore : ReaderState → ReaderState → Type 0
-HasSeenMore before after = IsPrefix before.seen after.seen × (after.told ≡ before.told)
+HasSeenMore before after = IsPrefix before.seen after.seen × (after.told ≡ before.told) × (after.config ≡ before.config)
 
 -- a feed went on to all that its reader has seen by now, which begins with the feed's former acts and with all that the
 -- reader was told of; nothing else of it changed
@@ -61,6 +59,7 @@ IsStopped before after error =
 
 -- what was told was added to what its reader knows; nothing else of it changed
 pub record HasLearned (told : List Act) (before after : FeedState) : Type 0 where
+  pub config : after.reader.config ≡ before.reader.config
   pub seen : after.reader.seen ≡ before.reader.seen
   pub former : IsPrefix before.reader.told after.reader.told
   pub learned : IsPrefix told after.reader.told

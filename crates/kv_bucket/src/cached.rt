@@ -3,7 +3,8 @@
 ghost use Rattle.std.specs.Prelude.{◌≡◌, true, IfErr, IfOk, IfSome, OnErr, OnOk};
 ghost use Rattle.kv_model.specs.Acts.{IsPrefix};
 ghost use Rattle.kv_store.specs.Standing.{StandsFor};
-ghost use Rattle.kv_bucket.specs.ReaderState.{IsUnread, IsWithin};
+ghost use Rattle.kv_bucket.specs.ReaderState.{IsUnread};
+ghost use Rattle.kv_bucket.specs.inside.ProgressState.{IsWithin};
 ghost use Rattle.kv_publish.specs.Publications.{IsOf};
 
 use crate::progress::Progress;

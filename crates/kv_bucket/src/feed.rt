@@ -10,7 +10,7 @@ ghost use Rattle.kv_store.specs.Standing.{StandsFor};
 ghost use Rattle.kv_watch.specs.Taking.{item_taken};
 ghost use Rattle.kv_bucket.specs.inside.Fed.{acts_on, opened};
 ghost use Rattle.kv_bucket.specs.FeedState.{FeedState, HasSeenMore, HasLearned, IsRefreshed, IsNotRefreshed, IsStopped, lags, WentOn, HandsNext, given_by, next_of, after_item};
-ghost use Rattle.kv_bucket.specs.ReaderState.{IsUnread};
+ghost use Rattle.kv_bucket.specs.ReaderState.{IsUnread, StaysUnder};
 ghost use Rattle.kv_bucket.specs.Owed.{Owes, HasOnce};
 ghost use Rattle.kv_publish.specs.Publications.{IsOf};
 
@@ -28,9 +28,8 @@ use std::snapshot::Snapshot;
 use std::sync::Wait;
 use std::time::Duration;
 
-/// A watch that takes no lock: it goes on from version to version as it is refreshed. Contracts see the configuration of
-/// its bucket, its reader, the acts when it was opened, those that its version stands for, what it shows, and how many
-/// items it handed out.
+/// A watch that takes no lock: it goes on from version to version as it is refreshed. Contracts see its reader, the acts
+/// when it was opened, those that its version stands for, what it shows, and how many items it handed out.
 pub struct Feed<N: LiveName> {
     reader: Reader<N>,
     // The acts of its beginning, as contracts see them. It has no bytes.
@@ -57,7 +56,7 @@ impl<N: LiveName> Model for Feed<N> {
 
     ghost Value = { FeedState };
 
-    ghost view = { λ f. feed_state_of N.opening.config f.reader f.began.value.acts f.current f.watch.cursor };
+    ghost view = { λ f. feed_state_of f.reader f.began.value.acts f.current f.watch.cursor };
 
     ghost invariant = { λ f. IsFed N.opening.config f.reader f.began.value.acts f.current f.watch };
 }
@@ -70,8 +69,9 @@ fn begin<N: LiveName>(
     options: Options,
 ) -> Result<Feed<N>, (Reader<N>, KvError)>
     requires of { IsOf N.opening publication }
+    requires reader { reader.config ≡ N.opening.config }
     requires seen { IsPrefix (acts_on publication) reader.seen }
-    ensures ok { IfOk result (λ feed. feed ≡ opened N.opening.config reader (acts_on publication) filters.now options) }
+    ensures ok { IfOk result (λ feed. feed ≡ opened reader (acts_on publication) filters.now options) }
     ensures err { IfErr result (λ e. (e.0 ≡ reader) × (e.1 ≡ OutOfMemory)) }
 {
     match Watch::open(reader.alloc(), publication.version(), filters, options) {
@@ -89,8 +89,9 @@ impl<N: LiveName> Reader<N> {
     /// A feed that begins with the version that is published. It costs an entry, the keys, and what it will hand out.
     /// Where it is refused the reader comes back.
     pub fn watch(self, filters: &Filters, options: Options) -> Result<Feed<N>, (Reader<N>, KvError)>
+        ensures config { self.config ≡ N.opening.config }
         ensures reader { IfOk result (λ feed. HasSeenMore self feed.reader × IsPrefix self.told feed.reader.seen) }
-        ensures ok { IfOk result (λ feed. feed ≡ opened N.opening.config feed.reader feed.reader.seen filters.now options) }
+        ensures ok { IfOk result (λ feed. feed ≡ opened feed.reader feed.reader.seen filters.now options) }
         ensures err { IfErr result (λ e. HasSeenMore self e.0 × IsUnread e.1) }
     {
         let mut reader = self;
@@ -107,7 +108,8 @@ impl<N: LiveName> Reader<N> {
         filters: &Filters,
         options: Options,
     ) -> Result<Feed<N>, (Reader<N>, KvError)>
-        ensures ok { IfOk result (λ feed. feed ≡ opened N.opening.config self [] filters.now options) }
+        ensures config { self.config ≡ N.opening.config }
+        ensures ok { IfOk result (λ feed. feed ≡ opened self [] filters.now options) }
         ensures err { IfErr result (λ e. (e.0 ≡ self) × (e.1 ≡ OutOfMemory)) }
     {
         match self.empty_publication() {
@@ -139,7 +141,8 @@ impl<N: LiveName> Feed<N> {
     pub fn refresh_keeping(&mut self) -> Result<Version, KvError>
         ensures ok { OnOk result (IsRefreshed self.old self.new) }
         ensures ahead { OnOk result (lags (floor_of self.new.acts) self.old ≡ false) }
-        ensures left { IfOk result (λ left. StandsFor self.old.acts left × (left.config ≡ N.opening.config)) }
+        ensures config { StaysUnder N.opening.config self.old.reader self.new.reader }
+        ensures left { IfOk result (λ left. StandsFor self.old.acts left × (left.config ≡ self.old.reader.config)) }
         ensures refused { IfErr result (λ e. IsStopped self.old self.new e × IsNotRefreshed self.old self.new) }
     {
         let publication = self.reader.publication_ahead(&self.current, &self.watch)?;
@@ -149,7 +152,8 @@ impl<N: LiveName> Feed<N> {
 
     /// The version that it went on to: a snapshot. While somebody has it, the feed's next refresh frees nothing of it.
     pub fn version(&self) -> Result<Version, KvError>
-        ensures ok { IfOk result (λ v. StandsFor self.now.acts v × (v.config ≡ N.opening.config)) }
+        ensures config { self.now.reader.config ≡ N.opening.config }
+        ensures ok { IfOk result (λ v. StandsFor self.now.acts v × (v.config ≡ self.now.reader.config)) }
         ensures err { IfErr result (λ e. e ≡ OutOfMemory) }
     {
         self.current.version().snapshot()
@@ -242,11 +246,11 @@ impl<N: LiveName> Feed<N> {
     /// How many items were handed out, the end marker counted.
     pub fn handed(&self) -> u64
         ensures value { result ≡ self.now.handed }
-        ensures config { self.now.config ≡ N.opening.config }
+        ensures config { self.now.reader.config ≡ N.opening.config }
         ensures within { result ≤ length (given_by self.now) }
         ensures prefix { IsPrefix self.now.began self.now.acts }
         ensures seen { IsPrefix self.now.acts self.now.reader.seen }
-        ensures lawful { IsLawful N.opening.config self.now.acts }
+        ensures lawful { IsLawful self.now.reader.config self.now.acts }
     {
         self.watch.handed()
     }

@@ -307,7 +307,8 @@ impl<N: LiveName> Keeper<N> {
     /// Adds a reader, which has seen nothing and is told of all that is published. `NoReader` where all places
     /// of the opening are taken; a reader that is dropped frees its place.
     pub fn reader(&self) -> Result<Reader<N>, KvError>
-        ensures ok { IfOk result (λ reader. (reader.seen ≡ []) × (reader.told ≡ self.now.published)) }
+        ensures ok { IfOk result
+            (λ reader. (reader.config ≡ N.opening.config) × (reader.seen ≡ []) × (reader.told ≡ self.now.published)) }
         ensures err { IfErr result IsUnread }
     {
         self.publisher.reader()

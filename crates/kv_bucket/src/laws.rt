@@ -29,6 +29,6 @@ pub fn learned_is_reached()
 pub fn told_write_is_handed_out_once()
     ensures { (feed : FeedState) (steps : List Step) (told : List Act) (w : Write) →
         IsPrefix feed.began feed.acts → feed.handed ≡ 0 → IsRun feed steps →
-        IsLawful feed.config (last_of feed steps).acts → next_of (last_of feed steps) ≡ None →
+        IsLawful feed.reader.config (last_of feed steps).acts → next_of (last_of feed steps) ≡ None →
         Owes (last_of feed steps) told w → HasOnce (last_of feed steps) w (items_of steps) }
 {}

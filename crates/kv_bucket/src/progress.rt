@@ -4,7 +4,7 @@ ghost use Rattle.std.specs.Prelude.{◌≡◌, ◌⊎◌, [], true, false, IfOk,
 ghost use Rattle.std.specs.Option.{option_map};
 ghost use Rattle.kv_model.specs.Acts.{IsPrefix, floor_of};
 ghost use Rattle.kv_store.specs.Standing.{StandsFor};
-ghost use Rattle.kv_bucket.specs.ReaderState.{IsWithin};
+ghost use Rattle.kv_bucket.specs.inside.ProgressState.{IsWithin};
 ghost use Rattle.kv_bucket.specs.inside.Fed.{TellsLag, TellsLagOf, IsNotCopied};
 ghost use Rattle.kv_publish.specs.Publications.{IsOf};
 
@@ -34,9 +34,9 @@ impl<N: LiveName> Drop for Progress<N> {
 }
 
 impl<N: LiveName> Model for Progress<N> {
-    ghost use Rattle.kv_bucket.specs.ReaderState.{ReaderState};
+    ghost use Rattle.kv_bucket.specs.inside.ProgressState.{ProgressState};
 
-    ghost Value = { ReaderState };
+    ghost Value = { ProgressState };
 
     ghost view = { λ k. record { seen = k.seen; told = k.told } };
 }

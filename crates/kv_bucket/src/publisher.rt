@@ -253,7 +253,8 @@ impl<N: LiveName> Publisher<N> {
 
     /// A new reader, which is told of all that is published.
     pub fn reader(&self) -> Result<Reader<N>, KvError>
-        ensures { MatchResult result (λ r. (r.seen ≡ []) × (r.told ≡ self.now)) IsUnread }
+        ensures { MatchResult result
+            (λ r. (r.config ≡ N.opening.config) × (r.seen ≡ []) × (r.told ≡ self.now)) IsUnread }
     {
         let Some(buffer) = &self.buffer else {
             unreachable!()

@@ -5,8 +5,9 @@ ghost use Rattle.std.specs.Option.{option_map};
 ghost use Rattle.kv_keys.specs.declared.error.KvError.TheVariants.{NoReader, OutOfMemory};
 ghost use Rattle.kv_model.specs.Acts.{IsPrefix, floor_of};
 ghost use Rattle.kv_store.specs.Standing.{StandsFor};
-ghost use Rattle.kv_bucket.specs.ReaderState.{IsUnread, IsWithin};
+ghost use Rattle.kv_bucket.specs.ReaderState.{IsUnread, StaysUnder};
 ghost use Rattle.kv_bucket.specs.inside.Fed.{TellsLag, TellsLagOf, IsNotShown};
+ghost use Rattle.kv_bucket.specs.inside.ProgressState.{IsWithin};
 ghost use Rattle.kv_publish.specs.Publications.{IsOf};
 
 use crate::cached::Cached;
@@ -25,8 +26,8 @@ use std::rt::Clock;
 use std::sync::Wait;
 use std::time::Duration;
 
-/// A reader of the opening N. It takes no lock. Contracts see it as the acts that it has seen, and those that it was
-/// told of.
+/// A reader of the opening N. It takes no lock. Contracts see it as the configuration of its bucket, the acts that it has
+/// seen, and those that it was told of.
 pub struct Reader<N: LiveName> {
     alloc: Global,
     notifier: Notifier<N>,
@@ -55,7 +56,7 @@ impl<N: LiveName> Model for Reader<N> {
 
     ghost Value = { ReaderState };
 
-    ghost view = { λ r. r.progress };
+    ghost view = { λ r. record { config = N.opening.config; seen = r.progress.seen; told = r.progress.told } };
 
     ghost invariant = { λ r. IsSome r.slot × IsOf N.opening r.empty × (r.empty.raw_prefix.acts ≡ []) };
 }
@@ -153,7 +154,7 @@ impl<N: LiveName> Reader<N> {
         empty: Publication,
     ) -> Reader<N>
         requires { IsOf N.opening empty × (empty.raw_prefix.acts ≡ []) }
-        ensures { (result.seen ≡ []) × (result.told ≡ told) }
+        ensures { (result.config ≡ N.opening.config) × (result.seen ≡ []) × (result.told ≡ told) }
     {
         Reader {
             alloc,
@@ -168,10 +169,11 @@ impl<N: LiveName> Reader<N> {
     /// leave. `NoReader` where nobody lets the reader enter: neither the store, nor what was published last, once there is
     /// that. Shown less than it has seen or was told, which never comes, it would look again.
     pub fn version(&mut self) -> Result<Version, KvError>
+        ensures config { StaysUnder N.opening.config self.old self.new }
         ensures later { IsPrefix self.old.seen self.new.seen }
         ensures told { self.new.told ≡ self.old.told }
         ensures ok { IfOk result
-            (λ v. StandsFor self.new.seen v × (v.config ≡ N.opening.config) × IsPrefix self.old.told self.new.seen) }
+            (λ v. StandsFor self.new.seen v × (v.config ≡ self.new.config) × IsPrefix self.old.told self.new.seen) }
         ensures err { IfErr result IsUnread }
     {
         let publication = self.publication()?;
@@ -181,6 +183,7 @@ impl<N: LiveName> Reader<N> {
     /// The version that is published, to be kept for many reads and refreshed between them. It costs what `version`
     /// costs.
     pub fn cached(&mut self) -> Result<Cached<N>, KvError>
+        ensures config { StaysUnder N.opening.config self.old self.new }
         ensures later { IsPrefix self.old.seen self.new.seen }
         ensures told { self.new.told ≡ self.old.told }
         ensures ok { IfOk result (λ c. (c ≡ self.new.seen) × IsPrefix self.old.told self.new.seen) }
@@ -194,6 +197,7 @@ impl<N: LiveName> Reader<N> {
     /// it is that already it costs a look at one word, and nothing is written that another thread reads; else it costs
     /// what `version` costs, and the version that it leaves is let go. Where it is refused it stays as it was.
     pub fn refresh(&mut self, cached: &mut Cached<N>) -> Result<(), KvError>
+        ensures config { StaysUnder N.opening.config self.old self.new }
         ensures later { IsPrefix self.old.seen self.new.seen }
         ensures told { self.new.told ≡ self.old.told }
         ensures ok { OnOk result ((cached.new ≡ self.new.seen) × IsPrefix self.old.told self.new.seen) }
@@ -210,6 +214,7 @@ impl<N: LiveName> Reader<N> {
     // Enters, has what was cached go on to what is there, and answers what that left: who lets it go does so outside,
     // where no publish waits for it.
     fn go_on(&mut self, cached: &mut Cached<N>) -> Result<Option<Publication>, KvError>
+        ensures config { StaysUnder N.opening.config self.old self.new }
         ensures later { IsPrefix self.old.seen self.new.seen }
         ensures told { self.new.told ≡ self.old.told }
         ensures ok { OnOk result ((cached.new ≡ self.new.seen) × IsPrefix self.old.told self.new.seen) }
@@ -238,11 +243,12 @@ impl<N: LiveName> Reader<N> {
     /// A published version with at least this revision. Where there is none yet it waits; it is `None` where the bucket
     /// was closed before there was one.
     pub fn wait_for<R: Wait>(&mut self, rt: &R, revision: u64) -> Result<Option<Version>, KvError>
+        ensures config { StaysUnder N.opening.config self.old self.new }
         ensures later { IsPrefix self.old.seen self.new.seen }
         ensures told { self.new.told ≡ self.old.told }
         ensures ok { IfOk result
             (λ found. IfSome found
-            (λ v. StandsFor self.new.seen v × (v.config ≡ N.opening.config) × (revision ≤ v.last))) }
+            (λ v. StandsFor self.new.seen v × (v.config ≡ self.new.config) × (revision ≤ v.last))) }
         ensures learned { IfOk result (λ _. IsPrefix self.old.told self.new.seen) }
         ensures err { IfErr result IsUnread }
     {
@@ -259,11 +265,12 @@ impl<N: LiveName> Reader<N> {
 
     // The version that is published, if it has at least this revision.
     fn version_from(&mut self, revision: u64) -> Result<Option<Version>, KvError>
+        ensures config { StaysUnder N.opening.config self.old self.new }
         ensures later { IsPrefix self.old.seen self.new.seen }
         ensures told { self.new.told ≡ self.old.told }
         ensures ok { IfOk result
             (λ found. IfSome found
-            (λ v. StandsFor self.new.seen v × (v.config ≡ N.opening.config) × (revision ≤ v.last))) }
+            (λ v. StandsFor self.new.seen v × (v.config ≡ self.new.config) × (revision ≤ v.last))) }
         ensures learned { IfOk result (λ _. IsPrefix self.old.told self.new.seen) }
         ensures err { IfErr result IsUnread }
     {
@@ -277,6 +284,7 @@ impl<N: LiveName> Reader<N> {
 
     /// What is published.
     pub(crate) fn publication(&mut self) -> Result<Publication, KvError>
+        ensures config { StaysUnder N.opening.config self.old self.new }
         ensures later { IsPrefix self.old.seen self.new.seen }
         ensures told { self.new.told ≡ self.old.told }
         ensures ok { IfOk result
@@ -293,6 +301,7 @@ impl<N: LiveName> Reader<N> {
         current: &Publication,
         watch: &Watch,
     ) -> Result<Publication, KvError>
+        ensures config { StaysUnder N.opening.config self.old self.new }
         ensures later { IsPrefix self.old.seen self.new.seen }
         ensures told { self.new.told ≡ self.old.told }
         ensures ok { IfOk result
@@ -306,6 +315,7 @@ impl<N: LiveName> Reader<N> {
 
     // Enters, and copies what is there, unless this follower lags behind it.
     fn look(&mut self, follower: Option<(&Publication, &Watch)>) -> Result<Publication, KvError>
+        ensures config { StaysUnder N.opening.config self.old self.new }
         ensures later { IsPrefix self.old.seen self.new.seen }
         ensures told { self.new.told ≡ self.old.told }
         ensures ok { IfOk result
@@ -344,13 +354,15 @@ impl<N: LiveName> Reader<N> {
 
     /// The empty version, as a publication.
     pub(crate) fn empty_publication(&self) -> Result<Publication, KvError>
-        ensures { MatchResult result (λ s. IsOf N.opening s × (s.raw_prefix.acts ≡ [])) (λ e. e ≡ OutOfMemory) }
+        ensures config { self.now.config ≡ N.opening.config }
+        ensures value { MatchResult result (λ s. IsOf N.opening s × (s.raw_prefix.acts ≡ [])) (λ e. e ≡ OutOfMemory) }
     {
         self.empty.try_clone()
     }
 
     /// Takes in a receipt. Each version from now on stands for acts that begin with those that the receipt tells.
     pub fn learn(&mut self, receipt: &Receipt<N>)
+        ensures config { StaysUnder N.opening.config self.old self.new }
         ensures seen { self.new.seen ≡ self.old.seen }
         ensures told { IsPrefix self.old.told self.new.told }
         ensures learned { IsPrefix receipt.now self.new.told }
@@ -361,6 +373,7 @@ impl<N: LiveName> Reader<N> {
 
     /// Takes in a mark, as a receipt.
     pub fn learn_mark(&mut self, mark: &Mark<N>)
+        ensures config { StaysUnder N.opening.config self.old self.new }
         ensures seen { self.new.seen ≡ self.old.seen }
         ensures told { IsPrefix self.old.told self.new.told }
         ensures learned { IsPrefix mark.now self.new.told }

@@ -10,11 +10,11 @@ use Rattle.kv_single.specs.declared.reply.Reply.{Reply}
 use Rattle.kv_bucket.specs.FeedState.{FeedState, HasLearned, IsRefreshed, given_by}
 use Rattle.kv_race.specs.Telling.{Answered, BeginAll, HasLast, IsEnded, IsFollowed, IsShown}
 use Rattle.kv_race.specs.Watching.{Are, Place, Watch, WritesDown, reply_to}
-use Rattle.kv_race.proofs.Fed.{went_on}
+use Rattle.kv_race.proofs.Fed.{same_handed, went_on}
 use Rattle.kv_race.proofs.Hearing.{begin_all_later}
 
 abbrev pub watch_of : FeedState → Watch
-watch_of feed = record { config = feed.config; began = feed.began; filters = feed.filters; options = feed.options }
+watch_of feed = record { config = feed.reader.config; began = feed.began; filters = feed.filters; options = feed.options }
 
 abbrev pub place_of : FeedState → Place
 place_of feed = record { acts = feed.acts; seen = feed.reader.seen; told = feed.reader.told }
@@ -44,14 +44,14 @@ module _ (config : Configuration) (answers : List (List Answered)) (first heard 
 
   same_given : watch_of last ≡ watch_of went → given_by last ≡ given_by (record first { acts = last.acts })
   same_given watch =
-      let same : last.config ≡ first.config = ap (λ (w : Watch). w.config) watch ∙ (ap (λ (f : FeedState). f.config) goes.same ∙ ap (λ (f : FeedState). f.config) hears.same) in
+      let same : last.reader.config ≡ first.reader.config = ap (λ (w : Watch). w.config) watch ∙ (goes.reader.2 ∙ hears.config) in
       let began : last.began ≡ first.began = ap (λ (w : Watch). w.began) watch ∙ (ap (λ (f : FeedState). f.began) goes.same ∙ ap (λ (f : FeedState). f.began) hears.same) in
       let filters : last.filters ≡ first.filters = ap (λ (w : Watch). w.filters) watch ∙ (ap (λ (f : FeedState). f.filters) goes.same ∙ ap (λ (f : FeedState). f.filters) hears.same) in
       let options : last.options ≡ first.options = ap (λ (w : Watch). w.options) watch ∙ (ap (λ (f : FeedState). f.options) goes.same ∙ ap (λ (f : FeedState). f.options) hears.same) in
       ap (λ (c : Configuration). given c.history last.began last.acts last.filters last.options) same
-      ∙ (ap (λ (acts : List Act). given first.config.history acts last.acts last.filters last.options) began
-      ∙ (ap (λ (fs : List (List ℕ)). given first.config.history first.began last.acts fs last.options) filters
-      ∙ ap (λ (o : Options). given first.config.history first.began last.acts first.filters o) options))
+      ∙ (ap (λ (acts : List Act). given first.reader.config.history acts last.acts last.filters last.options) began
+      ∙ (ap (λ (fs : List (List ℕ)). given first.reader.config.history first.began last.acts fs last.options) filters
+      ∙ ap (λ (o : Options). given first.reader.config.history first.began last.acts first.filters o) options))
 
   same_acts : last.acts ≡ went.acts
   same_acts = ap (λ (p : Place). p.acts) place
@@ -65,7 +65,7 @@ module _ (config : Configuration) (answers : List (List Answered)) (first heard 
     shown = subst (λ (acts : List Act). IsShown config answers acts version) (sym same_acts)
         (shown config answers heard went version tells goes (subst (λ (acts : List Act). StandsFor acts version) same_acts shows.0, shows.1));
     all = λ h.
-        let e₁ : take heard.handed (given_by heard) ≡ take first.handed (given_by first) = ap (λ (f : FeedState). take f.handed (given_by f)) hears.same in
+        let e₁ : take heard.handed (given_by heard) ≡ take first.handed (given_by first) = same_handed first heard hears.config hears.same in
         let e₂ = went_on heard went began within goes in
         let h₂ : Are before (take went.handed (given_by went)) = h ∙ ap (map reply_to) (sym (e₂ ∙ e₁)) in
         writes h₂ ∙ ap (map reply_to) (take_all last.handed (given_by last) (omega (arith, none)) ∙ same_given watch);

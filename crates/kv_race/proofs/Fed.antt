@@ -5,7 +5,8 @@ use Rattle.std.specs.Option.{option_map}
 use Rattle.std.proofs.lemmas.List.{take_more}
 use Rattle.std.proofs.lemmas.Option.{slice_get_cases}
 use Rattle.kv_model.specs.Acts.{Act, IsPrefix}
-use Rattle.kv_model.specs.Given.{Item}
+use Rattle.kv_model.specs.Configuration.{Configuration}
+use Rattle.kv_model.specs.Given.{Item, given}
 use Rattle.kv_model.proofs.GivenLaws.{given_goes_on}
 use Rattle.kv_single.specs.Replies.{answer_of}
 use Rattle.kv_single.specs.declared.reply.Reply.{Reply}
@@ -23,12 +24,19 @@ pub went_on : (before after : FeedState) → IsPrefix before.began before.acts �
 went_on before after began within r =
     let later = after.reader.seen in
     let grows : IsPrefix before.acts later = subst (λ (acts : List Act). IsPrefix before.acts acts) (ap (λ (f : FeedState). f.acts) r.same) r.grows in
-    let more = given_goes_on before.config.history before.began before.acts later before.filters before.options began grows in
+    let more = given_goes_on before.reader.config.history before.began before.acts later before.filters before.options began grows in
     ap (λ (f : FeedState). take f.handed (given_by f)) r.same
-    ∙ (ap (take before.handed) (sym more.1) ∙ take_prefix before.handed (given_by before) more.0 within)
+    ∙ (ap (λ (c : Configuration). take before.handed (given c.history before.began later before.filters before.options)) r.reader.2
+    ∙ (ap (take before.handed) (sym more.1) ∙ take_prefix before.handed (given_by before) more.0 within))
+
+-- another reader of the configuration changes nothing of it
+pub same_handed : (before after : FeedState) → after.reader.config ≡ before.reader.config → after ≡ record before { reader = after.reader } → take after.handed (given_by after) ≡ take before.handed (given_by before)
+same_handed before after config same =
+    ap (λ (f : FeedState). take f.handed (given_by f)) same
+    ∙ ap (λ (c : Configuration). take before.handed (given c.history before.began before.acts before.filters before.options)) config
 
 pub stayed : (before after : FeedState) → IsNotRefreshed before after → take after.handed (given_by after) ≡ take before.handed (given_by before)
-stayed before after r = ap (λ (f : FeedState). take f.handed (given_by f)) r.same
+stayed before after r = same_handed before after r.reader.2 r.same
 
 handed_next : (feed : FeedState) (reply : Option Reply) (next : Option Item) → slice_get (given_by feed) feed.handed ≡ next → option_map answer_of reply ≡ option_map reply_to next
     → ((x : Item) × (feed.handed < length (given_by feed)) × (slice_get (given_by feed) feed.handed ≡ Some x) × (get_or (given_by feed) feed.handed x ≡ x)) ⊎ ((length (given_by feed) ≤ feed.handed) × (slice_get (given_by feed) feed.handed ≡ None))

@@ -8,14 +8,15 @@ use Rattle.kv_publish.proofs.Prefixes.{prefix_self, prefix_trans}
 use Rattle.kv_race.specs.Telling.{Answered, Begin, BeginAll}
 
 pub heard_nothing : (feed : FeedState) → HasLearned [] feed feed
-heard_nothing feed = record { seen = refl; former = prefix_self feed.reader.told; learned = (feed.reader.told, refl); same = refl }
+heard_nothing feed = record { config = refl; seen = refl; former = prefix_self feed.reader.told; learned = (feed.reader.told, refl); same = refl }
 
 -- what one receipt told was told
 pub heard_one : (told : List Act) (before after : FeedState) → HasLearned told before after → HasLearned [] before after
-heard_one told before after one = record { seen = one.seen; former = one.former; learned = (after.reader.told, refl); same = one.same }
+heard_one told before after one = record { config = one.config; seen = one.seen; former = one.former; learned = (after.reader.told, refl); same = one.same }
 
 pub heard_more : (a b c : FeedState) → HasLearned [] a b → HasLearned [] b c → HasLearned [] a c
 heard_more a b c p q = record {
+  config = q.config ∙ p.config;
   seen = q.seen ∙ p.seen;
   former = prefix_trans a.reader.told b.reader.told c.reader.told p.former q.former;
   learned = (c.reader.told, refl);

@@ -64,7 +64,7 @@ lawful_shown config answers acts version shows = subst (λ (c : Configuration). 
 module _ (config : Configuration) (acts : List Act) (scripts : List (List Asked)) (answers : List (List Answered)) (told_all : AllZip (AllZip (IsTold config)) scripts answers) {W E : Type 0} (feed_of : W → FeedState) (before_of : W → List Reply) (acts_of : E → List Act) (version_of : E → Stored) (seen_of : E → List Reply) where
   -- a watch that was followed from its beginning
   abbrev pub Begun : List (List ℕ) × Options → W → Type 0
-  Begun watch w = ((feed_of w).config ≡ config) × (((feed_of w).began ≡ []) × (((feed_of w).filters ≡ watch.0) × (((feed_of w).options ≡ watch.1) × Are (before_of w) (take (feed_of w).handed (given_by (feed_of w))))))
+  Begun watch w = ((feed_of w).reader.config ≡ config) × (((feed_of w).began ≡ []) × (((feed_of w).filters ≡ watch.0) × (((feed_of w).options ≡ watch.1) × Are (before_of w) (take (feed_of w).handed (given_by (feed_of w))))))
 
   begun : (watch : List (List ℕ) × Options) (feed : FeedState) (w : W) → IsFresh config watch feed → IsFollowed feed (feed_of w) (before_of w) → Begun watch w
   begun watch feed w fresh followed =

@@ -27,7 +27,7 @@ RefusesRace error outcome = Refuses error outcome ⊎ ((error ≡ NoReader) × I
 
 -- a feed of a watch that began on the empty bucket of this configuration and has handed out nothing
 pub record IsFresh (config : Configuration) (watch : List (List ℕ) × Options) (feed : FeedState) : Type 0 where
-  pub same_config : feed.config ≡ config
+  pub same_config : feed.reader.config ≡ config
   pub began : feed.began ≡ []
   pub filters : feed.filters ≡ watch.0
   pub options : feed.options ≡ watch.1

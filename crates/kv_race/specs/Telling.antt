@@ -33,7 +33,7 @@ Begin acts answers = All (λ answer. IfOk answer (λ told. IsPrefix told.1 acts)
 -- a feed was followed: it is the same watch, and where it had handed out nothing, all that it has handed out by now was
 -- written down
 pub record IsFollowed (before after : FeedState) (seen : List Reply) : Type 0 where
-  pub config : after.config ≡ before.config
+  pub config : after.reader.config ≡ before.reader.config
   pub began : after.began ≡ before.began
   pub filters : after.filters ≡ before.filters
   pub options : after.options ≡ before.options

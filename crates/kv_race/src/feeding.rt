@@ -46,7 +46,7 @@ pub(crate) fn refresh<N: LiveName, R: Wait>(rt: &R, feed: &mut Feed<N>) -> Resul
 }
 
 impl<N: LiveName> Follows for Feed<N> {
-    ghost watch = { λ feed. record { config = feed.config; began = feed.began; filters = feed.filters; options = feed.options } };
+    ghost watch = { λ feed. record { config = feed.reader.config; began = feed.began; filters = feed.filters; options = feed.options } };
 
     ghost place = { λ feed. record { acts = feed.acts; seen = feed.reader.seen; told = feed.reader.told } };
 

@@ -15,16 +15,16 @@ use Rattle.kv_publish.specs.Publications.{Published}
 abbrev pub acts_on : Published → List Act
 acts_on publication = publication.raw_prefix.acts
 
--- the watch of a feed follows from these acts of its beginning to those that the feed went on to, under this configuration;
--- its reader has seen what it went on to
+-- the watch of a feed follows from these acts of its beginning to those that the feed went on to, under this configuration,
+-- which is its reader's; its reader has seen what it went on to
 pub record IsFed (config : Configuration) (reader : ReaderState) (began : List Act) (current : Published) (watch : Watching) : Type 0 where
   pub same_config : watch.opening.config ≡ config
+  pub of : reader.config ≡ config
   pub seen : IsPrefix (acts_on current) reader.seen
   pub reach : HasHanded began (acts_on current) watch.cursor.handed current.version watch
 
-abbrev pub feed_state_of : Configuration → ReaderState → List Act → Published → Following → FeedState
-feed_state_of config reader began current cursor = record {
-  config = config;
+abbrev pub feed_state_of : ReaderState → List Act → Published → Following → FeedState
+feed_state_of reader began current cursor = record {
   reader = reader;
   began = began;
   acts = acts_on current;
@@ -34,9 +34,8 @@ feed_state_of config reader began current cursor = record {
 }
 
 -- a feed that begins with these acts and has handed out nothing
-abbrev pub opened : Configuration → ReaderState → List Act → List (List ℕ) → Options → FeedState
-opened config reader acts filters options = record {
-  config = config;
+abbrev pub opened : ReaderState → List Act → List (List ℕ) → Options → FeedState
+opened reader acts filters options = record {
   reader = reader;
   began = acts;
   acts = acts;
@@ -47,7 +46,7 @@ opened config reader acts filters options = record {
 
 -- whether a feed that is on this publication with this watch lags behind a floor
 abbrev pub TellsLag : Published → Watching → ℕ → Bool → Type 0
-TellsLag current watch floor answer = (feed : FeedState) → feed.config ≡ watch.opening.config →
+TellsLag current watch floor answer = (feed : FeedState) → feed.reader.config ≡ watch.opening.config →
     feed.acts ≡ acts_on current → feed.filters ≡ watch.cursor.filters → feed.options ≡ watch.cursor.options →
     HasHanded feed.began feed.acts feed.handed current.version watch → answer ≡ lags floor feed
 

@@ -23,5 +23,5 @@ returns c = λ feed config acts filters options reach.
     lags_near c.args.floor feed c.behind.result near
     (tells
     ∙ ap (λ (k : Configuration). is_behind c.args.floor feed.handed k.history feed.began feed.acts c.args.watch.now.cursor.filters c.args.watch.now.cursor.options) (sym config)
-    ∙ ap (λ (fs : List (List ℕ)). is_behind c.args.floor feed.handed feed.config.history feed.began feed.acts fs c.args.watch.now.cursor.options) (sym filters)
-    ∙ ap (λ (o : Options). is_behind c.args.floor feed.handed feed.config.history feed.began feed.acts feed.filters o) (sym options))
+    ∙ ap (λ (fs : List (List ℕ)). is_behind c.args.floor feed.handed feed.reader.config.history feed.began feed.acts fs c.args.watch.now.cursor.options) (sym filters)
+    ∙ ap (λ (o : Options). is_behind c.args.floor feed.handed feed.reader.config.history feed.began feed.acts feed.filters o) (sym options))

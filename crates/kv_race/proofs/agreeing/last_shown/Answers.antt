@@ -1,4 +1,4 @@
-use Rattle.std.proofs.Common.{inr}
+use Rattle.std.proofs.Common.{inr, ◌∙◌}
 use Rattle.std.proofs.lemmas.Result.{IfErr-weaker, IfOk-weaker, err_from_is_err_and}
 use Rattle.kv_bucket.specs.ReaderState.{IsUnread}
 use Rattle.kv_race.specs.Telling.{HasLast}
@@ -19,5 +19,5 @@ returns-clause-ok g c =
     let heard = c.hear_all.new.feed in
     let went = c.refresh.new.feed in
     IfOk-weaker c.version.result _ (HasLast config _ _)
-    (λ version shows. last_shown config _ went.acts version (shown config _ heard went version c.hear_all.ensures.told c.in_ok-refresh.ensures.ok shows))
+    (λ version shows. last_shown config _ went.acts version (shown config _ heard went version c.hear_all.ensures.told c.in_ok-refresh.ensures.ok (shows.0, shows.1 ∙ c.version.ensures.config)))
     c.version.ensures.ok

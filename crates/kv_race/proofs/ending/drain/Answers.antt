@@ -1,4 +1,4 @@
-use Rattle.std.proofs.Common.{◌≤◌, refl, inr, length}
+use Rattle.std.proofs.Common.{◌≤◌, ◌∙◌, refl, inr, length}
 use Rattle.std.proofs.lemmas.Result.{IfErr-weaker, IfOk-weaker, err_from_is_err_and}
 use Rattle.kv_bucket.specs.FeedState.{given_by}
 use Rattle.kv_bucket.specs.ReaderState.{IsUnread}
@@ -29,5 +29,5 @@ returns-clause-ok g c =
     IfOk-weaker c.version.result _ (λ version. IsEnded config _ c.args.feed.now c.args.seen.now.items last.reader.seen version c.collect.new.seen.items)
     (λ version shows. ended config _ c.args.feed.now heard went last last.reader.seen
     c.hear_all.ensures.heard c.hear_all.ensures.told c.in_ok-refresh.ensures.ok c.collect.ensures.place refl
-    c.args.seen.now.items c.collect.new.seen.items version shows c.handed.ensures.prefix within c.collect.ensures.watch c.collect.ensures.seen c.in_ok-collect.ensures.all)
+    c.args.seen.now.items c.collect.new.seen.items version (shows.0, shows.1 ∙ c.version.ensures.config) c.handed.ensures.prefix within c.collect.ensures.watch c.collect.ensures.seen c.in_ok-collect.ensures.all)
     c.version.ensures.ok

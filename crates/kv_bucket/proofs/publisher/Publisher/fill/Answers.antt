@@ -8,5 +8,5 @@ loop-count-preserved g c =
     let items : c.push.new.self.items ≡ c.loop-count.readers.items ++ c.in_ok-reader.reader ∷ [] = search rules in
     let within : length c.push.new.self.items ≤ c.args.count = search rules in (
       within,
-      subst (All (λ r. (r.seen ≡ []) × (r.told ≡ c.args.self.now))) (sym items) (All-push (λ r. (r.seen ≡ []) × (r.told ≡ c.args.self.now)) c.loop-count.readers.items c.in_ok-reader.reader c.loop-count.invariant.1 (c.in_ok-reader.ensures.0, c.in_ok-reader.ensures.1)),
+      subst (All (λ r. (r.seen ≡ []) × (r.told ≡ c.args.self.now))) (sym items) (All-push (λ r. (r.seen ≡ []) × (r.told ≡ c.args.self.now)) c.loop-count.readers.items c.in_ok-reader.reader c.loop-count.invariant.1 (c.in_ok-reader.ensures.1, c.in_ok-reader.ensures.2)),
     )
