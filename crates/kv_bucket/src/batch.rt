@@ -164,8 +164,29 @@ impl<N: LiveName> Keeper<N> {
         Ok((revision, receipt))
     }
 
-    // The same of any batch. A receipt for no requests is one for no step.
-    fn write_step<R: Wait>(
+    /// Does all that is asked in one step, as `Bucket::write_all` does, and publishes it at once: no reader, feed or
+    /// watch sees what is published between two writes of a batch. It answers the revision of the first. A refused
+    /// batch changes nothing, publishes nothing and uses no revision. Of no requests nothing is published, and the last
+    /// revision is answered.
+    ///
+    /// Want of memory is told at the request during which memory was refused, and while the batch is published at the
+    /// last. The versions that writes were to be made of are let go, as a compaction does it: the writes behind a batch
+    /// make nodes anew until each of the three has its own.
+    pub fn write_all<R: Wait>(&mut self, rt: &R, requests: &[Request]) -> Result<u64, BatchRefused>
+        ensures ok { IfOk result (λ first. IsKeptBatch self.old requests.now first self.new) }
+        ensures published { IfOk result
+            (λ first. PublishesAll N.opening.config (map asked requests.now) first self.old.published
+            self.new.published) }
+        ensures refused { IfErr result (λ refused. (state : State) → IsAt state self.old →
+            IsRefusedAt state.config (map asked requests.now) state.acts refused) }
+        ensures unchanged { OnErr result (self.new ≡ self.old) }
+    {
+        let (first, _) = self.write_all_told(rt, requests)?;
+        Ok(first)
+    }
+
+    /// As `write_all` does, with a receipt for all of it. A receipt for no requests is one for no step.
+    pub fn write_all_told<R: Wait>(
         &mut self,
         rt: &R,
         requests: &[Request],
@@ -185,44 +206,6 @@ impl<N: LiveName> Keeper<N> {
                 Ok((self.bucket.version().revision(), receipt))
             }
         }
-    }
-
-    /// Does all that is asked in one step, as `Bucket::write_all` does, and publishes it at once: no reader, feed or
-    /// watch sees what is published between two writes of a batch. It answers the revision of the first. A refused
-    /// batch changes nothing, publishes nothing and uses no revision. Of no requests nothing is published, and the last
-    /// revision is answered.
-    ///
-    /// Want of memory is told at the request during which memory was refused, and while the batch is published at the
-    /// last. The versions that writes were to be made of are let go, as a compaction does it: the writes behind a batch
-    /// make nodes anew until each of the three has its own.
-    pub fn write_all<R: Wait>(&mut self, rt: &R, requests: &[Request]) -> Result<u64, BatchRefused>
-        ensures ok { IfOk result (λ first. IsKeptBatch self.old requests.now first self.new) }
-        ensures published { IfOk result
-            (λ first. PublishesAll N.opening.config (map asked requests.now) first self.old.published
-            self.new.published) }
-        ensures refused { IfErr result (λ refused. (state : State) → IsAt state self.old →
-            IsRefusedAt state.config (map asked requests.now) state.acts refused) }
-        ensures unchanged { OnErr result (self.new ≡ self.old) }
-    {
-        let (first, _) = self.write_step(rt, requests)?;
-        Ok(first)
-    }
-
-    /// As `write_all` does, with a receipt for all of it.
-    pub fn write_all_told<R: Wait>(
-        &mut self,
-        rt: &R,
-        requests: &[Request],
-    ) -> Result<(u64, BatchReceipt<N>), BatchRefused>
-        ensures ok { IfOk result (λ r. IsKeptBatch self.old requests.now r.0 self.new) }
-        ensures published { IfOk result
-            (λ r. PublishesAll N.opening.config (map asked requests.now) r.0 self.old.published self.new.published) }
-        ensures told { IfOk result (λ r. r.1 ≡ step_of self.old.published self.new.published) }
-        ensures refused { IfErr result (λ refused. (state : State) → IsAt state self.old →
-            IsRefusedAt state.config (map asked requests.now) state.acts refused) }
-        ensures unchanged { OnErr result (self.new ≡ self.old) }
-    {
-        self.write_step(rt, requests)
     }
 }
 

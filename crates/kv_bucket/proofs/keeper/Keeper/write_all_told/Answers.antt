@@ -1,5 +1,5 @@
 use Rattle.kv_bucket.proofs.Batching.{none_kept}
-use Rattle.kv_bucket.proofs.keeper.Keeper.write_step.Goals as goal
+use Rattle.kv_bucket.proofs.keeper.Keeper.write_all_told.Goals as goal
 
 pub returns-in-None-clause-ok : goal.returns-in-None-clause-ok
 returns-in-None-clause-ok g c =
