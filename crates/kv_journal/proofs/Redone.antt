@@ -10,7 +10,6 @@ use Rattle.kv_model.specs.Acts.{Act, Wrote, Seal, Compact, Write, writes_of, flo
 use Rattle.kv_model.specs.Compaction.{is_bad_floor}
 use Rattle.kv_model.specs.Configuration.{Configuration}
 use Rattle.kv_model.specs.Requests.{Asked, asked, key_of, op_of, value_of, write_for}
-use Rattle.kv_model.specs.declared.write.Op.{Op}
 use Rattle.kv_model.proofs.Numbered.{accepted_is_next}
 use Rattle.kv_store.specs.Standing.{StandsFor}
 use Rattle.kv_store.specs.Stored.{Stored}
@@ -21,22 +20,11 @@ use Rattle.kv_journal.specs.declared.decode.Record.{Record}
 use Rattle.kv_journal.specs.declared.decode.Record.TheVariants as records
 use Rattle.kv_model.specs.declared.request.Request.{Request}
 use Rattle.kv_journal.specs.inside.Redoes.{Redoes, RedoesEntry}
-use Rattle.kv_journal.proofs.Saying.{kind_low, same_write, same_number}
+use Rattle.kv_journal.proofs.Saying.{kind_low, same_fields, same_write, same_number}
 use Rattle.kv_journal.proofs.Accepting.{plain_is_accepted}
 
 abbrev first : List ℕ → ℕ
 first xs = get_or xs 0 0
-
-made : (key : List ℕ) (op : Op) (value : List ℕ) (revision : ℕ) → Write
-made key op value revision = record { key = key; op = op; value = value; revision = revision }
-
-same_fields : (v w : Write) → v.key ≡ w.key → v.op ≡ w.op → v.value ≡ w.value → v.revision ≡ w.revision → v ≡ w
-unfolding made
-same_fields v w k o x r =
-    ap (λ (z : List ℕ). made z v.op v.value v.revision) k
-    ∙ ap (λ (z : Op). made w.key z v.value v.revision) o
-    ∙ ap (λ (z : List ℕ). made w.key w.op z v.revision) x
-    ∙ ap (λ (z : ℕ). made w.key w.op w.value z) r
 
 seal_is_no_write : (request : Asked) (bytes : List ℕ) → SaysWrite request bytes → 4 ∷ [] ≡ bytes → ⊥
 seal_is_no_write request bytes says e =

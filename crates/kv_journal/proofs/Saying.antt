@@ -3,7 +3,7 @@ use Rattle.std.proofs.Common.{◌≡◌, ◌≢◌, ℕ, ◌^◌, ◌<◌, ◌�
 use Rattle.std.specs.Int.{w64, to_be_bytes, from_be_bytes}
 use Rattle.std.proofs.lemmas.Nat.{from_be_bytes-to_be_bytes_8}
 use Rattle.kv_keys.specs.Grammar.{is_key}
-use Rattle.kv_model.specs.Acts.{Wrote, Seal, Compact, is_put}
+use Rattle.kv_model.specs.Acts.{Wrote, Seal, Compact, Write, is_put}
 use Rattle.kv_model.specs.declared.write.Op.{Op}
 use Rattle.kv_model.specs.declared.write.Op.TheVariants.{Put, Delete, Purge}
 use Rattle.kv_frames.proofs.Fronts.{sides}
@@ -35,6 +35,18 @@ same_write a b k l v w e =
     let len : length k ≡ length l = ap (λ (xs : List ℕ). get_or xs 1 0) e in
     let both = sides k v l w len (ap (λ (xs : List ℕ). drop 2 xs) e) in
     (same_kind a b kind, both.0, both.1)
+
+-- a write is told by its parts
+made : (key : List ℕ) (op : Op) (value : List ℕ) (revision : ℕ) → Write
+made key op value revision = record { key = key; op = op; value = value; revision = revision }
+
+pub same_fields : (v w : Write) → v.key ≡ w.key → v.op ≡ w.op → v.value ≡ w.value → v.revision ≡ w.revision → v ≡ w
+unfolding made
+same_fields v w k o x r =
+    ap (λ (z : List ℕ). made z v.op v.value v.revision) k
+    ∙ ap (λ (z : Op). made w.key z v.value v.revision) o
+    ∙ ap (λ (z : List ℕ). made w.key w.op z v.revision) x
+    ∙ ap (λ (z : ℕ). made w.key w.op w.value z) r
 
 -- a number in eight bytes
 pub same_number : (m n : ℕ) → m < 2 ^ 64 → n < 2 ^ 64 → to_be_bytes w64 m ≡ to_be_bytes w64 n → m ≡ n

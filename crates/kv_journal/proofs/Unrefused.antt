@@ -13,7 +13,6 @@ use Rattle.kv_model.specs.Acts.{Act, Wrote, Seal, Compact, Write, floor_of, writ
 use Rattle.kv_model.specs.Compaction.{is_stored, stored_writes}
 use Rattle.kv_model.specs.Configuration.{Configuration, IsLegal}
 use Rattle.kv_model.specs.Retained.{is_kept, retained, revisions}
-use Rattle.kv_model.specs.declared.write.Op.{Op}
 use Rattle.kv_model.proofs.Members.{Contains-from_filter, Contains-here, Contains-map, Contains-none}
 use Rattle.kv_model.proofs.Numbered.{counts_from_lawful, rises_counted, writes_of-compact, writes_of-seal, writes_of-wrote}
 use Rattle.kv_model.proofs.Rising.{Rises, Rises-apart, Rises-members}
@@ -24,22 +23,11 @@ use Rattle.kv_journal.specs.Replays.{IsDamaged}
 use Rattle.kv_journal.specs.declared.replays.ReplayError.{ReplayError}
 use Rattle.kv_journal.proofs.Accepting.{accepted_is_recordable}
 use Rattle.kv_journal.proofs.FewWrites.{below_limit, legal_limit}
-use Rattle.kv_journal.proofs.Saying.{same_write}
+use Rattle.kv_journal.proofs.Saying.{same_fields, same_write}
 
 -- the fifth byte of a payload is its record's kind
 abbrev kind : List ℕ → ℕ
 kind p = get_or p 4 0
-
-made : (key : List ℕ) (op : Op) (value : List ℕ) (revision : ℕ) → Write
-made key op value revision = record { key = key; op = op; value = value; revision = revision }
-
-same_fields : (v w : Write) → v.key ≡ w.key → v.op ≡ w.op → v.value ≡ w.value → v.revision ≡ w.revision → v ≡ w
-unfolding made
-same_fields v w k o x r =
-    ap (λ (z : List ℕ). made z v.op v.value v.revision) k
-    ∙ ap (λ (z : Op). made w.key z v.value v.revision) o
-    ∙ ap (λ (z : List ℕ). made w.key w.op z v.revision) x
-    ∙ ap (λ (z : ℕ). made w.key w.op w.value z) r
 
 -- a stored write is told by its payload
 same_stored : (v w : Write) → v.revision < 2 ^ 32 → w.revision < 2 ^ 32 → stored_payload v ≡ stored_payload w → v ≡ w
