@@ -3,6 +3,9 @@ pub mod ByteByByte
 pub mod Counting
 pub mod Ending
 pub mod Lacking
+pub mod Leaving
+pub mod LeavingBytes
+pub mod LeavingRuns
 pub mod Parsing
 pub mod Pours
 pub mod Progress

@@ -7,12 +7,13 @@ use Rattle.kv_script.specs.declared.form.Form.{Form}
 use Rattle.kv_replay.specs.Outcome.{IsWholeLines}
 use Rattle.kv_replay.specs.inside.Reading.{Reading, after_bytes, ended, grown, line_ended, said, step, within}
 use Rattle.kv_replay.specs.inside.Scripted.{Scripted, Holds}
-use Rattle.kv_replay.specs.Sessions.{Session, line_text, line_next}
+use Rattle.kv_replay.specs.Sessions.{Session, end_text, line_text, line_next}
 use Rattle.kv_replay.specs.inside.Written.{Pours, PoursFront, Puts}
 use Rattle.kv_replay.specs.declared.lines.TheConstants.{KEPT_BYTES}
 use Rattle.kv_replay.proofs.Pours.{front_later, front_more, pours-trans, pours_none, puts_later, puts_more}
 use Rattle.kv_replay.proofs.WholeLines.{IsWholeLines-append, IsWholeLines-nil}
-use Rattle.kv_replay.proofs.Turns.{line_text-whole}
+use Rattle.kv_replay.proofs.ByteByByte.{after-append, said-append}
+use Rattle.kv_replay.proofs.Turns.{line_next-long, line_text-long, line_text-whole}
 
 -- ---- bytes that end no line
 
@@ -87,6 +88,9 @@ Ended form = ended KEPT_BYTES (line_text form) (line_next form)
 abbrev LineEnded : Form → Reading Session → Reading Session
 LineEnded form = line_ended KEPT_BYTES (line_text form) (line_next form)
 
+pub no_items : (m n : ℕ) → m ≡ n → (m == 0) ≡ true → n ≡ 0
+no_items m n same none = sym same ∙ eqb-true m 0 none
+
 pub holds_within : (r : Reading Session) (part : List ℕ) (script script' : Scripted) → Holds r script
     → script' ≡ record script { line = grown KEPT_BYTES script.line part } → Holds (within KEPT_BYTES r part) script'
 holds_within r part script script' holding is = subst (Holds (within KEPT_BYTES r part)) (sym is) (record {
@@ -110,6 +114,10 @@ pub record Took (form : Form) (r : Reading Session) (bytes : List ℕ) (held : O
   pub poured : Pours done held before wrote out
   pub said_is : Said form r bytes ≡ done ++ Said form reading left
   pub after_is : After form r bytes ≡ After form reading left
+  pub front : List ℕ
+  pub cut : bytes ≡ front ++ left
+  pub reads : reading ≡ After form r front
+  pub says : done ≡ Said form r front
 
 pub took_none : {form : Form} (r : Reading Session) (bytes : List ℕ) (held : Option (List ℕ)) (out : List ℕ) (script : Scripted) → Holds r script → Took form r bytes held out held out script bytes
 took_none {form} r bytes held out script holding = record {
@@ -120,6 +128,10 @@ took_none {form} r bytes held out script holding = record {
   poured = pours_none held out;
   said_is = refl;
   after_is = refl;
+  front = [];
+  cut = refl;
+  reads = refl;
+  says = refl;
 }
 
 -- what is left, where a line feed is in it
@@ -157,6 +169,27 @@ module _ {form : Form} (r : Reading Session) (bytes : List ℕ) (held : Option (
   all_is : (so_far.done ++ Ended form whole_line) ++ more ≡ Said form r bytes
   all_is = append_assoc so_far.done (Ended form whole_line) more ∙ sym (so_far.said_is ∙ ap (λ text. so_far.done ++ text) said_line)
 
+  -- what was taken, with this line and its line feed
+  abbrev pub taken : List ℕ
+  taken = so_far.front ++ (part ++ 10 ∷ [])
+
+  pub cut_more : bytes ≡ taken ++ rest
+  cut_more =
+      so_far.cut ∙ ap (λ t. so_far.front ++ t) (line.parts ∙ sym (append_assoc part (10 ∷ []) rest)) ∙ sym (append_assoc so_far.front (part ++ 10 ∷ []) rest)
+
+  pub reads_more : LineEnded form whole_line ≡ After form r taken
+  reads_more =
+      sym (after-append KEPT_BYTES (line_text form) (line_next form) end_text (line_text-long form) (line_next-long form) r so_far.front (part ++ 10 ∷ [])
+      ∙ ap (λ reading. After form reading (part ++ 10 ∷ [])) (sym so_far.reads)
+      ∙ after-within KEPT_BYTES (line_text form) (line_next form) so_far.reading part (10 ∷ []) line.inside)
+
+  pub says_more : so_far.done ++ Ended form whole_line ≡ Said form r taken
+  says_more =
+      sym (said-append KEPT_BYTES (line_text form) (line_next form) end_text (line_text-long form) (line_next-long form) r so_far.front (part ++ 10 ∷ [])
+      ∙ ap (λ reading. Said form r so_far.front ++ Said form reading (part ++ 10 ∷ [])) (sym so_far.reads)
+      ∙ ap (λ t. Said form r so_far.front ++ t) (said-within KEPT_BYTES (line_text form) (line_next form) so_far.reading part (10 ∷ []) line.inside ∙ append-nil (Ended form whole_line))
+      ∙ ap (λ t. t ++ Ended form whole_line) (sym so_far.says))
+
   pub took_line : (wrote' : Option (List ℕ)) (out' : List ℕ) (script' : Scripted) → Pours (Ended form whole_line) wrote out wrote' out' × Holds (LineEnded form whole_line) script'
       → (behind : List ℕ) → behind ≡ rest → Took form r bytes held before wrote' out' script' behind
   took_line wrote' out' script' (said_it, holding) behind is = subst (Took form r bytes held before wrote' out' script') (sym is) (record {
@@ -168,6 +201,10 @@ module _ {form : Form} (r : Reading Session) (bytes : List ℕ) (held : Option (
     said_is = sym all_is;
     after_is = so_far.after_is ∙ ap (After form so_far.reading) line.parts
         ∙ after-within KEPT_BYTES (line_text form) (line_next form) so_far.reading part (10 ∷ rest) line.inside;
+    front = taken;
+    cut = cut_more;
+    reads = reads_more;
+    says = says_more;
   })
 
   pub took_fault : (wrote' : Option (List ℕ)) → Puts (out ++ Ended form whole_line) wrote wrote' → Puts (before ++ Said form r bytes) held wrote'

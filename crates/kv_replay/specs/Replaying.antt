@@ -1,10 +1,13 @@
 -- A whole replay under a configuration: its answer, and what it read and wrote.
 use Rattle.std.specs.Prelude.{◌≡◌, ⊤, ℕ, List, Option, Result, Ok, IfErr, IsErrOf, OnOk}
+use Rattle.std.specs.Io.{StartsWith}
 use Rattle.kv_keys.specs.declared.error.KvError.{KvError}
 use Rattle.kv_keys.specs.declared.error.KvError.TheVariants.{OutOfMemory, ReadFault, WriteFault}
 use Rattle.kv_script.specs.declared.form.Form.{Form}
 use Rattle.kv_replay.specs.Faults.{EndsRun, IsRunFault}
-use Rattle.std.specs.Io.KnownBytes.{Consumes}
+use Rattle.std.specs.Io.KnownBytes.{Appends, Consumes}
+use Rattle.kv_model.specs.Acts.{Act, IsPrefix}
+use Rattle.kv_model.specs.State.{State}
 use Rattle.kv_single.specs.Held.{Bucketed, Represents}
 use Rattle.kv_replay.specs.Outcome.{Replays, Breaks, Stops, StopsWhole}
 use Rattle.kv_replay.specs.Sessions.{Session, script_text, state_behind, text_from, whole_from, whole_text}
@@ -46,3 +49,20 @@ pub record EndsAt (form : Form) (session : Session) (unread left : Option (List 
   pub input : List ℕ
   pub read : Consumes unread left input
   pub stands : Represents (state_behind form session input) bucket
+
+-- the bucket is at a state of these acts, however far its watches have come
+abbrev pub HasActs : List Act → Bucketed → Type 0
+HasActs acts bucket = (state : State) × (state.acts ≡ acts) × Represents state bucket
+
+-- What was answered was done, however the run has ended: what was written is a beginning of the answers to some of what was read,
+-- its beginning, and the bucket has the acts that this leads to.
+pub record LeftAt (form : Form) (session : Session) (unread left held holds : Option (List ℕ)) (bucket : Bucketed) :
+    Type 0 where
+  pub input : List ℕ
+  pub read : Consumes unread left input
+  pub done : List ℕ
+  pub first : IsPrefix done input
+  pub acts : HasActs (state_behind form session done).acts bucket
+  pub text : List ℕ
+  pub begins : StartsWith (text_from form session done) text
+  pub written : Appends held holds text

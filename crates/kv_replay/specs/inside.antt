@@ -1,4 +1,5 @@
 pub mod Gathering
+pub mod Leaving
 pub mod Reading
 pub mod Scripted
 pub mod Written

@@ -10,6 +10,7 @@ ghost use Rattle.kv_script.specs.declared.form.Form.TheVariants.{Base64};
 ghost use Rattle.kv_replay.specs.Faults.{IsRefusal, IsWriteOrMemory};
 ghost use Rattle.kv_replay.specs.Steps.{Does, EndsBetween, EndsEarly};
 ghost use Rattle.kv_replay.specs.Text.{line_steps, steps, steps_next, steps_text, takes};
+ghost use Rattle.kv_replay.specs.inside.Leaving.{LeavesLine};
 ghost use Rattle.kv_replay.specs.inside.Written.{Pours, PoursFront, Puts};
 
 use crate::output::Output;
@@ -144,6 +145,9 @@ pub(crate) fn pour_command<T: Target, K: Output>(
     ensures memory { IsErrOf result KvError.OutOfMemory → (state : State) → Represents state (T.bucket target.old) →
         PoursFront (steps_text (steps form state (meaning_of command.now)))
         (K.held sink.old) out.old.items (K.held sink.new) out.new.items }
+    ensures left { OnErr result ((state : State) → Represents state (T.bucket target.old) →
+        LeavesLine state.acts (steps_next state (steps form state (meaning_of command.now))).acts (T.bucket target.new)
+        (K.held sink.old) out.old.items (K.held sink.new) out.new.items) }
     ensures fault { IfErr result IsWriteOrMemory }
 {
     if let Command::Take { watch, count } = command {

@@ -1,6 +1,6 @@
 //! Answers to batches.
 
-ghost use Rattle.std.specs.Prelude.{◌≡◌, ◌≢◌, ◌<◌, ◌+◌, ◌++◌, [], Err, OnOk, OnErr, IfErr, IsErrOf, length, map};
+ghost use Rattle.std.specs.Prelude.{◌≡◌, ◌≢◌, ◌⊎◌, ◌<◌, ◌+◌, ◌++◌, [], Err, OnOk, OnErr, IfErr, IsErrOf, length, map};
 ghost use Rattle.kv_single.specs.Held.{Represents};
 ghost use Rattle.kv_model.specs.Batches.{accept_all, after_batch};
 ghost use Rattle.kv_model.specs.Requests.{asked};
@@ -9,6 +9,7 @@ ghost use Rattle.kv_keys.specs.declared.error.KvError.TheVariants.{OutOfMemory};
 ghost use Rattle.kv_script.specs.Text.{batch_refusal_text};
 ghost use Rattle.kv_replay.specs.Batches.{outcome, outcome_text};
 ghost use Rattle.kv_replay.specs.Faults.{IsWriteOrMemory};
+ghost use Rattle.kv_replay.specs.inside.Leaving.{LeavesLine};
 ghost use Rattle.kv_replay.specs.inside.Written.{Pours, Puts};
 
 use crate::batch::Batch;
@@ -61,6 +62,9 @@ fn answer_requests<T: Target>(
         ≡ out.old.items ++ outcome_text (accept_all state.config (map asked requests.now) state.acts))
         × Represents (after_batch state (accept_all state.config (map asked requests.now) state.acts)) (T.bucket target.new)) }
     ensures err { OnErr result (out.new.items ≡ out.old.items) }
+    ensures left { OnErr result ((state : State) → Represents state (T.bucket target.old) →
+        Represents state (T.bucket target.new)
+        ⊎ Represents (after_batch state (accept_all state.config (map asked requests.now) state.acts)) (T.bucket target.new)) }
     ensures memory { IfErr result (λ e. e ≡ OutOfMemory) }
 {
     let before = target.as_bucket().version().revision();
@@ -105,6 +109,9 @@ fn answer_batch<T: Target>(
         (out.new.items ≡ out.old.items ++ outcome_text (outcome state batch.now.asked))
         × Represents (after_batch state (outcome state batch.now.asked)) (T.bucket target.new)) }
     ensures err { OnErr result (out.new.items ≡ out.old.items) }
+    ensures left { OnErr result ((state : State) → Represents state (T.bucket target.old) →
+        Represents state (T.bucket target.new)
+        ⊎ Represents (after_batch state (outcome state batch.now.asked)) (T.bucket target.new)) }
     ensures memory { IfErr result (λ e. e ≡ OutOfMemory) }
 {
     match batch.asked() {
@@ -132,6 +139,9 @@ pub(crate) fn pour_batch<T: Target, K: Output>(
         Puts (out.old.items ++ outcome_text (outcome state batch.now.asked)) (K.held sink.old) (K.held sink.new)) }
     ensures memory { IsErrOf result KvError.OutOfMemory →
         Pours [] (K.held sink.old) out.old.items (K.held sink.new) out.new.items }
+    ensures left { OnErr result ((state : State) → Represents state (T.bucket target.old) →
+        LeavesLine state.acts (after_batch state (outcome state batch.now.asked)).acts (T.bucket target.new)
+        (K.held sink.old) out.old.items (K.held sink.new) out.new.items) }
     ensures fault { IfErr result IsWriteOrMemory }
 {
     answer_batch(alloc, target, batch, out)?;

@@ -1,12 +1,13 @@
 //! A whole script, from a source to a sink.
 
-ghost use Rattle.std.specs.Prelude.{◌≡◌, ◌<◌, length, false, OnOk, IfOk, IfErr, IsErrOf};
+ghost use Rattle.std.specs.Prelude.{◌≡◌, ◌<◌, length, false, OnOk, OnErr, IfOk, IfErr, IsErrOf};
 ghost use Rattle.kv_keys.specs.declared.error.KvError.TheVariants.{OutOfMemory};
 ghost use Rattle.std.specs.Io.KnownBytes.{Appends};
 ghost use Rattle.kv_replay.specs.Faults.{IsBadConfiguration, IsRunFault, IsWriteOrMemory};
 ghost use Rattle.kv_replay.specs.Outcome.{Replays, Breaks, Stops, StopsWhole};
+ghost use Rattle.kv_replay.specs.inside.Leaving.{LeftAtEnd, LeftInBytes};
 ghost use Rattle.kv_replay.specs.inside.Reading.{Reading, beginning, after_bytes, said, closed};
-ghost use Rattle.kv_replay.specs.Replaying.{EndsAt, Ran, RanFrom};
+ghost use Rattle.kv_replay.specs.Replaying.{EndsAt, LeftAt, Ran, RanFrom};
 ghost use Rattle.kv_replay.specs.inside.Scripted.{Holds, scripted};
 ghost use Rattle.kv_replay.specs.Sessions.{Session, end_text, line_text, line_next, outside, text_from, whole_from};
 ghost use Rattle.kv_replay.specs.inside.Written.{Puts, PutsWhole};
@@ -47,6 +48,8 @@ fn answer_bytes<T: Target, K: Output>(
         Puts (said KEPT_BYTES (line_text form) (line_next form) r bytes.now) (K.held sink.old) (K.held sink.new)) }
     ensures memory { IsErrOf result KvError.OutOfMemory → (r : Reading Session) → Holds r (scripted T.bucket script.old) →
         PutsWhole (said KEPT_BYTES (line_text form) (line_next form) r bytes.now) (K.held sink.old) (K.held sink.new) }
+    ensures left { OnErr result ((r : Reading Session) → Holds r (scripted T.bucket script.old) →
+        LeftInBytes form r bytes.now (K.held sink.old) (K.held sink.new) (T.bucket script.new.session.target)) }
     ensures fault { IfErr result IsWriteOrMemory }
 {
     let mut out = Vec::new(alloc);
@@ -78,6 +81,8 @@ fn answer_end<T: Target, K: Output>(
         PutsWhole (closed KEPT_BYTES (line_text form) (line_next form) end_text r) (K.held sink.old) (K.held sink.new) }
     ensures stands { OnOk result ((r : Reading Session) → Holds r (scripted T.bucket script.old) →
         Represents (line_next form r.state r.line).state (T.bucket script.new.session.target)) }
+    ensures left { (r : Reading Session) → Holds r (scripted T.bucket script.old) →
+        LeftAtEnd form r (K.held sink.old) (K.held sink.new) (T.bucket script.new.session.target) }
     ensures fault { IfErr result IsWriteOrMemory }
 {
     let mut out = Vec::new(alloc);
@@ -123,6 +128,9 @@ fn answer_lines<T: Target, S: BoundedInput, K: Output>(
         (K.held sink.old) (K.held sink.new) }
     ensures stands { OnOk result ((session : Session) → Holds (beginning session) (scripted T.bucket script.old) →
         EndsAt form session (S.left source.old) (S.left source.new) (T.bucket script.new.session.target)) }
+    ensures left { (session : Session) → Holds (beginning session) (scripted T.bucket script.old) →
+        LeftAt form session (S.left source.old) (S.left source.new) (K.held sink.old) (K.held sink.new)
+        (T.bucket script.new.session.target) }
     ensures fault { IfErr result IsRunFault }
 {
     'reads: loop {
@@ -158,6 +166,9 @@ fn answer_script<T: Target, S: BoundedInput, K: Output>(
         (S.left source.old) (S.left source.new) (K.held sink.old) (K.held sink.new) result }
     ensures stands { OnOk result ((session : Session) → Holds (beginning session) (scripted T.bucket script.old) →
         EndsAt form session (S.left source.old) (S.left source.new) (T.bucket script.new.session.target)) }
+    ensures left { (session : Session) → Holds (beginning session) (scripted T.bucket script.old) →
+        LeftAt form session (S.left source.old) (S.left source.new) (K.held sink.old) (K.held sink.new)
+        (T.bucket script.new.session.target) }
     ensures in_time { S.has_ended source.old ≡ false → S.was_asked_late source.new ≡ S.was_asked_late source.old }
     ensures read_fault { IsErrOf result KvError.ReadFault → S.failed_between source.old source.new }
     ensures write_fault { IsErrOf result KvError.WriteFault → K.failed_between sink.old sink.new }
@@ -195,6 +206,10 @@ pub fn run_on<T: Target, S: BoundedInput, K: Output>(
     // What it ran on is at the state that the script leads to.
     ensures stands { OnOk result.result ((state : State) → Represents state (T.bucket target) →
         EndsAt form (outside state) (S.left source.old) (S.left source.new) (T.bucket result.target)) }
+    // What was answered was done, also where it ended early.
+    ensures left { (state : State) → Represents state (T.bucket target) →
+        LeftAt form (outside state) (S.left source.old) (S.left source.new) (K.held sink.old) (K.held sink.new)
+        (T.bucket result.target) }
     ensures in_time { S.has_ended source.old ≡ false → S.was_asked_late source.new ≡ S.was_asked_late source.old }
     ensures read_fault { IsErrOf result.result KvError.ReadFault → S.failed_between source.old source.new }
     ensures write_fault { IsErrOf result.result KvError.WriteFault → K.failed_between sink.old sink.new }

@@ -1,13 +1,15 @@
 //! What the lines of a script have come to: what it runs on, and the batch that has begun.
 
-ghost use Rattle.std.specs.Prelude.{◌≡◌, ◌++◌, [], None, Some, Ok, OnOk, IfErr, IsErrOf};
+ghost use Rattle.std.specs.Prelude.{◌≡◌, ◌++◌, [], None, Some, Ok, OnOk, OnErr, IfErr, IsErrOf};
 ghost use Rattle.kv_single.specs.Held.{Represents};
 ghost use Rattle.kv_model.specs.State.{State};
 ghost use Rattle.kv_script.specs.Commands.{line_command, meaning_of};
 ghost use Rattle.kv_replay.specs.Batches.{Asks, all_asked};
 ghost use Rattle.kv_replay.specs.Faults.{IsWriteOrMemory};
+ghost use Rattle.kv_replay.specs.Replaying.{HasActs};
 ghost use Rattle.kv_replay.specs.Sessions.{Begun, Session, batch_goes_on, batch_size, counted_turn, end_text, turn};
 ghost use Rattle.kv_replay.specs.inside.Gathering.{gathered};
+ghost use Rattle.kv_replay.specs.inside.Leaving.{LeavesLine};
 ghost use Rattle.kv_replay.specs.inside.Scripted.{Stands, held};
 ghost use Rattle.kv_replay.specs.inside.Written.{Pours, PoursFront, Puts};
 
@@ -69,6 +71,9 @@ impl<T: Target> Interpreter<T> {
             Puts (out.old.items ++ (batch_goes_on s batch.awaited asks).0) (K.held sink.old) (K.held sink.new)) }
         ensures memory { IsErrOf result KvError.OutOfMemory →
             Pours [] (K.held sink.old) out.old.items (K.held sink.new) out.new.items }
+        ensures left { OnErr result ((s : State) (asks : Asks) → Represents s (T.bucket self.old.target) → batch.asked ≡ all_asked asks →
+            LeavesLine s.acts (batch_goes_on s batch.awaited asks).1.state.acts (T.bucket self.new.target)
+            (K.held sink.old) out.old.items (K.held sink.new) out.new.items) }
         ensures fault { IfErr result IsWriteOrMemory }
     {
         if batch.awaited() == 0 {
@@ -101,6 +106,9 @@ impl<T: Target> Interpreter<T> {
             Puts (out.old.items ++ (counted_turn form s (Some b) line.now).0) (K.held sink.old) (K.held sink.new)) }
         ensures memory { IsErrOf result KvError.OutOfMemory →
             Pours [] (K.held sink.old) out.old.items (K.held sink.new) out.new.items }
+        ensures left { OnErr result ((s : State) (b : Begun) → Represents s (T.bucket self.old.target) → begun ≡ gathered b →
+            LeavesLine s.acts (counted_turn form s (Some b) line.now).1.state.acts (T.bucket self.new.target)
+            (K.held sink.old) out.old.items (K.held sink.new) out.new.items) }
         ensures fault { IfErr result IsWriteOrMemory }
     {
         let mut batch = begun;
@@ -129,6 +137,9 @@ impl<T: Target> Interpreter<T> {
         ensures memory { IsErrOf result KvError.OutOfMemory → (s : State) → Represents s (T.bucket self.old.target) →
             PoursFront (counted_turn form s None line.now).0
             (K.held sink.old) out.old.items (K.held sink.new) out.new.items }
+        ensures left { OnErr result ((s : State) → Represents s (T.bucket self.old.target) →
+            LeavesLine s.acts (counted_turn form s None line.now).1.state.acts (T.bucket self.new.target)
+            (K.held sink.old) out.old.items (K.held sink.new) out.new.items) }
         ensures fault { IfErr result IsWriteOrMemory }
     {
         match parse(alloc, form, line) {
@@ -161,6 +172,9 @@ impl<T: Target> Interpreter<T> {
         ensures memory { IsErrOf result KvError.OutOfMemory → (s : Session) → Stands s (held T.bucket self.old) →
             PoursFront (turn form s line.now).0
             (K.held sink.old) out.old.items (K.held sink.new) out.new.items }
+        ensures left { OnErr result ((s : Session) → Stands s (held T.bucket self.old) →
+            LeavesLine s.state.acts (turn form s line.now).1.state.acts (T.bucket self.new.target)
+            (K.held sink.old) out.old.items (K.held sink.new) out.new.items) }
         ensures fault { IfErr result IsWriteOrMemory }
     {
         if is_skipped(line) {
@@ -190,6 +204,9 @@ impl<T: Target> Interpreter<T> {
             Pours [] (K.held sink.old) out.old.items (K.held sink.new) out.new.items }
         ensures stands { OnOk result ((s : Session) → Stands s (held T.bucket self.old) →
             Represents s.state (T.bucket self.new.target)) }
+        // A batch that is refused is no act.
+        ensures left { OnErr result ((s : Session) → Stands s (held T.bucket self.old) →
+            HasActs s.state.acts (T.bucket self.new.target)) }
         ensures fault { IfErr result IsWriteOrMemory }
     {
         match self.batch.take() {

@@ -1,8 +1,9 @@
 //! A script that is being read: the session so far, and the line that has begun.
 
-ghost use Rattle.std.specs.Prelude.{◌≡◌, ◌++◌, [], OnOk, IfErr, IsErrOf};
+ghost use Rattle.std.specs.Prelude.{◌≡◌, ◌++◌, [], OnOk, OnErr, IfErr, IsErrOf};
 ghost use Rattle.kv_single.specs.Held.{Represents};
 ghost use Rattle.kv_replay.specs.Faults.{IsWriteOrMemory};
+ghost use Rattle.kv_replay.specs.inside.Leaving.{LeavesBytes, LeavesLine};
 ghost use Rattle.kv_replay.specs.inside.Reading.{Reading, after_bytes, closed, ended, grown, line_ended, said, within};
 ghost use Rattle.kv_replay.specs.inside.Scripted.{Holds, Stands, held, scripted};
 ghost use Rattle.kv_replay.specs.Sessions.{Session, end_text, line_text, line_next};
@@ -69,6 +70,9 @@ impl<T: Target> Script<T> {
         ensures memory { IsErrOf result KvError.OutOfMemory → (r : Reading Session) → Holds r (scripted T.bucket self.old) →
             PoursFront (ended KEPT_BYTES (line_text form) (line_next form) r)
             (K.held sink.old) out.old.items (K.held sink.new) out.new.items }
+        ensures left { OnErr result ((r : Reading Session) → Holds r (scripted T.bucket self.old) →
+            LeavesLine r.state.state.acts (line_next form r.state r.line).state.acts (T.bucket self.new.session.target)
+            (K.held sink.old) out.old.items (K.held sink.new) out.new.items) }
         ensures fault { IfErr result IsWriteOrMemory }
     {
         self.session
@@ -99,6 +103,9 @@ impl<T: Target> Script<T> {
             (K.held sink.old) out.old.items (K.held sink.new) out.new.items }
         ensures stands { OnOk result ((r : Reading Session) → Holds r (scripted T.bucket self.old) →
             Represents (line_next form r.state r.line).state (T.bucket self.new.session.target)) }
+        ensures left { OnErr result ((r : Reading Session) → Holds r (scripted T.bucket self.old) →
+            LeavesLine r.state.state.acts (line_next form r.state r.line).state.acts (T.bucket self.new.session.target)
+            (K.held sink.old) out.old.items (K.held sink.new) out.new.items) }
         ensures fault { IfErr result IsWriteOrMemory }
     {
         self.end_line(alloc, form, out, sink)?;
@@ -126,6 +133,9 @@ impl<T: Target> Script<T> {
         ensures memory { IsErrOf result KvError.OutOfMemory → (s : Session) → Stands s (held T.bucket self.old.session) →
             PoursFront (line_text form s line.now)
             (K.held sink.old) out.old.items (K.held sink.new) out.new.items }
+        ensures left { OnErr result ((s : Session) → Stands s (held T.bucket self.old.session) →
+            LeavesLine s.state.acts (line_next form s line.now).state.acts (T.bucket self.new.session.target)
+            (K.held sink.old) out.old.items (K.held sink.new) out.new.items) }
         ensures fault { IfErr result IsWriteOrMemory }
     {
         self.session
@@ -168,6 +178,9 @@ impl<T: Target> Script<T> {
         ensures memory { IsErrOf result KvError.OutOfMemory → (r : Reading Session) → Holds r (scripted T.bucket self.old) →
             PoursFront (ended KEPT_BYTES (line_text form) (line_next form) (within KEPT_BYTES r rest.now))
             (K.held sink.old) out.old.items (K.held sink.new) out.new.items }
+        ensures left { OnErr result ((r : Reading Session) → Holds r (scripted T.bucket self.old) →
+            LeavesLine r.state.state.acts (line_next form r.state (grown KEPT_BYTES r.line rest.now)).state.acts
+            (T.bucket self.new.session.target) (K.held sink.old) out.old.items (K.held sink.new) out.new.items) }
         ensures fault { IfErr result IsWriteOrMemory }
     {
         if self.line.is_empty() && rest.len() <= KEPT_BYTES {
@@ -199,6 +212,9 @@ impl<T: Target> Script<T> {
         ensures memory { IsErrOf result KvError.OutOfMemory → (r : Reading Session) → Holds r (scripted T.bucket self.old) →
             PoursFront (said KEPT_BYTES (line_text form) (line_next form) r bytes.now)
             (K.held sink.old) out.old.items (K.held sink.new) out.new.items }
+        ensures left { OnErr result ((r : Reading Session) → Holds r (scripted T.bucket self.old) →
+            LeavesBytes form r bytes.now (IsErrOf result KvError.WriteFault) (IsErrOf result KvError.OutOfMemory)
+            (K.held sink.old) out.old.items (K.held sink.new) out.new.items (T.bucket self.new.session.target)) }
         ensures fault { IfErr result IsWriteOrMemory }
     {
         let mut left = bytes;

@@ -33,6 +33,8 @@ pub trait Output {
 
     ghost goes_on_later: { (a b c : Self) → goes_on a b → goes_on b c → goes_on a c };
 
+    ghost failed_earlier: { (a b c : Self) → failed_between a b → goes_on b c → failed_between a c };
+
     ghost failed_later: { (a b c : Self) → goes_on a b → failed_between b c → failed_between a c };
 }
 
@@ -83,7 +85,7 @@ fn write_all<W: Write>(writer: &mut W, bytes: &[u8]) -> Result<(), KvError>
 
 impl<'w, W: Write> Output for CountedWriter<'w, W> {
     ghost use Rattle.std.proofs.Common.{refl, ◌∙◌, arith};
-    ghost use Rattle.kv_replay.specs.Failures.{risen_later};
+    ghost use Rattle.kv_replay.specs.Failures.{risen_earlier, risen_later};
 
     ghost held = { λ s. W.contents s.writer.now };
 
@@ -107,6 +109,8 @@ impl<'w, W: Write> Output for CountedWriter<'w, W> {
     ghost goes_on_itself = { λ a. (refl, omega arith) };
 
     ghost goes_on_later = { λ a b c ab bc. (bc.0 ∙ ab.0, omega (arith, ab.1, bc.1)) };
+
+    ghost failed_earlier = { λ a b c ab bc. risen_earlier _ _ _ ab bc.1 };
 
     ghost failed_later = { λ a b c ab bc. risen_later _ _ _ ab.1 bc };
 }

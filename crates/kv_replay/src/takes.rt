@@ -10,6 +10,7 @@ ghost use Rattle.kv_keys.specs.declared.error.KvError.TheVariants.{OutOfMemory};
 ghost use Rattle.kv_script.specs.Answered.{taken_text};
 ghost use Rattle.kv_watch.specs.Taking.{item_taken};
 ghost use Rattle.kv_replay.specs.Faults.{IsWriteOrMemory};
+ghost use Rattle.kv_replay.specs.Replaying.{HasActs};
 ghost use Rattle.kv_replay.specs.Steps.{Does, EndsBetween};
 ghost use Rattle.kv_replay.specs.Text.{hands_out, steps_next, steps_text, takes};
 ghost use Rattle.kv_replay.specs.inside.Written.{Pours, PoursFront, Puts};
@@ -149,6 +150,9 @@ pub(crate) fn pour_takes<T: Target, K: Output>(
     ensures memory { IsErrOf result KvError.OutOfMemory → (state : State) → Represents state (T.bucket target.old) →
         PoursFront (steps_text (takes form watch count state)) (K.held sink.old) out.old.items
         (K.held sink.new) out.new.items }
+    // Takes are no acts.
+    ensures left { OnErr result ((state : State) → Represents state (T.bucket target.old) →
+        HasActs state.acts (T.bucket target.new)) }
     ensures fault { IfErr result IsWriteOrMemory }
 {
     for _ in 0..count {

@@ -1,5 +1,6 @@
-use Rattle.std.proofs.Common.{◌<◌, length, arith, rules}
+use Rattle.std.proofs.Common.{◌<◌, length, arith, refl, rules}
 use Rattle.std.proofs.lemmas.Result.{on_ok_weaker}
+use Rattle.kv_replay.proofs.LeavingRuns.{left_at_end, left_fault, left_in_bytes}
 use Rattle.kv_replay.proofs.Progress.{in_time_still, not_ended}
 use Rattle.kv_replay.proofs.Reached.{ended_at, reached_more, reached_end, reached_fault, stopped_in_bytes, stopped_at_end, whole_in_bytes, whole_at_end}
 use Rattle.kv_replay.proofs.engine.answer_lines.Goals as goal
@@ -105,3 +106,19 @@ returns-then-count-eq0-clause-stands g c =
     on_ok_weaker c.answer_end.result (λ ends session holding.
     let so_far = c.reads.invariant.reached session holding in
     ended_at c.args.form session _ _ _ _ _ so_far _ _ nothing (ends _ so_far.is_after)) c.answer_end.ensures.stands
+
+pub returns-in_err-count-clause-left : goal.returns-in_err-count-clause-left
+returns-in_err-count-clause-left g c = λ session holding.
+    left_fault c.args.form session _ _ _ _ _ (c.reads.invariant.reached session holding) _ _ c.in_err-count.ensures.bytes refl
+
+pub returns-then-count-eq0-clause-left : goal.returns-then-count-eq0-clause-left
+returns-then-count-eq0-clause-left g c =
+    let nothing = rw c.if-count-eq0.true at c.in_ok-count.ensures.bytes.0 in
+    λ session holding.
+    let so_far = c.reads.invariant.reached session holding in
+    left_at_end c.args.form session _ _ _ _ _ so_far _ _ _ nothing (c.answer_end.ensures.left _ so_far.is_after)
+
+pub returns-in_err-answer_bytes-clause-left : goal.returns-in_err-answer_bytes-clause-left
+returns-in_err-answer_bytes-clause-left g c = λ session holding.
+    let so_far = c.reads.invariant.reached session holding in
+    left_in_bytes c.args.form session _ _ _ _ _ so_far _ _ _ _ c.in_ok-count.ensures.bytes.0 (c.in_err-answer_bytes.ensures.left _ so_far.is_after)

@@ -2,6 +2,7 @@ use Rattle.std.proofs.Common.{◌≡◌, sym, subst}
 use Rattle.std.proofs.lemmas.Result.{on_ok_weaker}
 use Rattle.kv_keys.specs.declared.error.KvError.TheVariants.{OutOfMemory}
 use Rattle.kv_replay.specs.Faults.{IsRunFault}
+use Rattle.kv_replay.proofs.LeavingRuns.{left_at_once}
 use Rattle.kv_replay.proofs.Ending.{handed_on, nothing_done_from}
 use Rattle.kv_replay.proofs.engine.answer_script.Goals as goal
 
@@ -22,3 +23,6 @@ returns-clause-ran g c = λ session holding. record {
 
 pub returns-clause-stands : goal.returns-clause-stands
 returns-clause-stands g c = c.answer_lines.ensures.stands
+
+pub returns-in_err-buffer-clause-left : goal.returns-in_err-buffer-clause-left
+returns-in_err-buffer-clause-left g c = λ session holding. left_at_once c.args.form session _ _ _ holding.session.bucket

@@ -1,5 +1,7 @@
 use Rattle.std.proofs.Common.{sym, ◌∙◌, arith}
 use Rattle.kv_replay.proofs.Taking.{poured_all, poured_fault, poured_last, poured_none, poured_one, poured_part}
+use Rattle.kv_replay.proofs.Leaving.{took_acts, took_more_acts}
+use Rattle.kv_replay.proofs.Progress.{on_err}
 use Rattle.kv_replay.proofs.takes.pour_takes.Goals as goal
 
 pub loop-init : goal.loop-init
@@ -69,3 +71,14 @@ returns-then-not-goes_on-clause-kept g c =
 
 pub returns-clause-kept : goal.returns-clause-kept
 returns-clause-kept g c = c.loop.invariant.kept
+
+pub returns-in_err-goes_on-clause-left : goal.returns-in_err-goes_on-clause-left
+returns-in_err-goes_on-clause-left g c = on_err c.from_residual.result (λ state stands.
+    let so_far = c.loop.invariant.poured state stands in
+    took_acts state _ _ _ _ _ _ so_far.took _ c.in_err-goes_on.ensures.err.1)
+
+pub returns-in_err-pour_many-clause-left : goal.returns-in_err-pour_many-clause-left
+returns-in_err-pour_many-clause-left g c = on_err c.from_residual-in_err-pour_many.result (λ state stands.
+    let so_far = c.loop.invariant.poured state stands in
+    let took = c.in_ok-goes_on.ensures.ok so_far.took.current so_far.took.stands in
+    took_more_acts state _ _ _ _ _ _ so_far.took _ took.1.1)

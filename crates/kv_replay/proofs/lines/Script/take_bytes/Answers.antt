@@ -1,4 +1,6 @@
 use Rattle.std.proofs.Common.{◌+◌, length-drop, arith, rules}
+use Rattle.kv_replay.proofs.LeavingBytes.{left_in_line, left_untouched}
+use Rattle.kv_replay.proofs.Progress.{on_err}
 use Rattle.kv_replay.proofs.TakingLines.{first_line, no_line, rest_is, took_all, took_fault, took_line, took_none, took_part}
 use Rattle.kv_replay.proofs.lines.Script.take_bytes.Goals as goal
 
@@ -51,3 +53,15 @@ returns-in_err-take_line-clause-memory g c = λ fault r holding.
 pub returns-in_err-take_line-clause-kept : goal.returns-in_err-take_line-clause-kept
 returns-in_err-take_line-clause-kept g c =
     g.met.T.Target.goes_on_later _ _ _ c.lines.invariant.kept c.in_err-take_line.ensures.kept
+
+pub returns-in_err-take_part-clause-left : goal.returns-in_err-take_part-clause-left
+returns-in_err-take_part-clause-left g c = on_err c.from_residual.result (λ r holding.
+    left_untouched r _ _ _ _ _ _ _ (c.lines.invariant.took r holding) _ _ _ (search rules))
+
+pub returns-in_err-take_line-clause-left : goal.returns-in_err-take_line-clause-left
+returns-in_err-take_line-clause-left g c = on_err c.from_residual-in_err-take_line.result (λ r holding.
+    let line = first_line c.lines.left.now c.in-Some.at c.in-Some.ensures in
+    let so_far = c.lines.invariant.took r holding in
+    left_in_line r _ _ _ _ _ _ _ _ _ so_far line _ _ _ _ _ (c.in_err-take_line.ensures.left so_far.reading so_far.holds)
+    (λ fault. (c.in_err-take_line.ensures.write_fault (search rules)).1 so_far.reading so_far.holds)
+    (λ fault. c.in_err-take_line.ensures.memory (search rules) so_far.reading so_far.holds))
