@@ -4,7 +4,7 @@ use Rattle.std.specs.Prelude.{⊤, OnOk}
 use Rattle.kv_script.specs.declared.form.Form.{Form}
 use Rattle.kv_model.specs.State.{State}
 use Rattle.kv_journal.specs.Entries.{Entry}
-use Rattle.kv_replay.specs.Replaying.{EndsAt}
+use Rattle.kv_replay.specs.Replaying.{EndsAt, LeftAt}
 use Rattle.kv_replay.specs.Sessions.{outside}
 use Rattle.kv_durable.specs.Durables.{IsAt}
 use Rattle.kv_durable.specs.Endings.{IsClosed}
@@ -12,7 +12,7 @@ use Rattle.kv_durable.specs.Journals.{Keeps, is_stopped}
 use Rattle.kv_durable.specs.declared.durable.Durable.{Durable}
 use Rattle.kv_durable.specs.declared.journal.Journal.{Journal}
 use Rattle.kv_durable_script.specs.Keeping.{HasKept, KeepsOn}
-use Rattle.kv_durable_script.specs.Runs.{ClosesBehind}
+use Rattle.kv_durable_script.specs.Runs.{ClosesBehind, HasEnded, KeepsAnswered}
 
 module _ {F : Type 0} (has : F → List ℕ → List ℕ → Type 0) (usable : F → Bool) where
   at_of : (state : State) (kept loose : List Entry) (d : Durable F) → is_stopped usable d.journal ≡ false → HasKept has usable state kept loose d → IsAt has usable state kept loose d
@@ -40,6 +40,19 @@ module _ {F : Type 0} (has : F → List ℕ → List ℕ → Type 0) (usable : F
         input = ends.input;
         read = ends.read;
         answered = ends.stands;
+      }
+
+  -- however it has ended
+  pub answers : (form : Form) (state : State) (kept loose : List Entry) (unread left held holds : Option (List ℕ)) (first last : Durable F) (file : F) → KeepsOn has usable first last
+      → ((s : State) (k l : List Entry) → IsAt has usable s k l last → HasEnded has s.config k l s.acts last.journal file) → LeftAt form (outside state) unread left held holds last.bucket
+      → IsAt has usable state kept loose first → KeepsAnswered has usable form state kept loose unread left held holds first file
+  answers form state kept loose unread left held holds first last file on ended left_at at =
+      let more = on state kept loose (record { represents = at.represents; acts = at.acts; file = inl at.keeps }) in
+      record {
+        last = last;
+        more = more;
+        answered = left_at;
+        file_has = λ goes. ended more.later more.on_disk more.behind (at_of more.later more.on_disk more.behind last goes more.has_kept);
       }
 
 pub ok_gives : {E P : Type 0} (r : Result ⊤ E) → OnOk r P → r ≡ Ok tt → P

@@ -1,13 +1,14 @@
 -- The lines of a file's entries, made one entry after another.
-use Rattle.std.proofs.Common.{◌≡◌, ℕ, ◌+◌, List, [], ◌∷◌, ◌++◌, length, Option, refl, sym, ap, ◌∙◌, subst, append_assoc, append-nil}
+use Rattle.std.proofs.Common.{◌≡◌, ℕ, ◌+◌, List, [], ◌∷◌, ◌++◌, length, take, Option, refl, sym, ap, ◌∙◌, subst, append_assoc, append-nil}
 use Rattle.std.specs.List.{AllByRecursion}
 use Rattle.std.specs.Io.KnownBytes.{Appends}
 use Rattle.std.proofs.KnownBytes.{Appends-trans}
 use Rattle.kv_frames.specs.Frames.{BeginsWhole, IsPayload, Splits, frame, frames, place_after}
 use Rattle.kv_frames.proofs.Reading.{behind}
 use Rattle.kv_journal.specs.Entries.{Entry, payload_of, payloads_of}
-use Rattle.kv_replay.specs.inside.Written.{Pours}
-use Rattle.kv_replay.proofs.Pours.{pours-trans, pours_none, pours_on, pours_out}
+use Rattle.kv_replay.specs.inside.Written.{Pours, Puts}
+use Rattle.kv_replay.proofs.LeavingBytes.{puts_gone}
+use Rattle.kv_replay.proofs.Pours.{pours-trans, pours_none, pours_on, pours_out, puts_more, puts_waiting}
 use Rattle.kv_durable_script.specs.Dumps.{commands_of, content_lines, dump_text, lines_text}
 use Rattle.kv_durable_script.specs.inside.Dumpable.{CanDumpEntry}
 use Rattle.kv_durable_script.proofs.Telling.{lines_text-append}
@@ -71,6 +72,30 @@ one_more_poured seed place bytes rest payload after entries held mid holds befor
           ∙ ap (λ (t : List ℕ). r.text ++ t) (sym (lines_text-append (content_lines x.content) (commands_of next.1)) ∙ ap dump_text (sym next.2)) ∙ r.parts;
       poured = pours-trans r.text lines held mid holds before waited waits r.poured went;
     }
+
+-- what went so far is a beginning of all
+pub part_poured : (seed place : ℕ) (bytes rest : List ℕ) (entries : List Entry) (held : Option (List ℕ)) (before : List ℕ) (holds : Option (List ℕ)) (out : List ℕ)
+    → HasPoured seed place bytes rest entries held before holds out → Puts (before ++ dump_text entries) held holds
+part_poured seed place bytes rest entries held before holds out r =
+    subst (λ (t : List ℕ). Puts (before ++ t) held holds) r.parts
+    (puts_more r.text (dump_text r.left) held holds before (puts_gone r.text held holds before out r.poured))
+
+-- the sink failed behind one more
+pub fault_poured : (seed place : ℕ) (bytes rest payload after : List ℕ) (entries : List Entry) (held mid holds : Option (List ℕ)) (before waited out : List ℕ)
+    → HasPoured seed place bytes rest entries held before mid waited → IsPayload payload × (bytes ≡ frame seed place payload ++ after)
+    → ((entry : Entry) → payload_of entry ≡ payload → CanDumpEntry entry → out ≡ waited ++ lines_text (content_lines entry.content)) → (n : ℕ) × Appends mid holds (take n out)
+    → Puts (before ++ dump_text entries) held holds
+fault_poured seed place bytes rest payload after entries held mid holds before waited out r found appends part =
+    let next = next_entry seed place bytes rest payload after r.left r.splits r.can found.0 found.1 in
+    let x = next.0 in
+    let lines = lines_text (content_lines x.content) in
+    let made : Pours lines mid waited mid out = pours_out lines mid waited out (appends x next.3 next.4) in
+    let went : Pours (r.text ++ lines) held before mid out = pours-trans r.text lines held mid mid before waited out r.poured made in
+    let all : (r.text ++ lines) ++ dump_text next.1 ≡ dump_text entries =
+    append_assoc r.text lines (dump_text next.1)
+    ∙ ap (λ (t : List ℕ). r.text ++ t) (sym (lines_text-append (content_lines x.content) (commands_of next.1)) ∙ ap dump_text (sym next.2)) ∙ r.parts in
+    subst (λ (t : List ℕ). Puts (before ++ t) held holds) all
+    (puts_more (r.text ++ lines) (dump_text next.1) held holds before (puts_waiting (r.text ++ lines) held mid holds before out went part))
 
 pub all_poured : (seed place : ℕ) (bytes rest : List ℕ) (entries : List Entry) (held : Option (List ℕ)) (before : List ℕ) (holds : Option (List ℕ)) (out : List ℕ)
     → HasPoured seed place bytes rest entries held before holds out → (BeginsWhole seed place bytes → ⊥) → Pours (dump_text entries) held before holds out

@@ -1,10 +1,14 @@
 //! The script of a file.
 
-ghost use Rattle.std.specs.Prelude.{◌≡◌, ◌≢◌, ◌+◌, ◌<◌, ◌≤◌, ◌^◌, ◌++◌, [], List, ℕ, IfErr, IfOk, IsErrOf, OnErr, OnOk, length, take, drop};
+ghost use Rattle.std.specs.Prelude.{◌≡◌, ◌≢◌, ◌⊎◌, ◌+◌, ◌<◌, ◌≤◌, ◌^◌, ◌++◌, [], List, ℕ, IfErr, IfOk, IsErrOf, OnErr, OnOk, length, take, drop};
 ghost use Rattle.std.specs.Io.KnownBytes.{Appends};
 ghost use Rattle.std.specs.List.{AllByRecursion};
 ghost use Rattle.kv_frames.specs.Frames.{Splits};
+ghost use Rattle.std.specs.Io.{StartsWith};
+ghost use Rattle.kv_keys.specs.Outcome.{Refuses};
+ghost use Rattle.kv_keys.specs.declared.error.KvError.{KvError as AnError};
 ghost use Rattle.kv_keys.specs.declared.error.KvError.TheVariants.{WriteFault};
+ghost use Rattle.kv_model.specs.Configuration.{configure};
 ghost use Rattle.kv_journal.specs.Entries.{Entry, payloads_of};
 ghost use Rattle.kv_replay.specs.Faults.{IsWriteOrMemory};
 ghost use Rattle.kv_replay.specs.inside.Written.{Pours, Puts};
@@ -55,6 +59,8 @@ fn pour_entries<K: Output>(
     ensures ok { OnOk result ((entries : List Entry) (rest : List ℕ) → Splits framing.now.seed at bytes.now (payloads_of entries) rest →
         AllByRecursion CanDumpEntry entries →
         Pours (dump_text entries) (K.held sink.old) out.old.items (K.held sink.new) out.new.items) }
+    ensures early { OnErr result ((entries : List Entry) (rest : List ℕ) → Splits framing.now.seed at bytes.now (payloads_of entries) rest →
+        AllByRecursion CanDumpEntry entries → Puts (out.old.items ++ dump_text entries) (K.held sink.old) (K.held sink.new)) }
     ensures write_fault { IsErrOf result WriteFault → K.failed_between sink.old sink.new }
     ensures fault { IfErr result IsWriteOrMemory }
 {
@@ -81,6 +87,8 @@ fn write_entries<K: Output>(
     ensures same { K.goes_on sink.old sink.new }
     ensures ok { OnOk result ((entries : List Entry) (rest : List ℕ) → Splits framing.now.seed at bytes.now (payloads_of entries) rest →
         AllByRecursion CanDumpEntry entries → Appends (K.held sink.old) (K.held sink.new) (dump_text entries)) }
+    ensures early { OnErr result ((entries : List Entry) (rest : List ℕ) → Splits framing.now.seed at bytes.now (payloads_of entries) rest →
+        AllByRecursion CanDumpEntry entries → Puts (dump_text entries) (K.held sink.old) (K.held sink.new)) }
     ensures write_fault { IsErrOf result WriteFault → K.failed_between sink.old sink.new }
     ensures fault { IfErr result IsWriteOrMemory }
 {
@@ -115,6 +123,11 @@ pub fn dump<K: Output>(
     ensures ok { IfOk result (λ left_out. (seed : ℕ) × (entries : List Entry) × (rest : List ℕ)
         × Reads config.now bytes.now seed entries rest × (left_out ≡ length rest)
         × Appends (K.held sink.old) (K.held sink.new) (dump_text entries)) }
+    // Or a beginning of it was, or nothing.
+    ensures early { OnErr result ((sink.new ≡ sink.old) ⊎ ((seed : ℕ) × (entries : List Entry) × (rest : List ℕ)
+        × Reads config.now bytes.now seed entries rest
+        × (text : List ℕ) × StartsWith (dump_text entries) text × Appends (K.held sink.old) (K.held sink.new) text)) }
+    ensures refused { IfErr result (λ e. (x : AnError) → e ≡ Refused x → (x ≡ WriteFault) ⊎ Refuses x (configure config.now)) }
     ensures write_fault { IsErrOf result (Refused WriteFault) → K.failed_between sink.old sink.new }
     ensures no_fault { IfErr result (λ e. (e ≢ FileFault) × (e ≢ FileBusy)) }
 {

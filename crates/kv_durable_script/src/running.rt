@@ -10,7 +10,7 @@ ghost use Rattle.kv_replay.specs.Sessions.{outside, text_from, whole_from};
 ghost use Rattle.kv_durable.specs.Durables.{IsAt};
 ghost use Rattle.kv_durable.specs.Endings.{IsClosed};
 ghost use Rattle.kv_durable.specs.declared.error.DurableError.TheVariants.{Refused};
-ghost use Rattle.kv_durable_script.specs.Runs.{ClosesBehind, EndsBy, IsOutcome, IsUnclosed};
+ghost use Rattle.kv_durable_script.specs.Runs.{ClosesBehind, EndsBy, HasEnded, IsOutcome, IsUnclosed, KeepsAnswered};
 
 use crate::target::OnDurable;
 use kv_durable::{Durable, DurableError};
@@ -45,6 +45,8 @@ fn close<F: JournalFile>(durable: Durable<F>, run: Result<(), DurableError>) -> 
         IsAt F.has F.usable state kept loose durable →
         IsClosed F.has state.config kept loose state.acts durable.journal result.file)) }
     ensures err { IfErr result.result (λ e. (run ≡ Err e) ⊎ ((run ≡ Ok tt) × IsUnclosed e)) }
+    ensures file { (state : State) (kept loose : List Entry) → IsAt F.has F.usable state kept loose durable →
+        HasEnded F.has state.config kept loose state.acts durable.journal result.file }
 {
     match durable.close() {
         Ok(file) => Finished { file, result: run },
@@ -81,6 +83,10 @@ pub fn run_durable<F: JournalFile, S: BoundedInput, K: Output>(
     // Or it ended early, and a beginning of that text was written.
     ensures early { IfErr result.result (λ e. (state : State) → Represents state durable.bucket →
         EndsBy form (outside state) (S.left source.old) (S.left source.new) (K.held sink.old) (K.held sink.new) e) }
+    // And what was answered is in the file too.
+    ensures answered { (state : State) (kept loose : List Entry) → IsAt F.has F.usable state kept loose durable →
+        KeepsAnswered F.has F.usable form state kept loose (S.left source.old) (S.left source.new)
+        (K.held sink.old) (K.held sink.new) durable result.file }
     ensures in_time { S.has_ended source.old ≡ false → S.was_asked_late source.new ≡ S.was_asked_late source.old }
     ensures read_fault { IsErrOf result.result (Refused ReadFault) → S.failed_between source.old source.new }
     ensures write_fault { IsErrOf result.result (Refused WriteFault) → K.failed_between sink.old sink.new }

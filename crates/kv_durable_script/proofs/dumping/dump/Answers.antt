@@ -1,7 +1,8 @@
-use Rattle.std.proofs.Common.{◌≡◌, rules}
+use Rattle.std.proofs.Common.{◌≡◌, inr, rules}
 use Rattle.kv_keys.specs.declared.error.KvError.TheVariants.{WriteFault}
 use Rattle.kv_durable.specs.declared.error.DurableError.TheVariants.{Refused}
 use Rattle.kv_durable.proofs.Readings.{reads_from}
+use Rattle.kv_replay.proofs.Progress.{on_err, starts}
 use Rattle.kv_durable_script.proofs.Lawful.{can_dump}
 use Rattle.kv_durable_script.proofs.dumping.dump.Goals as goal
 
@@ -20,3 +21,14 @@ returns-in_err-recovered-clause-write_fault g c =
     let never : c.in_err-recovered.field-0.0 ≡ Refused WriteFault → ⊥ =
     λ is. let refused = c.in_err-recovered.ensures.refused WriteFault is in let fine = c.in_ok-check.ensures.ok.1 in let no : ⊥ = cc (refused, fine) in no in
     search (rules, never)
+
+pub returns-in_err-write_entries-clause-early : goal.returns-in_err-write_entries-clause-early
+returns-in_err-write_entries-clause-early g c =
+    let config = c.args.config.now in
+    let bytes = c.args.bytes.now in
+    let r = c.in_ok-recovered.ensures.ok in
+    let b = c.in-Ok.ensures.ok in
+    let splits = reads_from config bytes c.in-Ok.begun.framing.seed c.in-Ok.begun.place c.behind-entries.result.now b.0 c.in_ok-recovered.recovered.framing.seed r.0 r.1 b.1 b.2 c.behind-entries.ensures r.2 in
+    let can = can_dump config r.0 c.in_ok-check.ensures.ok.0 r.2.lawful in
+    let puts = c.in_err-write_entries.ensures.early r.0 r.1 splits can in
+    on_err c.from_residual-in_err-write_entries.result (inr (c.in_ok-recovered.recovered.framing.seed, r.0, r.1, r.2, puts.front, starts _ puts.front puts.rest puts.parts, puts.written))

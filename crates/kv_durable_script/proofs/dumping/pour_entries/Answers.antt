@@ -1,7 +1,8 @@
 use Rattle.std.proofs.Common.{◌≡◌, ◌+◌, length, refl, ap, ◌∙◌, arith}
 use Rattle.std.specs.Prelude.{List, ℕ}
 use Rattle.kv_frames.proofs.Fronts.{length_frame}
-use Rattle.kv_durable_script.proofs.Pouring.{all_poured, none_poured, one_more_poured}
+use Rattle.kv_replay.proofs.Progress.{on_err}
+use Rattle.kv_durable_script.proofs.Pouring.{all_poured, fault_poured, none_poured, one_more_poured, part_poured}
 use Rattle.kv_durable_script.proofs.dumping.pour_entries.Goals as goal
 
 pub loop-payload-init : goal.loop-payload-init
@@ -27,3 +28,12 @@ loop-payload-preserved g c =
 pub returns-clause-ok : goal.returns-clause-ok
 returns-clause-ok g c = λ entries rest splits can.
     all_poured c.args.framing.now.seed c.loop-payload.place c.loop-payload.rest.now rest entries _ _ _ _ (c.loop-payload.invariant.poured entries rest splits can) c.in_default.ensures.none
+
+pub returns-in_err-push_entry-clause-early : goal.returns-in_err-push_entry-clause-early
+returns-in_err-push_entry-clause-early g c = on_err c.from_residual.result (λ entries rest splits can.
+    part_poured c.args.framing.now.seed c.loop-payload.place c.loop-payload.rest.now rest entries _ _ _ _ (c.loop-payload.invariant.poured entries rest splits can))
+
+pub returns-in_err-pour_many-clause-early : goal.returns-in_err-pour_many-clause-early
+returns-in_err-pour_many-clause-early g c = on_err c.from_residual-in_err-pour_many.result (λ entries rest splits can.
+    fault_poured c.args.framing.now.seed c.loop-payload.place c.loop-payload.rest.now rest c.in-Some.payload.now c.in-Some.after.now entries _ _ _ _ _ _
+    (c.loop-payload.invariant.poured entries rest splits can) c.in-Some.ensures.some c.in_ok-push_entry.ensures.ok c.in_err-pour_many.ensures.err)
