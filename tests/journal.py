@@ -51,6 +51,10 @@ def record(data: bytes) -> tuple[Any, ...]:
         return "seal",
     if kind == 10:
         return "batch", [record(part) for part in parts(rest)]
+    if kind == 7:
+        return "stored", struct.unpack_from(">I", rest)[0], record(rest[4:])
+    if kind == 8:
+        return "checkpoint", *struct.unpack(">QQQ?", rest)
     return {5: "compact", 9: "closed"}[kind], struct.unpack(">Q", rest)[0]
 
 

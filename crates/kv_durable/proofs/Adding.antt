@@ -7,6 +7,7 @@ use Rattle.kv_frames.specs.Frames.{ArePayloads, frames}
 use Rattle.kv_model.specs.Acts.{Act}
 use Rattle.kv_model.specs.Configuration.{Configuration}
 use Rattle.kv_journal.specs.Entries.{AreLawful, Entry, acts_in, acts_of, payloads_of}
+use Rattle.kv_durable.specs.Bases.{Base, IsLawfulBase, acts_before, base_payloads, fresh, opening}
 use Rattle.kv_durable.specs.Files.{IsBetween, file_of, frames_behind}
 use Rattle.kv_durable.specs.Journals.{CanFollow, HasAdded, IsLeft, Keeps}
 use Rattle.kv_durable.specs.declared.journal.Journal.{Journal}
@@ -23,116 +24,125 @@ payloads_append [] ys h k = k
 payloads_append (x ∷ xs) ys h k = (h.0, payloads_append xs ys h.1 k)
 
 -- where bytes that are added next stand
-module _ (seed : ℕ) (config : Configuration) (kept loose entries : List Entry) (place : ℕ) (bytes : List ℕ) (here : place ≡ length (file_of seed config kept ++ frames_behind seed config kept loose)) (is : bytes ≡ frames seed place (payloads_of entries)) where
+module _ (seed : ℕ) (base : Base) (kept loose entries : List Entry) (place : ℕ) (bytes : List ℕ) (here : place ≡ length (file_of seed base kept ++ frames_behind seed base kept loose)) (is : bytes ≡ frames seed place (payloads_of entries)) where
   abbrev disk : List ℕ
-  disk = file_of seed config kept
+  disk = file_of seed base kept
 
   abbrev more : List ℕ
-  more = frames_behind seed config kept loose
+  more = frames_behind seed base kept loose
 
-  pub bytes_are : bytes ≡ frames_behind seed config (kept ++ loose) entries
-  bytes_are = is ∙ ap (λ (n : ℕ). frames seed n (payloads_of entries)) (here ∙ sym (ap length (file_append seed config kept loose)))
+  pub bytes_are : bytes ≡ frames_behind seed base (kept ++ loose) entries
+  bytes_are = is ∙ ap (λ (n : ℕ). frames seed n (payloads_of entries)) (here ∙ sym (ap length (file_append seed base kept loose)))
 
-  pub loose_too : more ++ bytes ≡ frames_behind seed config kept (loose ++ entries)
-  loose_too = ap (λ (w : List ℕ). more ++ w) bytes_are ∙ sym (behind_append seed config kept loose entries)
+  pub loose_too : more ++ bytes ≡ frames_behind seed base kept (loose ++ entries)
+  loose_too = ap (λ (w : List ℕ). more ++ w) bytes_are ∙ sym (behind_append seed base kept loose entries)
 
-  pub all_of : (disk ++ more) ++ bytes ≡ file_of seed config ((kept ++ loose) ++ entries)
+  pub all_of : (disk ++ more) ++ bytes ≡ file_of seed base ((kept ++ loose) ++ entries)
   all_of =
-      ap (λ (w : List ℕ). w ++ bytes) (sym (file_append seed config kept loose)) ∙ ap (λ (w : List ℕ). file_of seed config (kept ++ loose) ++ w) bytes_are
-      ∙ sym (file_append seed config (kept ++ loose) entries)
+      ap (λ (w : List ℕ). w ++ bytes) (sym (file_append seed base kept loose)) ∙ ap (λ (w : List ℕ). file_of seed base (kept ++ loose) ++ w) bytes_are
+      ∙ sym (file_append seed base (kept ++ loose) entries)
 
-  pub between_failed : (k l : List ℕ) → Fails disk more bytes k l → IsBetween seed config kept (loose ++ entries) k l
+  pub between_failed : (k l : List ℕ) → Fails disk more bytes k l → IsBetween seed base kept (loose ++ entries) k l
   between_failed k l f = record {
     on_disk = f.disk;
-    no_more = (f.no_more.0, f.no_more.1 ∙ all_of ∙ ap (file_of seed config) (append_assoc kept loose entries));
+    no_more = (f.no_more.0, f.no_more.1 ∙ all_of ∙ ap (file_of seed base) (append_assoc kept loose entries));
   }
 
 module _ {F : Type 0} (has : F → List ℕ → List ℕ → Type 0) (usable : F → Bool) where
-  pub added : (config : Configuration) (kept loose entries : List Entry) (old new : Journal F) (bytes : List ℕ) → Keeps has usable config kept loose old → CanFollow config (kept ++ loose) entries
-      → bytes ≡ frames old.framing.seed old.appender.place (payloads_of entries) → new.framing ≡ old.framing
-      → ((k l : List ℕ) → Has has usable k l old.appender → (m : List ℕ) × (n : List ℕ) × Adds k l bytes m n × Has has usable m n new.appender) → HasAdded has usable config kept loose entries new
-  added config kept loose entries old new bytes keeps can is same on =
+  pub added : (base : Base) (kept loose entries : List Entry) (old new : Journal F) (bytes : List ℕ) → Keeps has usable base kept loose old → CanFollow base (kept ++ loose) entries
+      → bytes ≡ frames old.framing.seed old.appender.place (payloads_of entries) → new.framing ≡ old.framing → new.config ≡ old.config
+      → ((k l : List ℕ) → Has has usable k l old.appender → (m : List ℕ) × (n : List ℕ) × Adds k l bytes m n × Has has usable m n new.appender) → HasAdded has usable base kept loose entries new
+  added base kept loose entries old new bytes keeps can is same kept_config on =
       let seed = old.framing.seed in
-      let disk = file_of seed config kept in
-      let more = frames_behind seed config kept loose in
+      let disk = file_of seed base kept in
+      let more = frames_behind seed base kept loose in
       let there = on disk more keeps.bytes in
       let here = keeps.bytes.place in
-      let lawful = lawful_append config [] (kept ++ loose) entries keeps.lawful can.0 in
+      let lawful = lawful_append base.config (acts_before base) (kept ++ loose) entries keeps.lawful can.0 in
       let payloads = payloads_append (kept ++ loose) entries keeps.payloads can.1 in
       let own : new.framing.seed ≡ seed = ap (λ f. f.seed) same in
-      let keeps_now : (k l : List Entry) → k ++ l ≡ (kept ++ loose) ++ entries → there.0 ≡ file_of seed config k → there.1 ≡ frames_behind seed config k l → Keeps has usable config k l new =
+      let keeps_now : (k l : List Entry) → k ++ l ≡ (kept ++ loose) ++ entries → there.0 ≡ file_of seed base k → there.1 ≡ frames_behind seed base k l → Keeps has usable base k l new =
       λ k l all first second. record {
         seed_fits = subst (λ (n : ℕ). n < 2 ^ 64) (sym own) keeps.seed_fits;
-        lawful = subst (AreLawful config []) (sym all) lawful;
+        own = ap (λ c. c.config) kept_config ∙ keeps.own;
+        first = keeps.first;
+        replaced = keeps.replaced;
+        lawful = subst (AreLawful base.config (acts_before base)) (sym all) lawful;
         payloads = subst (λ (es : List Entry). ArePayloads (payloads_of es)) (sym all) payloads;
-        bytes = subst (λ (n : ℕ). Has has usable (file_of n config k) (frames_behind n config k l) new.appender) (sym own)
-            (subst (λ (w : List ℕ). Has has usable w (frames_behind seed config k l) new.appender) first (subst (λ (w : List ℕ). Has has usable there.0 w new.appender) second there.3));
+        bytes = subst (λ (n : ℕ). Has has usable (file_of n base k) (frames_behind n base k l) new.appender) (sym own)
+            (subst (λ (w : List ℕ). Has has usable w (frames_behind seed base k l) new.appender) first (subst (λ (w : List ℕ). Has has usable there.0 w new.appender) second there.3));
       } in
       elim there.2 [
         | inl both ↦ (
           kept,
           loose ++ entries,
           inl (refl, refl),
-          keeps_now kept (loose ++ entries) (sym (append_assoc kept loose entries)) both.0 (both.1 ∙ loose_too seed config kept loose entries old.appender.place bytes here is),
+          keeps_now kept (loose ++ entries) (sym (append_assoc kept loose entries)) both.0 (both.1 ∙ loose_too seed base kept loose entries old.appender.place bytes here is),
         )
         | inr other ↦ elim other [
           | inl alone ↦ (
             kept ++ loose,
             entries,
             inr (inl (refl, refl)),
-            keeps_now (kept ++ loose) entries refl (alone.0 ∙ sym (file_append seed config kept loose)) (alone.1 ∙ bytes_are seed config kept loose entries old.appender.place bytes here is),
+            keeps_now (kept ++ loose) entries refl (alone.0 ∙ sym (file_append seed base kept loose)) (alone.1 ∙ bytes_are seed base kept loose entries old.appender.place bytes here is),
           )
           | inr all ↦ (
             (kept ++ loose) ++ entries,
             [],
             inr (inr (refl, refl)),
-            keeps_now ((kept ++ loose) ++ entries) [] (append-nil ((kept ++ loose) ++ entries)) (all.0 ∙ all_of seed config kept loose entries old.appender.place bytes here is) all.1,
+            keeps_now ((kept ++ loose) ++ entries) [] (append-nil ((kept ++ loose) ++ entries)) (all.0 ∙ all_of seed base kept loose entries old.appender.place bytes here is) all.1,
           )
         ]
       ]
 
-  pub left : (config : Configuration) (kept loose entries : List Entry) (old : Journal F) (file : F) (bytes : List ℕ) → Keeps has usable config kept loose old
+  pub left : (base : Base) (kept loose entries : List Entry) (old : Journal F) (file : F) (bytes : List ℕ) → Keeps has usable base kept loose old
       → bytes ≡ frames old.framing.seed old.appender.place (payloads_of entries)
-      → ((k l : List ℕ) → Has has usable k l old.appender → (m : List ℕ) × (n : List ℕ) × Fails k l bytes m n × has file m n) → IsLeft has old.framing.seed config kept (loose ++ entries) file
-  left config kept loose entries old file bytes keeps is on =
+      → ((k l : List ℕ) → Has has usable k l old.appender → (m : List ℕ) × (n : List ℕ) × Fails k l bytes m n × has file m n) → IsLeft has old.framing.seed base kept (loose ++ entries) file
+  left base kept loose entries old file bytes keeps is on =
       let seed = old.framing.seed in
-      let there = on (file_of seed config kept) (frames_behind seed config kept loose) keeps.bytes in
-      (there.0, there.1, between_failed seed config kept loose entries old.appender.place bytes keeps.bytes.place is there.0 there.1 there.2, there.3)
+      let there = on (file_of seed base kept) (frames_behind seed base kept loose) keeps.bytes in
+      (there.0, there.1, between_failed seed base kept loose entries old.appender.place bytes keeps.bytes.place is there.0 there.1 there.2, there.3)
 
-  pub flushed : (config : Configuration) (kept loose : List Entry) (old new : Journal F) → Keeps has usable config kept loose old → new.framing ≡ old.framing
-      → ((k l : List ℕ) → Has has usable k l old.appender → Has has usable (k ++ l) [] new.appender) → Keeps has usable config (kept ++ loose) [] new
-  flushed config kept loose old new keeps same on =
+  pub flushed : (base : Base) (kept loose : List Entry) (old new : Journal F) → Keeps has usable base kept loose old → new.framing ≡ old.framing → new.config ≡ old.config
+      → ((k l : List ℕ) → Has has usable k l old.appender → Has has usable (k ++ l) [] new.appender) → Keeps has usable base (kept ++ loose) [] new
+  flushed base kept loose old new keeps same kept_config on =
       let seed = old.framing.seed in
       let own : new.framing.seed ≡ seed = ap (λ f. f.seed) same in
-      let there = on (file_of seed config kept) (frames_behind seed config kept loose) keeps.bytes in
+      let there = on (file_of seed base kept) (frames_behind seed base kept loose) keeps.bytes in
       record {
         seed_fits = subst (λ (n : ℕ). n < 2 ^ 64) (sym own) keeps.seed_fits;
-        lawful = subst (AreLawful config []) (sym (append-nil (kept ++ loose))) keeps.lawful;
+        own = ap (λ c. c.config) kept_config ∙ keeps.own;
+        first = keeps.first;
+        replaced = keeps.replaced;
+        lawful = subst (AreLawful base.config (acts_before base)) (sym (append-nil (kept ++ loose))) keeps.lawful;
         payloads = subst (λ (es : List Entry). ArePayloads (payloads_of es)) (sym (append-nil (kept ++ loose))) keeps.payloads;
-        bytes = subst (λ (n : ℕ). Has has usable (file_of n config (kept ++ loose)) [] new.appender) (sym own)
-            (subst (λ (w : List ℕ). Has has usable w [] new.appender) (sym (file_append seed config kept loose)) there);
+        bytes = subst (λ (n : ℕ). Has has usable (file_of n base (kept ++ loose)) [] new.appender) (sym own)
+            (subst (λ (w : List ℕ). Has has usable w [] new.appender) (sym (file_append seed base kept loose)) there);
       }
 
-  pub not_flushed : (config : Configuration) (kept loose : List Entry) (old : Journal F) (file : F) → Keeps has usable config kept loose old
-      → ((k l : List ℕ) → Has has usable k l old.appender → has file k l) → IsLeft has old.framing.seed config kept loose file
-  not_flushed config kept loose old file keeps on =
+  pub not_flushed : (base : Base) (kept loose : List Entry) (old : Journal F) (file : F) → Keeps has usable base kept loose old
+      → ((k l : List ℕ) → Has has usable k l old.appender → has file k l) → IsLeft has old.framing.seed base kept loose file
+  not_flushed base kept loose old file keeps on =
       let seed = old.framing.seed in
-      let disk = file_of seed config kept in
-      let more = frames_behind seed config kept loose in (
+      let disk = file_of seed base kept in
+      let more = frames_behind seed base kept loose in (
         disk,
         more,
         record {
           on_disk = ([], append-nil disk);
-          no_more = ([], append-nil (disk ++ more) ∙ sym (file_append seed config kept loose));
+          no_more = ([], append-nil (disk ++ more) ∙ sym (file_append seed base kept loose));
         },
         on disk more keeps.bytes,
       )
 
-  pub begun : (config : Configuration) (entries : List Entry) (journal : Journal F) → journal.framing.seed < 2 ^ 64 → CanFollow config [] entries
-      → Has has usable (file_of journal.framing.seed config entries) [] journal.appender → Keeps has usable config entries [] journal
-  begun config entries journal fits can bytes = record {
+  pub begun : (base : Base) (entries : List Entry) (journal : Journal F) → journal.framing.seed < 2 ^ 64 → journal.config.config ≡ base.config → ArePayloads (base_payloads base) → IsLawfulBase base → CanFollow base [] entries
+      → Has has usable (file_of journal.framing.seed base entries) [] journal.appender → Keeps has usable base entries [] journal
+  begun base entries journal fits own first replaced can bytes = record {
     seed_fits = fits;
-    lawful = subst (AreLawful config []) (sym (append-nil entries)) can.0;
+    own = own;
+    first = first;
+    replaced = replaced;
+    lawful = subst (AreLawful base.config (acts_before base)) (sym (append-nil entries)) (subst (λ (acts : List Act). AreLawful base.config acts entries) (append-nil (acts_before base)) can.0);
     payloads = subst (λ (es : List Entry). ArePayloads (payloads_of es)) (sym (append-nil entries)) can.1;
     bytes = bytes;
   }

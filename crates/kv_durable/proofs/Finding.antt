@@ -1,6 +1,6 @@
 -- What an opening finds.
-use Rattle.std.proofs.Common.{◌≡◌, ◌⊎◌, ℕ, Bool, true, ◌≤◌, List, [], ◌∷◌, ◌++◌, length, take, drop, Result, Ok, Err, refl, sym, ap, ◌∙◌, subst, inl, inr, append_assoc, append-nil, arith, length-append}
-use Rattle.std.specs.Prelude.{OnErr, OnOk, IfOk}
+use Rattle.std.proofs.Common.{◌≡◌, ◌⊎◌, ℕ, Bool, true, false, ◌≤◌, List, [], ◌∷◌, ◌++◌, length, take, drop, Result, Ok, Err, refl, sym, ap, ◌∙◌, subst, inl, inr, append_assoc, append-nil, arith, length-append}
+use Rattle.std.specs.Prelude.{OnErr, OnOk, IfErr, IfOk}
 use Rattle.std.proofs.lemmas.Bool.{cond-true}
 use Rattle.std.proofs.lemmas.List.{nil_from_length, take-append-drop}
 use Rattle.std.proofs.Math.Seq.{take-append_seam}
@@ -15,14 +15,19 @@ use Rattle.kv_store.specs.Stored.{Stored}
 use Rattle.kv_single.specs.Held.{Bucketed, Represents}
 use Rattle.kv_journal.specs.Header.{beginning}
 use Rattle.kv_journal.specs.Damage.{ShowsDamage}
-use Rattle.kv_journal.specs.Entries.{Entry, acts_of}
+use Rattle.kv_frames.specs.Frames.{ArePayloads}
+use Rattle.kv_journal.specs.Entries.{AreLawful, Entry, acts_of}
+use Rattle.kv_durable.specs.Bases.{Base, IsBaseOf, IsLawfulBase, acts_before, base_payloads, fresh, opening}
 use Rattle.kv_durable.specs.Durables.{IsAt, state_of}
 use Rattle.kv_durable.specs.Files.{Reads, file_of}
 use Rattle.kv_durable.specs.Journals.{CanFollow, Keeps}
-use Rattle.kv_durable.specs.Openings.{IsFound, IsNew, IsReopened, LeavesBytes}
+use Rattle.kv_durable.specs.Openings.{IsFound, IsFoundIn, IsNew, IsReopened, IsReopenedOn, LeavesBytes, TellsBase}
+use Rattle.kv_durable.specs.Refusals.{IsDamaged}
 use Rattle.kv_durable.specs.declared.durable.Durable.{Durable}
 use Rattle.kv_durable.specs.declared.open.Found.{Found}
 use Rattle.kv_durable.specs.declared.error.DurableError.{DurableError}
+use Rattle.kv_durable.proofs.Readings.{opening_is}
+use Rattle.kv_durable.proofs.Starting.{none_before}
 
 -- a legal configuration is not refused
 pub legal_ok : (config : Configuration) → IsLegal config → configure config ≡ Ok config
@@ -47,9 +52,9 @@ cut_parts has file len kept loose h =
     (take m kept, drop m kept ++ loose, sym (append_assoc (take m kept) (drop m kept) loose) ∙ ap (λ (w : List ℕ). w ++ loose) (take-append-drop m kept), h.2)
 
 -- what is read lies in front
-pub front_of : (config : Configuration) (bytes : List ℕ) (seed place : ℕ) (entries : List Entry) (rest : List ℕ) → Reads config bytes seed entries rest → place ≡ length (file_of seed config entries) → take place bytes ≡ file_of seed config entries
-front_of config bytes seed place entries rest reads here =
-    ap (λ (n : ℕ). take n bytes) here ∙ ap (take (length (file_of seed config entries))) reads.whole ∙ take-append_seam (file_of seed config entries) rest
+pub front_of : (base : Base) (bytes : List ℕ) (seed place : ℕ) (entries : List Entry) (rest : List ℕ) → Reads base bytes seed entries rest → place ≡ length (file_of seed base entries) → take place bytes ≡ file_of seed base entries
+front_of base bytes seed place entries rest reads here =
+    ap (λ (n : ℕ). take n bytes) here ∙ ap (take (length (file_of seed base entries))) reads.whole ∙ take-append_seam (file_of seed base entries) rest
 
 both_empty : (xs ys : List ℕ) → xs ++ ys ≡ [] → (xs ≡ []) × (ys ≡ [])
 both_empty xs ys e =
@@ -61,99 +66,118 @@ from_empty has file kept loose none h =
     let both = both_empty kept loose none in
     subst (λ (w : List ℕ). has file w []) both.0 (subst (λ (w : List ℕ). has file kept w) both.1 h)
 
+-- a file with no checkpoint goes on from this
+pub is_fresh : (config : Configuration) (payloads : List (List ℕ)) → payloads ≡ [] → IsBaseOf config payloads (fresh config)
+is_fresh config payloads none = record { same = refl; lawful = tt; stands = sym none }
+
+-- the journal of what was found keeps its entries, whatever it goes on from
+abbrev pub KeepsFound : {F : Type 0} (has : F → List ℕ → List ℕ → Type 0) (usable : F → Bool) (new : F) → Found → Durable F → Type 0
+KeepsFound has usable new found durable = (base : Base) (entries : List Entry) → found.config.config ≡ base.config → ArePayloads (base_payloads base) → IsLawfulBase base → CanFollow base [] entries
+    → has new (file_of found.framing.seed base entries) [] → found.place ≡ length (file_of found.framing.seed base entries) → Keeps has usable base entries [] durable.journal
+
 module _ {F : Type 0} (has : F → List ℕ → List ℕ → Type 0) (usable : F → Bool) where
-  pub found_at : (config : Configuration) (seed : ℕ) (bytes : List ℕ) (entries : List Entry) (found : Found) (durable : Durable F) → IsFound config seed bytes entries found → durable.bucket ≡ found.bucket → Keeps has usable config entries [] durable.journal
-      → IsAt has usable (state_of config (acts_of entries)) entries [] durable
-  found_at config seed bytes entries found durable is bucket keeps = record {
-    represents = subst (Represents (state_of config (acts_of entries))) (sym bucket) is.represents;
-    acts = ap acts_of (sym (append-nil entries));
+  pub found_at : (base : Base) (entries : List Entry) (found : Found) (durable : Durable F) → Represents (state_of base.config (acts_before base ++ acts_of entries)) found.bucket → durable.bucket ≡ found.bucket → Keeps has usable base entries [] durable.journal
+      → IsAt has usable (state_of base.config (acts_before base ++ acts_of entries)) entries [] durable
+  found_at base entries found durable represents bucket keeps = record {
+    base = base;
+    config = refl;
+    represents = subst (Represents (state_of base.config (acts_before base ++ acts_of entries))) (sym bucket) represents;
+    acts = ap (λ (es : List Entry). acts_before base ++ acts_of es) (sym (append-nil entries));
     keeps = keeps;
   }
 
   -- what an opening made of what it found
-  pub opened_new : (config : Configuration) (seed : ℕ) (entries : List Entry) (found : Found) (durable : Durable F) (dropped : ℕ) → IsFound config seed [] entries found → durable.bucket ≡ found.bucket → dropped ≡ found.dropped
-      → durable.journal.framing ≡ found.framing → Keeps has usable config entries [] durable.journal → IsNew has usable config seed durable dropped
-  opened_new config seed entries found durable dropped is bucket told framing keeps =
-      let new = is.new refl in
+  pub opened_new : (config : Configuration) (seed : ℕ) (new : F) (found : Found) (durable : Durable F) (dropped : ℕ) → IsFound config seed [] [] [] found → durable.bucket ≡ found.bucket → dropped ≡ found.dropped
+      → durable.journal.framing ≡ found.framing → has new (file_of found.framing.seed (fresh config) []) [] → KeepsFound has usable new found durable → IsNew has usable config seed durable dropped
+  unfolding found_at
+  opened_new config seed new found durable dropped is bucket told framing there keeps =
+      let b = is_fresh config [] refl in
       record {
-        has_seed = ap (λ f. f.seed) framing ∙ new.0;
-        at = subst (λ (es : List Entry). IsAt has usable (state_of config (acts_of es)) es [] durable) new.1 (found_at config seed [] entries found durable is bucket keeps);
-        none = told ∙ new.2;
+        has_seed = ap (λ f. f.seed) framing ∙ (is.new refl).0;
+        at = found_at (fresh config) [] found durable (is.represents (fresh config) b) bucket (keeps (fresh config) [] is.own tt tt (tt, tt) there (is.place (fresh config) b));
+        based = refl;
+        none = told ∙ (is.new refl).2;
       }
 
-  pub opened_again : (config : Configuration) (seed : ℕ) (bytes : List ℕ) (entries : List Entry) (found : Found) (durable : Durable F) (dropped : ℕ) → (bytes ≡ [] → ⊥) → IsFound config seed bytes entries found → durable.bucket ≡ found.bucket → dropped ≡ found.dropped
-      → durable.journal.framing ≡ found.framing → Keeps has usable config entries [] durable.journal → (es : List Entry) × (rest : List ℕ) × IsReopened has usable config bytes es rest durable dropped
-  opened_again config seed bytes entries found durable dropped some is bucket told framing keeps =
-      let read = is.reads some in (
-        entries,
-        read.0,
-        record {
-          reads = subst (λ (n : ℕ). Reads config bytes n entries read.0) (sym (ap (λ f. f.seed) framing)) read.1;
-          at = found_at config seed bytes entries found durable is bucket keeps;
-          told = told ∙ read.2;
-        },
-      )
-
--- the entries of what was found could be added
-pub can_follow : (config : Configuration) (seed : ℕ) (bytes : List ℕ) (entries : List Entry) (found : Found) → (bytes ≡ []) ⊎ (bytes ≡ [] → ⊥) → IsFound config seed bytes entries found → CanFollow config [] entries
-can_follow config seed bytes entries found cases is =
-    elim cases [
-      | inl none ↦ subst (λ (es : List Entry). CanFollow config [] es) (sym (is.new none).1) (tt, tt)
-      | inr some ↦ let read = is.reads some in (read.1.lawful, read.1.each)
-    ]
-
-pub empty_or_not : (bytes : List ℕ) → (bytes ≡ []) ⊎ (bytes ≡ [] → ⊥)
-empty_or_not [] = inl refl
-empty_or_not (x ∷ xs) = inr (λ e. absurd cc)
+  pub opened_again : (config : Configuration) (seed : ℕ) (new : F) (bytes : List ℕ) (payloads : List (List ℕ)) (entries : List Entry) (found : Found) (durable : Durable F) (dropped : ℕ) (checkpointed : Bool) → (bytes ≡ [] → ⊥) → IsFound config seed bytes payloads entries found
+      → durable.bucket ≡ found.bucket → dropped ≡ found.dropped → checkpointed ≡ found.checkpointed → durable.journal.framing ≡ found.framing
+      → ((base : Base) → IsBaseOf config payloads base → has new (file_of found.framing.seed base entries) []) → KeepsFound has usable new found durable → IsReopenedOn has usable config bytes durable dropped checkpointed
+  unfolding found_at
+  opened_again config seed new bytes payloads entries found durable dropped checkpointed some is bucket told kind framing there keeps =
+      let read = is.read some in
+      let i = read.1 in
+      record {
+        payloads = payloads;
+        entries = entries;
+        rest = read.0;
+        tells = subst (TellsBase config bytes payloads) (sym kind) i.tells;
+        each = λ base b.
+            let reads = i.reads base b in
+            let lawful = subst (λ (acts : List Act). AreLawful base.config acts entries) (sym (append-nil (acts_before base))) reads.lawful in
+            let represents = subst (λ (c : Configuration). Represents (state_of c (acts_before base ++ acts_of entries)) found.bucket) (sym b.same) (i.represents base b) in
+            record {
+              reads = subst (λ (n : ℕ). Reads base bytes n entries read.0) (sym (ap (λ f. f.seed) framing)) reads;
+              at = found_at base entries found durable represents bucket (keeps base entries (i.own ∙ sym b.same) reads.first b.lawful (lawful, reads.each) (there base b) (i.place base b));
+              based = refl;
+              told = told ∙ i.told;
+            };
+      }
 
 -- ---- what was found
 
 abbrev pub IsGone : {F : Type 0} (has : F → List ℕ → List ℕ → Type 0) (usable : F → Bool) → Configuration → ℕ → (old new : F) → Found → Type 0
-IsGone has usable config seed old new found = (bytes : List ℕ) × (entries : List Entry) × IsFound config seed bytes entries found
+IsGone has usable config seed old new found = (bytes : List ℕ) × (payloads : List (List ℕ)) × (entries : List Entry) × IsFound config seed bytes payloads entries found
     × ((kept loose : List ℕ) → has old kept loose → bytes ≡ kept ++ loose)
-    × (usable old ≡ true → (kept loose : List ℕ) → has old kept loose → has new (file_of found.framing.seed config entries) [])
+    × (usable old ≡ true → (kept loose : List ℕ) → has old kept loose → (base : Base) → IsBaseOf config payloads base → has new (file_of found.framing.seed base entries) [])
 
 module _ {F : Type 0} (has : F → List ℕ → List ℕ → Type 0) (usable : F → Bool) (config : Configuration) (seed : ℕ) (old mid new : F) (bytes : List ℕ)
     (are : (kept loose : List ℕ) → has old kept loose → bytes ≡ kept ++ loose) (same : (kept loose : List ℕ) → has old kept loose → has mid kept loose) (still : usable mid ≡ usable old) where
   pub begun_found : (r : Result Found DurableError) → bytes ≡ []
-      → IfOk r (λ found. Represents (empty config) found.bucket × (found.framing.seed ≡ seed) × (found.place ≡ length (beginning seed config)) × (found.dropped ≡ 0))
+      → IfOk r (λ found. Represents (empty config) found.bucket × (found.framing.seed ≡ seed) × (found.place ≡ length (beginning seed config)) × (found.dropped ≡ 0) × (found.checkpointed ≡ false) × (found.config.config ≡ config))
       → OnOk r (usable mid ≡ true → has mid [] [] → has new (beginning seed config) []) → IfOk r (IsGone has usable config seed old new)
   begun_found (Err e) none ok file = tt
   begun_found (Ok found) none ok file =
-      let whole : (n : ℕ) → n ≡ seed → file_of n config [] ≡ beginning seed config = λ n is. append-nil (beginning n config) ∙ ap (λ (m : ℕ). beginning m config) is in (
+      let whole : (base : Base) → IsBaseOf config [] base → (n : ℕ) → n ≡ seed → file_of n base [] ≡ beginning seed config =
+      λ base b n is. append-nil (opening n base) ∙ opening_is n config [] base b ∙ append-nil (beginning n config) ∙ ap (λ (m : ℕ). beginning m config) is in (
         bytes,
         [],
+        [],
         record {
-          represents = ok.0;
-          place = ok.2 ∙ ap length (sym (whole found.framing.seed ok.1));
-          new = λ _. (ok.1, refl, ok.3);
-          reads = λ some. absurd (some none);
+          own = ok.5;
+          plain = λ _. refl;
+          represents = λ base b. subst (λ (acts : List Act). Represents (state_of config (acts ++ [])) found.bucket) (sym (none_before base b.stands)) ok.0;
+          place = λ base b. ok.2 ∙ ap length (sym (whole base b found.framing.seed ok.1));
+          new = λ _. (ok.1, refl, ok.3, refl, ok.4);
+          read = λ some. absurd (some none);
         },
         are,
-        (λ usable_old kept loose h. subst (λ (w : List ℕ). has new w []) (sym (whole found.framing.seed ok.1))
+        (λ usable_old kept loose h base b. subst (λ (w : List ℕ). has new w []) (sym (whole base b found.framing.seed ok.1))
             (file (still ∙ usable_old) (from_empty has mid kept loose (sym (are kept loose h) ∙ none) (same kept loose h)))),
       )
 
   pub reads_found : (r : Result Found DurableError) → (bytes ≡ [] → ⊥)
-      → IfOk r (λ found. (entries : List Entry) × (rest : List ℕ) × Reads config bytes found.framing.seed entries rest × Represents (state_of config (acts_of entries)) found.bucket
-      × (found.place ≡ length (file_of found.framing.seed config entries)) × (found.dropped ≡ length rest))
+      → IfOk r (λ found. (payloads : List (List ℕ)) × (entries : List Entry) × (rest : List ℕ) × IsFoundIn config bytes payloads entries rest found)
       → IfOk r (λ found. usable mid ≡ true → (kept loose : List ℕ) → has mid kept loose → has new (take found.place (kept ++ loose)) []) → IfOk r (IsGone has usable config seed old new)
   reads_found (Err e) some ok file = tt
-  reads_found (Ok found) some ok file = (
-    bytes,
-    ok.0,
-    record {
-      represents = ok.3;
-      place = ok.4;
-      new = λ none. absurd (some none);
-      reads = λ _. (ok.1, ok.2, ok.5);
-    },
-    are,
-    (λ usable_old kept loose h.
-        let there = file (still ∙ usable_old) kept loose (same kept loose h) in
-        let front = ap (take found.place) (sym (are kept loose h)) ∙ front_of config bytes found.framing.seed found.place ok.0 ok.1 ok.2 ok.4 in
-        subst (λ (w : List ℕ). has new w []) front there),
-  )
+  reads_found (Ok found) some ok file =
+      let i = ok.3 in (
+        bytes,
+        ok.0,
+        ok.1,
+        record {
+          own = i.own;
+          plain = i.tells.plain;
+          represents = i.represents;
+          place = i.place;
+          new = λ none. absurd (some none);
+          read = λ _. (ok.2, i);
+        },
+        are,
+        (λ usable_old kept loose h base b.
+            let there = file (still ∙ usable_old) kept loose (same kept loose h) in
+            let front = ap (take found.place) (sym (are kept loose h)) ∙ front_of base bytes found.framing.seed found.place ok.1 ok.2 (i.reads base b) (i.place base b) in
+            subst (λ (w : List ℕ). has new w []) front there),
+      )
 
   pub begun_handed : {T : Type 0} (r : Result T DurableError) → bytes ≡ [] → OnErr r (usable mid ≡ true → has mid [] [] → (n : ℕ) × has new [] (take n (beginning seed config)))
       → OnErr r (usable old ≡ true → (kept loose : List ℕ) → has old kept loose → LeavesBytes has config seed kept loose new)
@@ -168,18 +192,37 @@ module _ {F : Type 0} (has : F → List ℕ → List ℕ → Type 0) (usable : F
   reads_handed (Ok x) on = tt
   reads_handed (Err e) on = λ usable_old kept loose h. inl (on (still ∙ usable_old) kept loose (same kept loose h))
 
-  pub reads_torn : {T : Type 0} (r : Result T DurableError) → IfOk r (λ _. (other : ℕ) (entries : List Entry) (rest : List ℕ) → Reads config bytes other entries rest → ShowsDamage other (length (file_of other config entries)) rest → ⊥)
-      → IfOk r (λ _. (kept loose : List ℕ) → has old kept loose → (other : ℕ) (entries : List Entry) (rest : List ℕ) → Reads config (kept ++ loose) other entries rest → ShowsDamage other (length (file_of other config entries)) rest → ⊥)
-  reads_torn (Ok x) on = λ kept loose h other entries rest reads. on other entries rest (subst (λ (w : List ℕ). Reads config w other entries rest) (sym (are kept loose h)) reads)
+  pub reads_torn : {T : Type 0} (r : Result T DurableError) → IfOk r (λ _. (base : Base) (other : ℕ) (entries : List Entry) (rest : List ℕ) → base.config ≡ config → Reads base bytes other entries rest → ShowsDamage other (length (file_of other base entries)) rest → ⊥)
+      → IfOk r (λ _. (kept loose : List ℕ) → has old kept loose → (base : Base) (other : ℕ) (entries : List Entry) (rest : List ℕ) → base.config ≡ config → Reads base (kept ++ loose) other entries rest → ShowsDamage other (length (file_of other base entries)) rest → ⊥)
+  reads_torn (Ok x) on = λ kept loose h base other entries rest own reads. on base other entries rest own (subst (λ (w : List ℕ). Reads base w other entries rest) (sym (are kept loose h)) reads)
   reads_torn (Err e) on = tt
 
+  pub reads_damaged : {T : Type 0} (r : Result T DurableError) → IfErr r (λ e. IsDamaged e → (base : Base) (other : ℕ) (entries : List Entry) (rest : List ℕ) → base.config ≡ config → Reads base bytes other entries rest → ShowsDamage other (length (file_of other base entries)) rest)
+      → IfErr r (λ e. IsDamaged e → (kept loose : List ℕ) → has old kept loose → (base : Base) (other : ℕ) (entries : List Entry) (rest : List ℕ) → base.config ≡ config → Reads base (kept ++ loose) other entries rest → ShowsDamage other (length (file_of other base entries)) rest)
+  reads_damaged (Ok x) on = tt
+  reads_damaged (Err e) on = λ is kept loose h base other entries rest own reads. on is base other entries rest own (subst (λ (w : List ℕ). Reads base w other entries rest) (sym (are kept loose h)) reads)
+
 -- what was opened is new where the file was empty
-pub new_opened : {F : Type 0} (has : F → List ℕ → List ℕ → Type 0) (usable : F → Bool) (config : Configuration) (seed : ℕ) (old new : F) (found : Found) (durable : Durable F) (dropped : ℕ) → IsGone has usable config seed old new found
-    → usable old ≡ true → has old [] [] → durable.bucket ≡ found.bucket → dropped ≡ found.dropped → durable.journal.framing ≡ found.framing
-    → ((entries : List Entry) → CanFollow config [] entries → has new (file_of found.framing.seed config entries) [] → found.place ≡ length (file_of found.framing.seed config entries) → Keeps has usable config entries [] durable.journal)
-    → IsNew has usable config seed durable dropped
-new_opened has usable config seed old new found durable dropped gone works h bucket told framing keeps =
-    let none : gone.0 ≡ [] = gone.3 [] [] h in
-    let is = subst (λ (bs : List ℕ). IsFound config seed bs gone.1 found) none gone.2 in
-    let can = can_follow config seed [] gone.1 found (inl refl) is in
-    opened_new has usable config seed gone.1 found durable dropped is bucket told framing (keeps gone.1 can (gone.4 works [] [] h) gone.2.place)
+pub new_opened : {F : Type 0} (has : F → List ℕ → List ℕ → Type 0) (usable : F → Bool) (config : Configuration) (seed : ℕ) (old new : F) (found : Found) (durable : Durable F) (dropped : ℕ) (checkpointed : Bool) → IsGone has usable config seed old new found
+    → usable old ≡ true → has old [] [] → durable.bucket ≡ found.bucket → dropped ≡ found.dropped → checkpointed ≡ found.checkpointed → durable.journal.framing ≡ found.framing → KeepsFound has usable new found durable
+    → (checkpointed ≡ false) × IsNew has usable config seed durable dropped
+new_opened has usable config seed old new found durable dropped checkpointed gone works h bucket told kind framing keeps =
+    let none : gone.0 ≡ [] = gone.4 [] [] h in
+    let is = subst (λ (bs : List ℕ). IsFound config seed bs gone.1 gone.2 found) none gone.3 in
+    let n = is.new refl in
+    let plain = subst (λ (ps : List (List ℕ)). IsFound config seed [] ps gone.2 found) n.3 is in
+    let there = gone.5 works [] [] h (fresh config) (is_fresh config gone.1 n.3) in (
+      kind ∙ n.4,
+      opened_new has usable config seed new found durable dropped (subst (λ (es : List Entry). IsFound config seed [] [] es found) n.1 plain) bucket told framing
+          (subst (λ (es : List Entry). has new (file_of found.framing.seed (fresh config) es) []) n.1 there) keeps,
+    )
+
+-- and is at what its bytes are read as where it was not
+pub again_opened : {F : Type 0} (has : F → List ℕ → List ℕ → Type 0) (usable : F → Bool) (config : Configuration) (seed : ℕ) (old new : F) (found : Found) (durable : Durable F) (dropped : ℕ) (checkpointed : Bool) → IsGone has usable config seed old new found
+    → usable old ≡ true → durable.bucket ≡ found.bucket → dropped ≡ found.dropped → checkpointed ≡ found.checkpointed → durable.journal.framing ≡ found.framing → KeepsFound has usable new found durable
+    → (kept loose : List ℕ) → has old kept loose → (kept ++ loose ≡ [] → ⊥) → IsReopenedOn has usable config (kept ++ loose) durable dropped checkpointed
+again_opened {F} has usable config seed old new found durable dropped checkpointed gone works bucket told kind framing keeps kept loose h some =
+    let are : gone.0 ≡ kept ++ loose = gone.4 kept loose h in
+    let some_there : gone.0 ≡ [] → ⊥ = λ e. some (sym are ∙ e) in
+    subst (λ (bs : List ℕ). IsReopenedOn has usable config bs durable dropped checkpointed) are
+    (opened_again has usable config seed new gone.0 gone.1 gone.2 found durable dropped checkpointed some_there gone.3 bucket told kind framing (gone.5 works kept loose h) keeps)

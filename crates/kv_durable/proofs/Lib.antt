@@ -1,8 +1,10 @@
 pub mod Once
 pub mod Bytes
 pub mod Crashing
+pub mod Starting
 pub mod Readings
 pub mod Adding
+pub mod Replacing
 pub mod Recording
 pub mod Living
 pub mod Steps

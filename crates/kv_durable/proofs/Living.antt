@@ -1,22 +1,25 @@
 -- Lives of a durable bucket.
-use Rattle.std.proofs.Common.{◌≡◌, ◌⊎◌, ℕ, Bool, List, [], ◌∷◌, ◌++◌, refl, sym, ap, ◌∙◌, subst, inl, inr, append_assoc, append-nil}
+use Rattle.std.proofs.Common.{◌≡◌, ◌⊎◌, ℕ, ◌^◌, ◌<◌, Bool, List, [], ◌∷◌, ◌++◌, length, refl, sym, ap, ◌∙◌, subst, inl, inr, append_assoc, append-nil}
 use Rattle.kv_file.specs.File.{MayLeave}
 use Rattle.kv_frames.specs.Frames.{ArePayloads}
+use Rattle.kv_frames.proofs.Fronts.{nothing_whole}
 use Rattle.kv_model.specs.Acts.{Act, IsPrefix}
 use Rattle.kv_model.specs.Configuration.{Configuration, IsLegal}
 use Rattle.kv_model.specs.State.{State, empty}
 use Rattle.kv_journal.specs.Entries.{AreLawful, Entry, acts_of, payloads_of}
-use Rattle.kv_durable.specs.Durables.{IsAt, IsRecorded}
-use Rattle.kv_durable.specs.Files.{HasForgery, IsBetween}
-use Rattle.kv_durable.specs.Lives.{ComesBack, GoesOn, Lives, lived}
+use Rattle.kv_durable.specs.Bases.{Base, IsLawfulBase, acts_before, fresh, replaced_by}
+use Rattle.kv_durable.specs.Durables.{IsAt, IsRecorded, state_of}
+use Rattle.kv_durable.specs.Files.{HasForgery, IsBetween, Reads, file_of}
+use Rattle.kv_durable.specs.Lives.{ComesBack, Follows, GoesOn, Lives, lived}
 use Rattle.kv_durable.specs.Openings.{IsNew, IsReopened}
 use Rattle.kv_single.specs.Held.{Represents}
 use Rattle.kv_journal.specs.Records.{Content}
+use Rattle.kv_journal.proofs.Going.{acts_of-append}
 use Rattle.kv_durable.specs.Journals.{Keeps, told_next}
 use Rattle.kv_durable.proofs.Recording.{added_kept, all_added}
 use Rattle.kv_durable.specs.declared.durable.Durable.{Durable}
 use Rattle.kv_durable.proofs.Adding.{lawful_append}
-use Rattle.kv_durable.proofs.Crashing.{after_a_crash, beginning_acts}
+use Rattle.kv_durable.proofs.Crashing.{after_a_crash, beginning_acts, one_reading}
 
 pub prefix_on : (xs ys zs : List Entry) → IsPrefix xs ys → IsPrefix ys zs → IsPrefix xs zs
 prefix_on xs ys zs one two = (one.0 ++ two.0, sym (append_assoc xs one.0 two.0) ∙ ap (λ (ws : List Entry). ws ++ two.0) one.1 ∙ two.1)
@@ -25,42 +28,95 @@ front_payloads : (xs ys : List Entry) → ArePayloads (payloads_of (xs ++ ys)) �
 front_payloads [] ys h = tt
 front_payloads (x ∷ xs) ys h = (h.0, front_payloads xs ys h.1)
 
+pub acts_on : (xs ys zs : List Act) → IsPrefix xs ys → IsPrefix ys zs → IsPrefix xs zs
+acts_on xs ys zs one two = (one.0 ++ two.0, sym (append_assoc xs one.0 two.0) ∙ ap (λ (ws : List Act). ws ++ two.0) one.1 ∙ two.1)
+
+-- the acts of more entries behind the same acts
+pub more_acts : (before : List Act) (xs ys : List Entry) → IsPrefix xs ys → IsPrefix (before ++ acts_of xs) (before ++ acts_of ys)
+more_acts before xs ys p = (
+  acts_of p.0,
+  append_assoc before (acts_of xs) (acts_of p.0) ∙ ap (λ (as' : List Act). before ++ as') (sym (acts_of-append xs p.0) ∙ ap acts_of p.1),
+)
+
+prefix_before : (before : List Act) (xs ys : List Act) → IsPrefix xs ys → IsPrefix (before ++ xs) (before ++ ys)
+prefix_before before xs ys p = (p.0, append_assoc before xs p.0 ∙ ap (λ (as' : List Act). before ++ as') p.1)
+
+-- what goes on from the first goes on
+pub follows_on : (a b c : Base) (xs xl ys yl zs zl : List Entry) → Follows a xs xl b ys yl → Follows b ys yl c zs zl → Follows a xs xl c zs zl
+follows_on a b c xs xl ys yl zs zl one two =
+    elim one [
+      | inl on ↦ elim two [
+        | inl more ↦ inl (more.0 ∙ on.0, prefix_on xs ys zs on.1 more.1, prefix_on (xs ++ xl) (ys ++ yl) (zs ++ zl) on.2 more.2)
+        | inr late ↦
+            let all = more_acts (acts_before a) (xs ++ xl) (ys ++ yl) on.2 in
+            let here = subst (λ (d : Base). IsPrefix (acts_before a ++ acts_of (xs ++ xl)) (acts_before d ++ acts_of (ys ++ yl))) (sym on.0) all in
+            inr (acts_on (acts_before a ++ acts_of (xs ++ xl)) (acts_before b ++ acts_of (ys ++ yl)) (acts_before c) here late)
+      ]
+      | inr late ↦ inr (elim two [
+        | inl more ↦ subst (λ (d : Base). IsPrefix (acts_before a ++ acts_of (xs ++ xl)) (acts_before d)) (sym more.0) late
+        | inr later ↦ acts_on (acts_before a ++ acts_of (xs ++ xl)) (acts_before b) (acts_before c) late (acts_on (acts_before b) (acts_before b ++ acts_of (ys ++ yl)) (acts_before c) (acts_of (ys ++ yl), refl) later)
+      ])
+    ]
+
 module _ {F : Type 0} (has : F → List ℕ → List ℕ → Type 0) (usable : F → Bool) where
-  pub goes_on : (calls : List (State → State)) (first last : Durable F) (state : State) (kept loose : List Entry) → Lives has usable calls first last → IsAt has usable state kept loose first
-      → (k : List Entry) × (l : List Entry) × IsPrefix kept k × IsPrefix (kept ++ loose) (k ++ l) × IsAt has usable (lived calls state) k l last
-  goes_on [] first last state kept loose lives at = (kept, loose, ([], append-nil kept), ([], append-nil (kept ++ loose)), subst (IsAt has usable state kept loose) (sym lives) at)
+  pub goes_on : (calls : List (State → State)) (first last : Durable F) (state : State) (kept loose : List Entry) → Lives has usable calls first last → (at : IsAt has usable state kept loose first)
+      → (k : List Entry) × (l : List Entry) × (next : IsAt has usable (lived calls state) k l last) × Follows at.base kept loose next.base k l
+  goes_on [] first last state kept loose lives at = still last lives
+    where
+      still : (d : Durable F) → d ≡ first → (k : List Entry) × (l : List Entry) × (next : IsAt has usable state k l d) × Follows at.base kept loose next.base k l
+      still d is = (
+        kept,
+        loose,
+        record { base = at.base; config = at.config; represents = subst (λ (e : Durable F). Represents state e.bucket) (sym is) at.represents; acts = at.acts; keeps = subst (λ (e : Durable F). Keeps has usable at.base kept loose e.journal) (sym is) at.keeps },
+        inl (refl, ([], append-nil kept), ([], append-nil (kept ++ loose))),
+      )
   goes_on (later ∷ more) first last state kept loose lives at =
       let one = lives.1 state kept loose at in
-      let rest = goes_on more lives.0 last (later state) one.0 one.1 lives.2 one.4 in
-      (rest.0, rest.1, prefix_on kept one.0 rest.0 one.2 rest.2, prefix_on (kept ++ loose) (one.0 ++ one.1) (rest.0 ++ rest.1) one.3 rest.3, rest.4)
+      let rest = goes_on more lives.0 last (later state) one.0 one.1 lives.2 one.2 in
+      (rest.0, rest.1, rest.2, follows_on at.base one.2.base rest.2.base kept loose one.0 one.1 rest.0 rest.1 one.3 rest.3)
 
-  pub second_life : (state : State) (kept loose told entries : List Entry) (first second : Durable F) (dropped : ℕ) (disk more left rest : List ℕ) → IsAt has usable state kept loose first → AreLawful state.config state.acts told
-      → IsBetween first.journal.framing.seed state.config kept (loose ++ told) disk more → MayLeave disk more left → IsReopened has usable state.config left entries rest second dropped
-      → ComesBack state.config kept (loose ++ told) (acts_of entries) second ⊎ HasForgery first.journal.framing.seed state.config kept (loose ++ told) left
+  -- what is at a state is at an equal one
+  pub at_state : (s t : State) (kept loose : List Entry) (durable : Durable F) → s ≡ t → (at : IsAt has usable s kept loose durable) → (same : IsAt has usable t kept loose durable) × (same.base ≡ at.base)
+  at_state s t kept loose durable is at = (
+    record {
+      base = at.base;
+      config = at.config ∙ ap (λ (x : State). x.config) is;
+      represents = subst (λ (x : State). Represents x durable.bucket) is at.represents;
+      acts = sym (ap (λ (x : State). x.acts) is) ∙ at.acts;
+      keeps = at.keeps;
+    },
+    refl,
+  )
+
+  pub second_life : (state : State) (kept loose told entries : List Entry) (first second : Durable F) (dropped : ℕ) (disk more left rest : List ℕ) (at : IsAt has usable state kept loose first) → AreLawful state.config state.acts told
+      → IsBetween first.journal.framing.seed at.base kept (loose ++ told) disk more → MayLeave disk more left → IsReopened has usable at.base left entries rest second dropped
+      → ComesBack at.base kept (loose ++ told) (acts_before at.base ++ acts_of entries) second ⊎ HasForgery first.journal.framing.seed at.base kept (loose ++ told) left
   second_life state kept loose told entries first second dropped disk more left rest at lawful between may again =
-      let config = state.config in
-      let behind = lawful_append config [] (kept ++ loose) told at.keeps.lawful (subst (λ (acts : List Act). AreLawful config acts told) at.acts lawful) in
-      let all = subst (AreLawful config []) (append_assoc kept loose told) behind in
+      let base = at.base in
+      let before = acts_before base in
+      let told_here = subst (λ (c : Configuration). AreLawful c (before ++ acts_of (kept ++ loose)) told) (sym at.config) (subst (λ (acts : List Act). AreLawful state.config acts told) at.acts lawful) in
+      let behind = lawful_append base.config before (kept ++ loose) told at.keeps.lawful told_here in
+      let all = subst (AreLawful base.config before) (append_assoc kept loose told) behind in
       let legal = again.at.represents.version.legal in
-      elim (after_a_crash first.journal.framing.seed second.journal.framing.seed config kept (loose ++ told) entries disk more left rest (subst IsLegal again.at.represents.config legal) at.keeps.seed_fits all
+      elim (after_a_crash first.journal.framing.seed second.journal.framing.seed base kept (loose ++ told) entries disk more left rest (subst IsLegal again.at.represents.config legal) at.keeps.seed_fits all
       (front_payloads kept loose at.keeps.payloads) between may again.reads) [
         | inl found ↦ let acts = beginning_acts kept (loose ++ told) entries found in inl (record {
           represents = again.at.represents;
-          all_kept = acts.0;
-          no_other = acts.1;
-          whole = (found.0, ap acts_of found.2);
+          all_kept = prefix_before before (acts_of kept) (acts_of entries) acts.0;
+          no_other = prefix_before before (acts_of entries) (acts_of (kept ++ (loose ++ told))) acts.1;
+          whole = (found.0, ap (λ (es : List Entry). before ++ acts_of es) found.2);
         })
         | inr forged ↦ inr forged
       ]
 
   pub life_and_next : (config : Configuration) (seed : ℕ) (calls : List (State → State)) (new last second : Durable F) (none dropped : ℕ) → IsNew has usable config seed new none → Lives has usable calls new last
-      → (kept : List Entry) × (loose : List Entry) × IsAt has usable (lived calls (empty config)) kept loose last
+      → (kept : List Entry) × (loose : List Entry) × (at : IsAt has usable (lived calls (empty config)) kept loose last)
       × ((told entries : List Entry) (disk more left rest : List ℕ) → AreLawful (lived calls (empty config)).config (lived calls (empty config)).acts told
-      → IsBetween last.journal.framing.seed (lived calls (empty config)).config kept (loose ++ told) disk more → MayLeave disk more left → IsReopened has usable (lived calls (empty config)).config left entries rest second dropped
-      → ComesBack (lived calls (empty config)).config kept (loose ++ told) (acts_of entries) second ⊎ HasForgery last.journal.framing.seed (lived calls (empty config)).config kept (loose ++ told) left)
+      → IsBetween last.journal.framing.seed at.base kept (loose ++ told) disk more → MayLeave disk more left → IsReopened has usable at.base left entries rest second dropped
+      → ComesBack at.base kept (loose ++ told) (acts_before at.base ++ acts_of entries) second ⊎ HasForgery last.journal.framing.seed at.base kept (loose ++ told) left)
   life_and_next config seed calls new last second none dropped is lives =
       let there = goes_on calls new last (empty config) [] [] lives is.at in
-      (there.0, there.1, there.4, λ told entries disk more left rest. second_life (lived calls (empty config)) there.0 there.1 told entries last second dropped disk more left rest there.4)
+      (there.0, there.1, there.2, λ told entries disk more left rest. second_life (lived calls (empty config)) there.0 there.1 told entries last second dropped disk more left rest there.2)
 
   -- ---- what goes on
 
@@ -68,11 +124,63 @@ module _ {F : Type 0} (has : F → List ℕ → List ℕ → Type 0) (usable : F
   recorded_goes_on later told old new recorded = λ state kept loose at.
       let there = recorded state kept loose at in
       let entries = told_next old.journal (told state) in
-      (there.0, there.1, added_kept kept loose entries there.0 there.1 there.2, (entries, sym (all_added kept loose entries there.0 there.1 there.2)), there.4)
+      (there.0, there.1, there.4, inl (there.5, added_kept kept loose entries there.0 there.1 there.2, (entries, sym (all_added kept loose entries there.0 there.1 there.2))))
 
-  pub synced_goes_on : (old new : Durable F) → ((state : State) (kept loose : List Entry) → IsAt has usable state kept loose old → IsAt has usable state (kept ++ loose) [] new) → GoesOn has usable (λ state. state) old new
+  pub synced_goes_on : (old new : Durable F) → ((state : State) (kept loose : List Entry) (at : IsAt has usable state kept loose old) → (next : IsAt has usable state (kept ++ loose) [] new) × (next.base ≡ at.base)) → GoesOn has usable (λ state. state) old new
   synced_goes_on old new on = λ state kept loose at.
-      (kept ++ loose, [], (loose, refl), ([], refl), on state kept loose at)
+      let there = on state kept loose at in
+      (kept ++ loose, [], there.0, inl (there.1, (loose, refl), ([], refl)))
+
+  -- all acts stand in a checkpoint then
+  pub replaced_goes_on : (old new : Durable F) → ((state : State) (kept loose : List Entry) → IsAt has usable state kept loose old → (next : IsAt has usable state [] [] new) × (next.base ≡ replaced_by state.config state.acts)) → GoesOn has usable (λ state. state) old new
+  replaced_goes_on old new on = λ state kept loose at.
+      let there = on state kept loose at in
+      ([], [], there.0, inr ([], append-nil (acts_before at.base ++ acts_of (kept ++ loose)) ∙ sym at.acts ∙ sym (ap acts_before there.1)))
+
+  pub not_replaced_goes_on : (old new : Durable F) → ((state : State) (kept loose : List Entry) (at : IsAt has usable state kept loose old) → (next : IsAt has usable state kept loose new) × (next.base ≡ at.base)) → GoesOn has usable (λ state. state) old new
+  not_replaced_goes_on old new on = λ state kept loose at.
+      let there = on state kept loose at in
+      (kept, loose, there.0, inl (there.1, ([], append-nil kept), ([], append-nil (kept ++ loose))))
+
+  -- a file that ends where its entries do is read as these
+  whole_again : (base : Base) (seed : ℕ) (kept entries : List Entry) (second : Durable F) (dropped : ℕ) (rest : List ℕ) → seed < 2 ^ 64 → AreLawful base.config (acts_before base) kept → ArePayloads (payloads_of kept)
+      → IsReopened has usable base (file_of seed base kept) entries rest second dropped → Represents (state_of base.config (acts_before base ++ acts_of kept)) second.bucket × (entries ≡ kept) × (dropped ≡ 0)
+  whole_again base seed kept entries second dropped rest fits lawful each again =
+      let read : Reads base (file_of seed base kept) seed kept [] = record {
+        seed_fits = fits;
+        whole = sym (append-nil (file_of seed base kept));
+        first = again.reads.first;
+        each = each;
+        replaced = again.reads.replaced;
+        lawful = lawful;
+        ended = nothing_whole seed (length (file_of seed base kept));
+      } in
+      let legal = subst IsLegal again.at.represents.config again.at.represents.version.legal in
+      let same = one_reading base (file_of seed base kept) seed second.journal.framing.seed kept entries [] rest legal read again.reads in (
+        subst (λ (es : List Entry). Represents (state_of base.config (acts_before base ++ acts_of es)) second.bucket) (sym same.1) again.at.represents,
+        sym same.1,
+        again.told ∙ ap length (sym same.2),
+      )
+
+  pub new_file_again : (state : State) (seed : ℕ) (entries : List Entry) (second : Durable F) (dropped : ℕ) (rest : List ℕ) → seed < 2 ^ 64
+      → IsReopened has usable (replaced_by state.config state.acts) (file_of seed (replaced_by state.config state.acts) []) entries rest second dropped
+      → Represents (state_of state.config state.acts) second.bucket × (entries ≡ []) × (dropped ≡ 0)
+  new_file_again state seed entries second dropped rest fits again =
+      let there = whole_again (replaced_by state.config state.acts) seed [] entries second dropped rest fits tt tt again in
+      (subst (λ (acts : List Act). Represents (state_of state.config acts) second.bucket) (append-nil state.acts) there.0, there.1, there.2)
+
+  pub old_file_again : (state : State) (kept entries : List Entry) (first second : Durable F) (dropped : ℕ) (rest : List ℕ) (at : IsAt has usable state kept [] first)
+      → IsReopened has usable at.base (file_of first.journal.framing.seed at.base kept) entries rest second dropped → Represents (state_of state.config state.acts) second.bucket × (entries ≡ kept) × (dropped ≡ 0)
+  old_file_again state kept entries first second dropped rest at again =
+      let base = at.base in
+      let lawful = subst (AreLawful base.config (acts_before base)) (append-nil kept) at.keeps.lawful in
+      let each = subst (λ (es : List Entry). ArePayloads (payloads_of es)) (append-nil kept) at.keeps.payloads in
+      let there = whole_again base first.journal.framing.seed kept entries second dropped rest at.keeps.seed_fits lawful each again in
+      let acts : acts_before base ++ acts_of kept ≡ state.acts = ap (λ (es : List Entry). acts_before base ++ acts_of es) (sym (append-nil kept)) ∙ sym at.acts in (
+        subst (λ (as' : List Act). Represents (state_of state.config as') second.bucket) acts (subst (λ (c : Configuration). Represents (state_of c (acts_before base ++ acts_of kept)) second.bucket) at.config there.0),
+        there.1,
+        there.2,
+      )
 
   pub watched_goes_on : (later : State → State) (old new : Durable F) → ((state : State) → Represents state old.bucket → Represents (later state) new.bucket × ((later state).acts ≡ state.acts) × ((later state).config ≡ state.config))
       → new.journal ≡ old.journal → GoesOn has usable later old new
@@ -80,11 +188,12 @@ module _ {F : Type 0} (has : F → List ℕ → List ℕ → Type 0) (usable : F
       let there = on state at.represents in (
         kept,
         loose,
-        ([], append-nil kept),
-        ([], append-nil (kept ++ loose)),
         record {
+          base = at.base;
+          config = at.config ∙ sym there.2;
           represents = there.0;
           acts = there.1 ∙ at.acts;
-          keeps = subst (λ (c : Configuration). Keeps has usable c kept loose new.journal) (sym there.2) (subst (Keeps has usable state.config kept loose) (sym same) at.keeps);
+          keeps = subst (Keeps has usable at.base kept loose) (sym same) at.keeps;
         },
+        inl (refl, ([], append-nil kept), ([], append-nil (kept ++ loose))),
       )

@@ -14,6 +14,7 @@ use Rattle.kv_single.specs.Held.{Represents}
 use Rattle.kv_journal.specs.Entries.{AreLawful, Entry, acts_of, payloads_of}
 use Rattle.kv_journal.specs.Records.{Content, did, did_all}
 use Rattle.kv_journal.proofs.Going.{acts_of-append}
+use Rattle.kv_durable.specs.Bases.{Base, acts_before}
 use Rattle.kv_durable.specs.Durables.{IsHanded, IsRecorded}
 use Rattle.kv_durable.specs.Files.{file_of, frames_behind}
 use Rattle.kv_durable.specs.Journals.{CanFollow, HasAdded, IsFrameOf, IsLeft, Keeps, is_stopped, loose_ahead, told_next}
@@ -66,9 +67,9 @@ pub few_loose : {F : Type 0} (journal : Journal F) → loose_ahead journal ≤ 1
 few_loose journal = least journal.appender.loose (nat_lt 1073741824 journal.appender.loose) refl
 
 module _ {F : Type 0} (has : F → List ℕ → List ℕ → Type 0) (usable : F → Bool) where
-  pub none_loose : (config : Configuration) (kept loose : List Entry) (journal : Journal F) → Keeps has usable config kept loose journal → journal.appender.loose ≡ 0 → loose ≡ []
-  none_loose config kept loose journal keeps none =
-      none_of loose (no_frames journal.framing.seed (length (file_of journal.framing.seed config kept)) (payloads_of loose) (sym keeps.bytes.count ∙ none))
+  pub none_loose : (base : Base) (kept loose : List Entry) (journal : Journal F) → Keeps has usable base kept loose journal → journal.appender.loose ≡ 0 → loose ≡ []
+  none_loose base kept loose journal keeps none =
+      none_of loose (no_frames journal.framing.seed (length (file_of journal.framing.seed base kept)) (payloads_of loose) (sym keeps.bytes.count ∙ none))
 
   -- what a call told, and the state behind it
   pub record IsTold (later : State → State) (told : State → List Content) (old new : Durable F) (bytes : List ℕ) (state : State) : Type 0 where
@@ -113,51 +114,56 @@ module _ {F : Type 0} (has : F → List ℕ → List ℕ → Type 0) (usable : F
       }
 
   pub recorded : (later : State → State) (told : State → List Content) (old new : Durable F) (bytes : List ℕ) → Told later told old new bytes
-      → ((config : Configuration) (kept loose entries : List Entry) → Keeps has usable config kept loose old.journal → CanFollow config (kept ++ loose) entries
-      → bytes ≡ frames old.journal.framing.seed old.journal.appender.place (payloads_of entries) → HasAdded has usable config kept loose entries new.journal)
+      → ((base : Base) (kept loose entries : List Entry) → Keeps has usable base kept loose old.journal → CanFollow base (kept ++ loose) entries
+      → bytes ≡ frames old.journal.framing.seed old.journal.appender.place (payloads_of entries) → HasAdded has usable base kept loose entries new.journal)
       → (old.journal.appender.sync ≡ Each → new.journal.appender.loose ≡ 0) → IsRecorded has usable later told old new
   recorded later told old new bytes tells on none = λ state kept loose at.
       let t = tells state at.represents in
+      let before = acts_before at.base in
       let entries = told_next old.journal (told state) in
-      let lawful = subst (λ (acts : List Act). AreLawful state.config acts entries) at.acts t.lawful in
-      let there = on state.config kept loose entries at.keeps (lawful, t.payloads) t.are in (
+      let lawful = subst (λ (c : Configuration). AreLawful c (before ++ acts_of (kept ++ loose)) entries) (sym at.config) (subst (λ (acts : List Act). AreLawful state.config acts entries) at.acts t.lawful) in
+      let there = on at.base kept loose entries at.keeps (lawful, t.payloads) t.are in (
         there.0,
         there.1,
         there.2,
-        (λ each. none_loose state.config there.0 there.1 new.journal there.3 (none each)),
+        (λ each. none_loose at.base there.0 there.1 new.journal there.3 (none each)),
         record {
+          base = at.base;
+          config = at.config ∙ sym t.config;
           represents = t.represents;
-          acts = t.acts ∙ ap (λ (acts : List Act). acts ++ acts_of entries) at.acts ∙ sym (acts_of-append (kept ++ loose) entries) ∙ ap acts_of (sym (all_added kept loose entries there.0 there.1 there.2));
-          keeps = subst (λ (c : Configuration). Keeps has usable c there.0 there.1 new.journal) (sym t.config) there.3;
+          acts = t.acts ∙ ap (λ (acts : List Act). acts ++ acts_of entries) at.acts ∙ append_assoc before (acts_of (kept ++ loose)) (acts_of entries)
+              ∙ ap (λ (acts : List Act). before ++ acts) (sym (acts_of-append (kept ++ loose) entries) ∙ ap acts_of (sym (all_added kept loose entries there.0 there.1 there.2)));
+          keeps = there.3;
         },
+        refl,
       )
 
   pub handed : (told : State → List Content) (old new : Durable F) (bytes : List ℕ)
       → ((state : State) → Represents state old.bucket → bytes ≡ frames old.journal.framing.seed old.journal.appender.place (payloads_of (told_next old.journal (told state))))
-      → ((config : Configuration) (kept loose entries : List Entry) → Keeps has usable config kept loose old.journal
-      → bytes ≡ frames old.journal.framing.seed old.journal.appender.place (payloads_of entries) → IsLeft has old.journal.framing.seed config kept (loose ++ entries) new.journal.appender.file)
+      → ((base : Base) (kept loose entries : List Entry) → Keeps has usable base kept loose old.journal
+      → bytes ≡ frames old.journal.framing.seed old.journal.appender.place (payloads_of entries) → IsLeft has old.journal.framing.seed base kept (loose ++ entries) new.journal.appender.file)
       → IsHanded has usable told old new
-  handed told old new bytes tells on = λ state kept loose at. on state.config kept loose (told_next old.journal (told state)) at.keeps (tells state at.represents)
+  handed told old new bytes tells on = λ state kept loose at. on at.base kept loose (told_next old.journal (told state)) at.keeps (tells state at.represents)
 
   -- a call that touched nothing
   pub untouched : (told : State → List Content) (old new : Durable F) → new ≡ old → IsHanded has usable told old new
   untouched told old new same = λ state kept loose at.
       let entries = told_next old.journal (told state) in
-      let there = not_flushed has usable state.config kept loose old.journal old.journal.appender.file at.keeps (λ k l h. h.file) in (
+      let there = not_flushed has usable at.base kept loose old.journal old.journal.appender.file at.keeps (λ k l h. h.file) in (
         there.0,
         there.1,
         record {
           on_disk = there.2.on_disk;
-          no_more = more_may old.journal.framing.seed state.config kept loose entries (there.0 ++ there.1) there.2.no_more;
+          no_more = more_may old.journal.framing.seed at.base kept loose entries (there.0 ++ there.1) there.2.no_more;
         },
         subst (λ (d : Durable F). has d.journal.appender.file there.0 there.1) (sym same) there.3,
       )
     where
-      more_may : (seed : ℕ) (config : Configuration) (kept loose entries : List Entry) (bytes : List ℕ) → IsPrefix bytes (file_of seed config (kept ++ loose)) → IsPrefix bytes (file_of seed config (kept ++ (loose ++ entries)))
-      more_may seed config kept loose entries bytes h = (
-        h.0 ++ frames_behind seed config (kept ++ loose) entries,
-        sym (append_assoc bytes h.0 (frames_behind seed config (kept ++ loose) entries)) ∙ ap (λ (w : List ℕ). w ++ frames_behind seed config (kept ++ loose) entries) h.1
-            ∙ sym (file_append seed config (kept ++ loose) entries) ∙ ap (file_of seed config) (append_assoc kept loose entries),
+      more_may : (seed : ℕ) (base : Base) (kept loose entries : List Entry) (bytes : List ℕ) → IsPrefix bytes (file_of seed base (kept ++ loose)) → IsPrefix bytes (file_of seed base (kept ++ (loose ++ entries)))
+      more_may seed base kept loose entries bytes h = (
+        h.0 ++ frames_behind seed base (kept ++ loose) entries,
+        sym (append_assoc bytes h.0 (frames_behind seed base (kept ++ loose) entries)) ∙ ap (λ (w : List ℕ). w ++ frames_behind seed base (kept ++ loose) entries) h.1
+            ∙ sym (file_append seed base (kept ++ loose) entries) ∙ ap (file_of seed base) (append_assoc kept loose entries),
       )
 
 -- what is not stopped has a file that has not failed and has room

@@ -12,6 +12,7 @@ use Rattle.kv_store.specs.Stored.{Stored}
 use Rattle.kv_model.specs.State.{State}
 use Rattle.kv_single.specs.Held.{Bucketed, Represents}
 use Rattle.kv_journal.specs.Entries.{Entry, acts_of}
+use Rattle.kv_durable.specs.Bases.{Base, acts_before}
 use Rattle.kv_journal.specs.Records.{Content, did_all}
 use Rattle.kv_durable.specs.Journals.{IsLeft, Keeps, told_next}
 use Rattle.kv_durable.specs.declared.durable.Durable.{Durable}
@@ -22,12 +23,14 @@ use Rattle.kv_durable.specs.declared.error.DurableError.TheVariants.{Refused, Fi
 abbrev pub state_of : Configuration → List Act → State
 state_of config acts = record { config = config; acts = acts; watches = [] }
 
--- a durable bucket is at a state and at the entries of its file: its bucket represents the state, whose acts are those of the
--- entries, and its journal keeps these, the first ones on the disk and the others loose
+-- a durable bucket is at a state and at the entries of its file: its bucket represents the state, whose acts are those
+-- of its base and of the entries, and its journal keeps these, the first ones on the disk and the others loose
 pub record IsAt {F : Type 0} (has : F → List ℕ → List ℕ → Type 0) (usable : F → Bool) (state : State) (kept loose : List Entry) (durable : Durable F) : Type 0 where
+  pub base : Base
+  pub config : base.config ≡ state.config
   pub represents : Represents state durable.bucket
-  pub acts : state.acts ≡ acts_of (kept ++ loose)
-  pub keeps : Keeps has usable state.config kept loose durable.journal
+  pub acts : state.acts ≡ acts_before base ++ acts_of (kept ++ loose)
+  pub keeps : Keeps has usable base kept loose durable.journal
 
 -- the act that is accepted, if there is one
 abbrev pub act_of : {E : Type 0} → Result Write E → List Act
@@ -42,14 +45,14 @@ batch_of (Err error) = []
 -- A call has added to the file what it was accepted as: behind what is loose, or it is loose alone, or all is on the disk, as
 -- it is where each write is synced. The bucket is at the state behind the call, and at these entries.
 abbrev pub IsRecorded : {F : Type 0} → (F → List ℕ → List ℕ → Type 0) → (F → Bool) → (State → State) → (State → List Content) → Durable F → Durable F → Type 0
-IsRecorded has usable later told old new = (state : State) (kept loose : List Entry) → IsAt has usable state kept loose old →
-    (k : List Entry) × (l : List Entry) × Adds kept loose (told_next old.journal (told state)) k l × (old.journal.appender.sync ≡ Each → l ≡ []) × IsAt has usable (later state) k l new
+IsRecorded has usable later told old new = (state : State) (kept loose : List Entry) (at : IsAt has usable state kept loose old) →
+    (k : List Entry) × (l : List Entry) × Adds kept loose (told_next old.journal (told state)) k l × (old.journal.appender.sync ≡ Each → l ≡ []) × (next : IsAt has usable (later state) k l new) × (next.base ≡ at.base)
 
 -- A call has failed by its file. Nothing that was on the disk has gone, and nothing else was handed over than a beginning of
 -- what the call was accepted as.
 abbrev pub IsHanded : {F : Type 0} → (F → List ℕ → List ℕ → Type 0) → (F → Bool) → (State → List Content) → Durable F → Durable F → Type 0
-IsHanded has usable told old new = (state : State) (kept loose : List Entry) → IsAt has usable state kept loose old →
-    IsLeft has old.journal.framing.seed state.config kept (loose ++ told_next old.journal (told state)) new.journal.appender.file
+IsHanded has usable told old new = (state : State) (kept loose : List Entry) (at : IsAt has usable state kept loose old) →
+    IsLeft has old.journal.framing.seed at.base kept (loose ++ told_next old.journal (told state)) new.journal.appender.file
 
 -- it is a refusal of the rules or of memory, or FileFault
 abbrev pub IsRefusal : DurableError → Type 0

@@ -3,19 +3,22 @@ use Rattle.std.specs.Prelude.{◌≡◌, ℕ, ◌+◌, ◌<◌, ◌^◌, Bool, n
 use Rattle.kv_file.specs.Adding.{Adds}
 use Rattle.kv_file.specs.Bytes.{Has}
 use Rattle.kv_frames.specs.Frames.{ArePayloads, IsPayload, frames}
-use Rattle.kv_model.specs.Configuration.{Configuration}
 use Rattle.kv_journal.specs.Entries.{AreLawful, Entry, acts_of, payload_of, payloads_of}
 use Rattle.kv_journal.specs.Records.{Content}
+use Rattle.kv_durable.specs.Bases.{Base, IsLawfulBase, acts_before, base_payloads}
 use Rattle.kv_durable.specs.Files.{IsBetween, file_of, frames_behind}
 use Rattle.kv_durable.specs.declared.journal.Journal.{Journal}
 
 -- the file of a journal has the first entries on the disk, the others loose behind them, and nothing else; no call of it has
 -- failed, and each entry could be added behind those before it
-pub record Keeps {F : Type 0} (has : F → List ℕ → List ℕ → Type 0) (usable : F → Bool) (config : Configuration) (kept loose : List Entry) (journal : Journal F) : Type 0 where
+pub record Keeps {F : Type 0} (has : F → List ℕ → List ℕ → Type 0) (usable : F → Bool) (base : Base) (kept loose : List Entry) (journal : Journal F) : Type 0 where
   pub seed_fits : journal.framing.seed < 2 ^ 64
-  pub lawful : AreLawful config [] (kept ++ loose)
+  pub own : journal.config.config ≡ base.config
+  pub first : ArePayloads (base_payloads base)
+  pub replaced : IsLawfulBase base
+  pub lawful : AreLawful base.config (acts_before base) (kept ++ loose)
   pub payloads : ArePayloads (payloads_of (kept ++ loose))
-  pub bytes : Has has usable (file_of journal.framing.seed config kept) (frames_behind journal.framing.seed config kept loose) journal.appender
+  pub bytes : Has has usable (file_of journal.framing.seed base kept) (frames_behind journal.framing.seed base kept loose) journal.appender
 
 -- nothing more is added to a file that has failed, or that has 2^62 bytes
 abbrev pub is_stopped : {F : Type 0} → (F → Bool) → Journal F → Bool
@@ -37,16 +40,20 @@ abbrev pub told_next : {F : Type 0} → Journal F → List Content → List Entr
 told_next journal contents = entries_at (loose_ahead journal) contents
 
 -- these entries can be added behind those
-abbrev pub CanFollow : Configuration → (before entries : List Entry) → Type 0
-CanFollow config before entries = AreLawful config (acts_of before) entries × ArePayloads (payloads_of entries)
+abbrev pub CanFollow : Base → (before entries : List Entry) → Type 0
+CanFollow base before entries = AreLawful base.config (acts_before base ++ acts_of before) entries × ArePayloads (payloads_of entries)
 
 -- these entries were added: they are loose as well, or loose alone, or all is on the disk
-abbrev pub HasAdded : {F : Type 0} → (F → List ℕ → List ℕ → Type 0) → (F → Bool) → Configuration → (kept loose entries : List Entry) → Journal F → Type 0
-HasAdded has usable config kept loose entries journal = (k : List Entry) × (l : List Entry) × Adds kept loose entries k l × Keeps has usable config k l journal
+abbrev pub HasAdded : {F : Type 0} → (F → List ℕ → List ℕ → Type 0) → (F → Bool) → Base → (kept loose entries : List Entry) → Journal F → Type 0
+HasAdded has usable base kept loose entries journal = (k : List Entry) × (l : List Entry) × Adds kept loose entries k l × Keeps has usable base k l journal
 
 -- nothing of what was on the disk has gone, and nothing was handed over but a beginning of the frames of these
-abbrev pub IsLeft : {F : Type 0} → (F → List ℕ → List ℕ → Type 0) → (seed : ℕ) → Configuration → (kept maybe : List Entry) → F → Type 0
-IsLeft has seed config kept maybe file = (disk : List ℕ) × (loose : List ℕ) × IsBetween seed config kept maybe disk loose × has file disk loose
+abbrev pub IsLeft : {F : Type 0} → (F → List ℕ → List ℕ → Type 0) → (seed : ℕ) → Base → (kept maybe : List Entry) → F → Type 0
+IsLeft has seed base kept maybe file = (disk : List ℕ) × (loose : List ℕ) × IsBetween seed base kept maybe disk loose × has file disk loose
+
+-- the file has just these entries, the first ones on the disk, and the others loose behind them
+abbrev pub HasEntries : {F : Type 0} → (F → List ℕ → List ℕ → Type 0) → (seed : ℕ) → Base → (kept loose : List Entry) → F → Type 0
+HasEntries has seed base kept loose file = has file (file_of seed base kept) (frames_behind seed base kept loose)
 
 -- the bytes are the frame of the entry that tells this next, which is a payload
 pub record IsFrameOf {F : Type 0} (journal : Journal F) (content : Content) (bytes : List ℕ) : Type 0 where
@@ -56,12 +63,12 @@ pub record IsFrameOf {F : Type 0} (journal : Journal F) (content : Content) (byt
 -- Bytes were added to a journal: whatever entries it kept, if the bytes are the frames of entries that can be added behind
 -- those, it keeps them too.
 abbrev pub AddsFrames : {F : Type 0} → (F → List ℕ → List ℕ → Type 0) → (F → Bool) → List ℕ → (old new : Journal F) → Type 0
-AddsFrames has usable bytes old new = (config : Configuration) (kept loose entries : List Entry) → Keeps has usable config kept loose old →
-    CanFollow config (kept ++ loose) entries → bytes ≡ frames old.framing.seed old.appender.place (payloads_of entries) →
-    HasAdded has usable config kept loose entries new
+AddsFrames has usable bytes old new = (base : Base) (kept loose entries : List Entry) → Keeps has usable base kept loose old →
+    CanFollow base (kept ++ loose) entries → bytes ≡ frames old.framing.seed old.appender.place (payloads_of entries) →
+    HasAdded has usable base kept loose entries new
 
 -- bytes were not added, or in part
 abbrev pub LeavesFrames : {F : Type 0} → (F → List ℕ → List ℕ → Type 0) → (F → Bool) → List ℕ → (old : Journal F) → F → Type 0
-LeavesFrames has usable bytes old file = (config : Configuration) (kept loose entries : List Entry) → Keeps has usable config kept loose old →
+LeavesFrames has usable bytes old file = (base : Base) (kept loose entries : List Entry) → Keeps has usable base kept loose old →
     bytes ≡ frames old.framing.seed old.appender.place (payloads_of entries) →
-    IsLeft has old.framing.seed config kept (loose ++ entries) file
+    IsLeft has old.framing.seed base kept (loose ++ entries) file

@@ -1,7 +1,9 @@
+pub mod Bases
 pub mod Refusals
 pub mod Files
 pub mod Journals
 pub mod Durables
+pub mod Starts
 pub mod Openings
 pub mod Endings
 pub mod Lives

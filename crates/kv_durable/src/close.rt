@@ -5,9 +5,9 @@ ghost use Rattle.kv_keys.specs.declared.error.KvError.{KvError as AnError};
 ghost use Rattle.kv_keys.specs.declared.error.KvError.TheVariants.{OutOfMemory};
 ghost use Rattle.kv_journal.specs.Entries.{Entry, acts_of};
 ghost use Rattle.kv_model.specs.Acts.{Act};
-ghost use Rattle.kv_model.specs.Configuration.{Configuration};
 ghost use Rattle.kv_model.specs.State.{State};
 ghost use Rattle.kv_store.specs.Standing.{StandsFor};
+ghost use Rattle.kv_durable.specs.Bases.{Base, acts_before};
 ghost use Rattle.kv_durable.specs.Durables.{IsAt, IsHanded, IsRefusal};
 ghost use Rattle.kv_durable.specs.Endings.{IsClosed, end_of};
 ghost use Rattle.kv_durable.specs.Journals.{IsLeft, Keeps, is_stopped, told_next};
@@ -26,13 +26,13 @@ fn end<F: JournalFile>(
     journal: &mut Journal<F>,
     version: &Version,
 ) -> Result<(), DurableError>
-    ensures ok { OnOk result ((acts : List Act) (config : Configuration) (kept loose : List Entry) → StandsFor acts version.now →
-        acts ≡ acts_of (kept ++ loose) → Keeps F.has F.usable config kept loose journal.old →
-        IsClosed F.has config kept loose acts journal.old journal.new.appender.file) }
+    ensures ok { OnOk result ((acts : List Act) (base : Base) (kept loose : List Entry) → StandsFor acts version.now →
+        acts ≡ acts_before base ++ acts_of (kept ++ loose) → Keeps F.has F.usable base kept loose journal.old →
+        IsClosed F.has base kept loose acts journal.old journal.new.appender.file) }
     ensures usable { OnOk result (F.usable journal.new.appender.file ≡ true) }
-    ensures handed { OnErr result ((acts : List Act) (config : Configuration) (kept loose : List Entry) → StandsFor acts version.now →
-        acts ≡ acts_of (kept ++ loose) → Keeps F.has F.usable config kept loose journal.old →
-        IsLeft F.has journal.old.framing.seed config kept (loose ++ told_next journal.old (end_of acts)) journal.new.appender.file) }
+    ensures handed { OnErr result ((acts : List Act) (base : Base) (kept loose : List Entry) → StandsFor acts version.now →
+        acts ≡ acts_before base ++ acts_of (kept ++ loose) → Keeps F.has F.usable base kept loose journal.old →
+        IsLeft F.has journal.old.framing.seed base kept (loose ++ told_next journal.old (end_of acts)) journal.new.appender.file) }
     ensures refused { IfErr result (λ e. (x : AnError) → e ≡ Refused x → x ≡ OutOfMemory) }
     ensures untouched { IfErr result (λ e. (x : AnError) → e ≡ Refused x → journal.new ≡ journal.old) }
     ensures fault { IsErrOf result FileFault → (is_stopped F.usable journal.old ≡ true)
@@ -49,8 +49,8 @@ fn end<F: JournalFile>(
 impl<F: JournalFile> Durable<F> {
     /// Brings all that was accepted onto the disk.
     pub fn sync(&mut self) -> Result<(), DurableError>
-        ensures ok { OnOk result ((state : State) (kept loose : List Entry) → IsAt F.has F.usable state kept loose self.old →
-            IsAt F.has F.usable state (kept ++ loose) [] self.new) }
+        ensures ok { OnOk result ((state : State) (kept loose : List Entry) (at : IsAt F.has F.usable state kept loose self.old) →
+            (next : IsAt F.has F.usable state (kept ++ loose) [] self.new) × (next.base ≡ at.base)) }
         ensures bucket { self.new.bucket ≡ self.old.bucket }
         ensures handed { OnErr result (IsHanded F.has F.usable (λ _. []) self.old self.new) }
         ensures fault { OnErr result ((is_stopped F.usable self.old.journal ≡ true)
@@ -69,13 +69,13 @@ impl<F: JournalFile> Durable<F> {
     /// Ends it: adds to the file that it ends cleanly, brings all onto the disk, and gives the file back. Behind a clean end
     /// a damaged end of the file is told from a torn one.
     pub fn close(self) -> Result<F, NotDone<F>>
-        ensures ok { IfOk result (λ file. (state : State) (kept loose : List Entry) →
-            IsAt F.has F.usable state kept loose self →
-            IsClosed F.has state.config kept loose state.acts self.journal file) }
+        ensures ok { IfOk result (λ file. (state : State) (kept loose : List Entry)
+            (at : IsAt F.has F.usable state kept loose self) →
+            IsClosed F.has at.base kept loose state.acts self.journal file) }
         ensures usable { IfOk result (λ file. F.usable file ≡ true) }
-        ensures handed { IfErr result (λ r. (state : State) (kept loose : List Entry) →
-            IsAt F.has F.usable state kept loose self →
-            IsLeft F.has self.journal.framing.seed state.config kept (loose ++ told_next self.journal (end_of state.acts)) r.file) }
+        ensures handed { IfErr result (λ r. (state : State) (kept loose : List Entry)
+            (at : IsAt F.has F.usable state kept loose self) →
+            IsLeft F.has self.journal.framing.seed at.base kept (loose ++ told_next self.journal (end_of state.acts)) r.file) }
         ensures refused { IfErr result (λ r. (x : AnError) → r.error ≡ Refused x → (x ≡ OutOfMemory) × (r.file ≡ self.journal.appender.file)) }
         ensures fault { IfErr result (λ r. r.error ≡ FileFault → (is_stopped F.usable self.journal ≡ true)
             ⊎ (F.faults self.journal.appender.file < F.faults r.file)) }

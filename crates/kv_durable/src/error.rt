@@ -3,7 +3,7 @@
 ghost use Rattle.std.specs.Prelude.{◌≡◌};
 ghost use Rattle.kv_durable.specs.Refusals.{durable_code, durable_name};
 
-use kv_file::{FileFault, OpenFault};
+use kv_file::{FileFault, OpenFault, ReplaceFault};
 use kv_keys::KvError;
 use kv_model::BatchRefused;
 use std::alloc::AllocError;
@@ -28,10 +28,14 @@ pub enum DurableError {
     /// The file is that of a bucket with another name, history or limit.
     #[error("OtherBucket")]
     OtherBucket,
+    /// The file begins with a checkpoint, and what is asked for needs the acts in whose place that stands: of the crates above,
+    /// no call of a `Durable` answers so.
+    #[error("HasCheckpoint")]
+    HasCheckpoint,
 }
 
 impl DurableError {
-    /// The number of the refusal: 1 to 21 of the rules, 22 to 25 of files.
+    /// The number of the refusal: 1 to 21 of the rules, 22 to 26 of files.
     pub fn code(&self) -> u64
         ensures { result ≡ durable_code self.now }
     {
@@ -41,6 +45,7 @@ impl DurableError {
             DurableError::FileDamaged { .. } => 23,
             DurableError::FileBusy => 24,
             DurableError::OtherBucket => 25,
+            DurableError::HasCheckpoint => 26,
         }
     }
 
@@ -54,6 +59,7 @@ impl DurableError {
             DurableError::FileDamaged { .. } => "FileDamaged",
             DurableError::FileBusy => "FileBusy",
             DurableError::OtherBucket => "OtherBucket",
+            DurableError::HasCheckpoint => "HasCheckpoint",
         }
     }
 }
@@ -88,6 +94,17 @@ impl From<FileFault> for DurableError {
     ghost from_gives = { λ _ e. e ≡ FileFault };
 
     fn from(_error: FileFault) -> DurableError {
+        DurableError::FileFault
+    }
+}
+
+impl From<ReplaceFault> for DurableError {
+    ghost use Rattle.std.specs.Prelude.{◌≡◌};
+    ghost use Rattle.kv_durable.specs.declared.error.DurableError.TheVariants.{FileFault};
+
+    ghost from_gives = { λ _ e. e ≡ FileFault };
+
+    fn from(_error: ReplaceFault) -> DurableError {
         DurableError::FileFault
     }
 }

@@ -1,14 +1,16 @@
 //! The journal of a bucket: its file, and what adds entries to it.
 
-ghost use Rattle.std.specs.Prelude.{◌≡◌, ◌<◌, ◌≤◌, ◌^◌, ◌++◌, ◌∷◌, ◌&&◌, [], ℕ, List, true, false, is_ok, length, IfOk, OnErr, OnOk};
+ghost use Rattle.std.specs.Prelude.{◌≡◌, ◌⊎◌, ◌<◌, ◌≤◌, ◌^◌, ◌++◌, ◌∷◌, ◌&&◌, [], ℕ, List, true, false, is_ok, length, IfOk, IsErrOf, OnErr, OnOk};
 ghost use Rattle.kv_file.specs.declared.appender.Sync.TheVariants.{Each, Every};
-ghost use Rattle.kv_frames.specs.Frames.{IsPayload, frames};
-ghost use Rattle.kv_model.specs.Configuration.{Configuration};
+ghost use Rattle.kv_frames.specs.Frames.{ArePayloads, IsPayload, frames};
 ghost use Rattle.kv_journal.specs.Entries.{Entry};
+ghost use Rattle.kv_file.specs.declared.replace.ReplaceFault.TheVariants.{Unchanged, Unknown};
+ghost use Rattle.kv_durable.specs.Bases.{Base, IsLawfulBase, base_payloads, opening};
 ghost use Rattle.kv_durable.specs.Files.{file_of};
-ghost use Rattle.kv_durable.specs.Journals.{AddsFrames, CanFollow, IsLeft, Keeps, LeavesFrames, is_stopped, loose_ahead};
+ghost use Rattle.kv_durable.specs.Journals.{AddsFrames, CanFollow, HasEntries, IsLeft, Keeps, LeavesFrames, is_stopped, loose_ahead};
 
-use kv_file::{Appender, FileFault, JournalFile, Sync};
+use crate::config::OwnConfig;
+use kv_file::{Appender, FileFault, JournalFile, ReplaceFault, ReplaceableFile, Sync};
 use kv_frames::Framing;
 use std::alloc::{AllocError, Global};
 
@@ -21,21 +23,30 @@ const FULL: u64 = 4_611_686_018_427_387_904;
 #[derive(Drop)]
 pub struct Journal<F: JournalFile> {
     pub(crate) framing: Framing,
+    pub(crate) config: OwnConfig,
     pub(crate) appender: Appender<F>,
 }
 
 impl<F: JournalFile> Journal<F> {
     /// The journal of a file whose frames are written so, and that ends at this place, all of it on the disk.
-    pub(crate) fn new(file: F, framing: Framing, place: u64, sync: Sync) -> Journal<F>
-        ensures keeps { (config : Configuration) (entries : List Entry) → framing.seed < 2 ^ 64 →
-            CanFollow config [] entries → F.usable file ≡ true → F.has file (file_of framing.seed config entries) [] →
-            place ≡ length (file_of framing.seed config entries) → Keeps F.has F.usable config entries [] result }
+    pub(crate) fn new(
+        file: F,
+        framing: Framing,
+        config: OwnConfig,
+        place: u64,
+        sync: Sync,
+    ) -> Journal<F>
+        ensures keeps { (base : Base) (entries : List Entry) → framing.seed < 2 ^ 64 → config.config ≡ base.config → ArePayloads (base_payloads base) →
+            IsLawfulBase base → CanFollow base [] entries → F.usable file ≡ true →
+            F.has file (file_of framing.seed base entries) [] → place ≡ length (file_of framing.seed base entries) →
+            Keeps F.has F.usable base entries [] result }
         ensures framing { result.framing ≡ framing }
         ensures file { result.appender.file ≡ file }
         ensures sync { result.appender.sync ≡ sync }
     {
         Journal {
             framing,
+            config,
             appender: Appender::new(file, place, sync),
         }
     }
@@ -67,6 +78,7 @@ impl<F: JournalFile> Journal<F> {
     {
         let Journal {
             framing: _,
+            config: _,
             appender,
         } = self;
         appender.into_file()
@@ -132,11 +144,11 @@ impl<F: JournalFile> Journal<F> {
 
     /// Brings all onto the disk.
     pub fn flush(&mut self) -> Result<(), FileFault>
-        ensures ok { OnOk result ((config : Configuration) (kept loose : List Entry) →
-            Keeps F.has F.usable config kept loose self.old → Keeps F.has F.usable config (kept ++ loose) [] self.new) }
-        ensures err { OnErr result ((config : Configuration) (kept loose : List Entry) →
-            Keeps F.has F.usable config kept loose self.old →
-            IsLeft F.has self.old.framing.seed config kept loose self.new.appender.file) }
+        ensures ok { OnOk result ((base : Base) (kept loose : List Entry) →
+            Keeps F.has F.usable base kept loose self.old → Keeps F.has F.usable base (kept ++ loose) [] self.new) }
+        ensures err { OnErr result ((base : Base) (kept loose : List Entry) →
+            Keeps F.has F.usable base kept loose self.old →
+            IsLeft F.has self.old.framing.seed base kept loose self.new.appender.file) }
         ensures none { OnOk result (self.new.appender.loose ≡ 0) }
         ensures framing { self.new.framing ≡ self.old.framing }
         ensures sync { self.new.appender.sync ≡ self.old.appender.sync }
@@ -146,5 +158,39 @@ impl<F: JournalFile> Journal<F> {
             F.faults self.old.appender.file < F.faults self.new.appender.file) }
     {
         self.appender.flush()
+    }
+
+    /// Puts in the place of the file one that has these bytes, whose frames are written so.
+    pub(crate) fn replace<P>(
+        &mut self,
+        place: &P,
+        framing: Framing,
+        bytes: Vec<u8>,
+    ) -> Result<(), ReplaceFault>
+    where
+        F: ReplaceableFile<P>,
+        ensures ok { OnOk result ((was base : Base) (kept loose : List Entry) → Keeps F.has F.usable was kept loose self.old →
+            base.config ≡ was.config → IsLawfulBase base → ArePayloads (base_payloads base) →
+            bytes.items ≡ opening framing.seed base → Keeps F.has F.usable base [] [] self.new) }
+        ensures framing { OnOk result (self.new.framing ≡ framing) }
+        ensures unchanged { IsErrOf result Unchanged → (base : Base) (kept loose : List Entry) →
+            Keeps F.has F.usable base kept loose self.old → Keeps F.has F.usable base kept loose self.new }
+        ensures unknown { IsErrOf result Unknown → (was base : Base) (kept loose : List Entry) → Keeps F.has F.usable was kept loose self.old →
+            bytes.items ≡ opening framing.seed base →
+            HasEntries F.has self.old.framing.seed was kept loose self.new.appender.file
+            ⊎ HasEntries F.has framing.seed base [] [] self.new.appender.file }
+        ensures stops { IsErrOf result Unknown → is_stopped F.usable self.new ≡ true }
+        ensures stays { OnErr result (self.new.framing ≡ self.old.framing) }
+        ensures sync { self.new.appender.sync ≡ self.old.appender.sync }
+        ensures failed { OnErr result (F.usable self.old.appender.file ≡ true →
+            F.faults self.old.appender.file < F.faults self.new.appender.file) }
+    {
+        match self.appender.replace(place, bytes) {
+            Ok(()) => {
+                self.framing = framing;
+                Ok(())
+            }
+            Err(fault) => Err(fault),
+        }
     }
 }

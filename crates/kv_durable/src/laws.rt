@@ -14,10 +14,11 @@ ghost use Rattle.kv_model.specs.State.{State, empty};
 ghost use Rattle.kv_model.specs.declared.request.Request.{Request};
 ghost use Rattle.kv_single.specs.Held.{Represents};
 ghost use Rattle.kv_journal.specs.Records.{Content, did_all};
-ghost use Rattle.kv_durable.specs.Durables.{IsAt, IsRecorded, batch_of};
-ghost use Rattle.kv_durable.specs.Files.{HasForgery, IsBeginning, IsBetween, Reads};
+ghost use Rattle.kv_durable.specs.Bases.{Base, IsLawfulBase, acts_before, replaced_by};
+ghost use Rattle.kv_durable.specs.Durables.{IsAt, IsRecorded, batch_of, state_of};
+ghost use Rattle.kv_durable.specs.Files.{HasForgery, IsBeginning, IsBetween, Reads, file_of};
 ghost use Rattle.kv_durable.specs.Journals.{told_next};
-ghost use Rattle.kv_durable.specs.Lives.{ComesBack, GoesOn, IsAllOrNone, Lives, lived};
+ghost use Rattle.kv_durable.specs.Lives.{ComesBack, Follows, GoesOn, IsAllOrNone, Lives, lived};
 ghost use Rattle.kv_durable.specs.Openings.{IsNew, IsReopened};
 ghost use Rattle.kv_durable.specs.declared.durable.Durable.{Durable};
 
@@ -25,18 +26,18 @@ use kv_file::JournalFile;
 
 /// A file is read as one list of entries.
 pub fn one_reading()
-    ensures { (config : Configuration) (bytes : List ℕ) (seed other : ℕ) (xs ys : List Entry) (rest left : List ℕ) →
-        IsLegal config → Reads config bytes seed xs rest → Reads config bytes other ys left →
+    ensures { (base : Base) (bytes : List ℕ) (seed other : ℕ) (xs ys : List Entry) (rest left : List ℕ) →
+        IsLegal base.config → Reads base bytes seed xs rest → Reads base bytes other ys left →
         (seed ≡ other) × (xs ≡ ys) × (rest ≡ left) }
 {}
 
 /// Whatever a crash leaves is read as all entries that were on the disk, and of those that may have been handed over since a
 /// beginning; or a frame with its right checksum stands there that was never written there.
 pub fn a_crash_leaves_a_beginning()
-    ensures { (seed other : ℕ) (config : Configuration) (kept maybe entries : List Entry) (disk loose left rest : List ℕ) →
-        IsLegal config → seed < 2 ^ 64 → AreLawful config [] (kept ++ maybe) → ArePayloads (payloads_of kept) →
-        IsBetween seed config kept maybe disk loose → MayLeave disk loose left → Reads config left other entries rest →
-        IsBeginning kept maybe entries ⊎ HasForgery seed config kept maybe left }
+    ensures { (seed other : ℕ) (base : Base) (kept maybe entries : List Entry) (disk loose left rest : List ℕ) →
+        IsLegal base.config → seed < 2 ^ 64 → AreLawful base.config (acts_before base) (kept ++ maybe) →
+        ArePayloads (payloads_of kept) → IsBetween seed base kept maybe disk loose → MayLeave disk loose left →
+        Reads base left other entries rest → IsBeginning kept maybe entries ⊎ HasForgery seed base kept maybe left }
 {}
 
 /// The acts of such a beginning: all that were on the disk, and a beginning of all.
@@ -48,19 +49,20 @@ pub fn a_beginning_is_of_the_acts()
 /// A file only grows: at a moment between two, where nothing has gone since the first and nothing is there that is not at the
 /// second, its bytes are between the same entries.
 pub fn at_any_moment()
-    ensures { (seed : ℕ) (config : Configuration) (kept maybe : List Entry)
+    ensures { (seed : ℕ) (base : Base) (kept maybe : List Entry)
         (disk loose later_disk later_loose last_disk last_loose : List ℕ) →
-        IsBetween seed config kept maybe disk loose → IsPrefix disk later_disk →
+        IsBetween seed base kept maybe disk loose → IsPrefix disk later_disk →
         IsPrefix (later_disk ++ later_loose) (last_disk ++ last_loose) →
-        IsBetween seed config kept maybe last_disk last_loose → IsBetween seed config kept maybe later_disk later_loose }
+        IsBetween seed base kept maybe last_disk last_loose → IsBetween seed base kept maybe later_disk later_loose }
 {}
 
 /// Calls that were answered, one after the other, lead to the state that the model comes to by them, and to the entries of the
 /// file behind: nothing that was on the disk has gone, and nothing was taken back.
 pub fn a_life_goes_on<F: JournalFile>()
     ensures { (calls : List (State → State)) (first last : Durable F) (state : State) (kept loose : List Entry) →
-        Lives F.has F.usable calls first last → IsAt F.has F.usable state kept loose first →
-        (k : List Entry) × (l : List Entry) × IsPrefix kept k × IsPrefix (kept ++ loose) (k ++ l) × IsAt F.has F.usable (lived calls state) k l last }
+        Lives F.has F.usable calls first last → (at : IsAt F.has F.usable state kept loose first) →
+        (k : List Entry) × (l : List Entry) × (next : IsAt F.has F.usable (lived calls state) k l last)
+        × Follows at.base kept loose next.base k l }
 {}
 
 /// A life ends by a crash in a call that may have handed over what it tells, or none of it, and an opening of what the crash
@@ -68,11 +70,11 @@ pub fn a_life_goes_on<F: JournalFile>()
 /// frame with its right checksum stands there that was never written there.
 pub fn a_second_life<F: JournalFile>()
     ensures { (state : State) (kept loose told entries : List Entry) (first second : Durable F) (dropped : ℕ) (disk more left rest : List ℕ) →
-        IsAt F.has F.usable state kept loose first → AreLawful state.config state.acts told →
-        IsBetween first.journal.framing.seed state.config kept (loose ++ told) disk more → MayLeave disk more left →
-        IsReopened F.has F.usable state.config left entries rest second dropped →
-        ComesBack state.config kept (loose ++ told) (acts_of entries) second
-        ⊎ HasForgery first.journal.framing.seed state.config kept (loose ++ told) left }
+        (at : IsAt F.has F.usable state kept loose first) → AreLawful state.config state.acts told →
+        IsBetween first.journal.framing.seed at.base kept (loose ++ told) disk more → MayLeave disk more left →
+        IsReopened F.has F.usable at.base left entries rest second dropped →
+        ComesBack at.base kept (loose ++ told) (acts_before at.base ++ acts_of entries) second
+        ⊎ HasForgery first.journal.framing.seed at.base kept (loose ++ told) left }
 {}
 
 /// The same of a whole life, from an empty file on. Where nothing is loose, as under `Sync::Each`, all acts are there that were
@@ -80,13 +82,13 @@ pub fn a_second_life<F: JournalFile>()
 pub fn a_life_and_the_next<F: JournalFile>()
     ensures { (config : Configuration) (seed : ℕ) (calls : List (State → State)) (new last second : Durable F) (none dropped : ℕ) →
         IsNew F.has F.usable config seed new none → Lives F.has F.usable calls new last →
-        (kept : List Entry) × (loose : List Entry) × IsAt F.has F.usable (lived calls (empty config)) kept loose last
+        (kept : List Entry) × (loose : List Entry) × (at : IsAt F.has F.usable (lived calls (empty config)) kept loose last)
         × ((told entries : List Entry) (disk more left rest : List ℕ) →
         AreLawful (lived calls (empty config)).config (lived calls (empty config)).acts told →
-        IsBetween last.journal.framing.seed (lived calls (empty config)).config kept (loose ++ told) disk more → MayLeave disk more left →
-        IsReopened F.has F.usable (lived calls (empty config)).config left entries rest second dropped →
-        ComesBack (lived calls (empty config)).config kept (loose ++ told) (acts_of entries) second
-        ⊎ HasForgery last.journal.framing.seed (lived calls (empty config)).config kept (loose ++ told) left) }
+        IsBetween last.journal.framing.seed at.base kept (loose ++ told) disk more → MayLeave disk more left →
+        IsReopened F.has F.usable at.base left entries rest second dropped →
+        ComesBack at.base kept (loose ++ told) (acts_before at.base ++ acts_of entries) second
+        ⊎ HasForgery last.journal.framing.seed at.base kept (loose ++ told) left) }
 {}
 
 /// Of a batch all writes come back, or none. It was answered, other calls behind it too, and then came the crash; or the crash
@@ -98,30 +100,53 @@ pub fn a_batch_comes_back_whole<F: JournalFile>()
         IsRecorded F.has F.usable (λ s. after_batch s (accept_all s.config (map asked requests) s.acts))
         (λ s. batch_of (accept_all s.config (map asked requests) s.acts)) old new →
         Lives F.has F.usable calls new last →
-        (k : List Entry) × (l : List Entry) × IsAt F.has F.usable (lived calls (after_batch state (Ok ws))) k l last
+        (k : List Entry) × (l : List Entry) × (next : IsAt F.has F.usable (lived calls (after_batch state (Ok ws))) k l last)
         × ((told entries : List Entry) (disk more left rest : List ℕ) →
         AreLawful (lived calls (after_batch state (Ok ws))).config (lived calls (after_batch state (Ok ws))).acts told →
-        IsBetween last.journal.framing.seed (lived calls (after_batch state (Ok ws))).config k (l ++ told) disk more → MayLeave disk more left →
-        IsReopened F.has F.usable (lived calls (after_batch state (Ok ws))).config left entries rest second dropped →
-        IsAllOrNone state.acts (after_all state.acts ws) (acts_of entries)
-        ⊎ HasForgery last.journal.framing.seed (lived calls (after_batch state (Ok ws))).config k (l ++ told) left) }
+        IsBetween last.journal.framing.seed next.base k (l ++ told) disk more → MayLeave disk more left →
+        IsReopened F.has F.usable next.base left entries rest second dropped →
+        IsAllOrNone state.acts (after_all state.acts ws) (acts_before next.base ++ acts_of entries)
+        ⊎ HasForgery last.journal.framing.seed next.base k (l ++ told) left) }
     ensures cut_off { (ws : List Write) (state : State) (kept loose entries : List Entry) (first second : Durable F) (dropped : ℕ)
         (disk more left rest : List ℕ) →
-        IsAt F.has F.usable state kept loose first →
+        (at : IsAt F.has F.usable state kept loose first) →
         AreLawful state.config state.acts (told_next first.journal (did_all (map Wrote ws) ∷ [])) →
-        IsBetween first.journal.framing.seed state.config kept (loose ++ told_next first.journal (did_all (map Wrote ws) ∷ [])) disk more →
-        MayLeave disk more left → IsReopened F.has F.usable state.config left entries rest second dropped →
-        IsAllOrNone state.acts (after_all state.acts ws) (acts_of entries)
-        ⊎ HasForgery first.journal.framing.seed state.config kept (loose ++ told_next first.journal (did_all (map Wrote ws) ∷ [])) left }
+        IsBetween first.journal.framing.seed at.base kept (loose ++ told_next first.journal (did_all (map Wrote ws) ∷ [])) disk more →
+        MayLeave disk more left → IsReopened F.has F.usable at.base left entries rest second dropped →
+        IsAllOrNone state.acts (after_all state.acts ws) (acts_before at.base ++ acts_of entries)
+        ⊎ HasForgery first.journal.framing.seed at.base kept (loose ++ told_next first.journal (did_all (map Wrote ws) ∷ [])) left }
 {}
 
-/// Each call that is answered goes on: one that was recorded, as a write, a batch, a seal and a compaction; a sync; and one that
-/// leaves the acts and the journal as they are, as those of watches, and what was refused.
+/// A crash in a checkpoint leaves the old file or the new one. An opening of the new one answers the same bucket, and so does one
+/// of the old one where nothing was loose, as under `Sync::Each`; where something was, `a_second_life` says what comes back.
+pub fn a_crash_in_a_checkpoint<F: JournalFile>()
+    ensures new_file { (state : State) (seed : ℕ) (entries : List Entry) (second : Durable F) (dropped : ℕ) (rest : List ℕ) →
+        seed < 2 ^ 64 →
+        IsReopened F.has F.usable (replaced_by state.config state.acts) (file_of seed (replaced_by state.config state.acts) []) entries rest second dropped →
+        Represents (state_of state.config state.acts) second.bucket × (entries ≡ []) × (dropped ≡ 0) }
+    ensures old_file { (state : State) (kept entries : List Entry) (first second : Durable F) (dropped : ℕ) (rest : List ℕ) →
+        (at : IsAt F.has F.usable state kept [] first) →
+        IsReopened F.has F.usable at.base (file_of first.journal.framing.seed at.base kept) entries rest second dropped →
+        Represents (state_of state.config state.acts) second.bucket × (entries ≡ kept) × (dropped ≡ 0) }
+{}
+
+/// Each call that is answered goes on: one that was recorded, as a write, a batch, a seal and a compaction; a sync; a checkpoint,
+/// also one that left the old file in use; and one that leaves the acts and the journal as they are, as those of watches, and
+/// what was refused.
 pub fn each_call_goes_on<F: JournalFile>()
     ensures recorded { (later : State → State) (told : State → List Content) (old new : Durable F) →
         IsRecorded F.has F.usable later told old new → GoesOn F.has F.usable later old new }
     ensures synced { (old new : Durable F) →
-        ((state : State) (kept loose : List Entry) → IsAt F.has F.usable state kept loose old → IsAt F.has F.usable state (kept ++ loose) [] new) →
+        ((state : State) (kept loose : List Entry) (at : IsAt F.has F.usable state kept loose old) →
+        (next : IsAt F.has F.usable state (kept ++ loose) [] new) × (next.base ≡ at.base)) →
+        GoesOn F.has F.usable (λ state. state) old new }
+    ensures replaced { (old new : Durable F) →
+        ((state : State) (kept loose : List Entry) → IsAt F.has F.usable state kept loose old →
+        (next : IsAt F.has F.usable state [] [] new) × (next.base ≡ replaced_by state.config state.acts)) →
+        GoesOn F.has F.usable (λ state. state) old new }
+    ensures not_replaced { (old new : Durable F) →
+        ((state : State) (kept loose : List Entry) (at : IsAt F.has F.usable state kept loose old) →
+        (next : IsAt F.has F.usable state kept loose new) × (next.base ≡ at.base)) →
         GoesOn F.has F.usable (λ state. state) old new }
     ensures others { (later : State → State) (old new : Durable F) → ((state : State) → Represents state old.bucket →
         Represents (later state) new.bucket × ((later state).acts ≡ state.acts) × ((later state).config ≡ state.config)) →

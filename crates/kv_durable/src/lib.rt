@@ -3,8 +3,10 @@
 
 mod acceptance;
 mod batch;
+mod checkpoint;
 mod close;
 mod compaction;
+mod config;
 mod durable;
 mod error;
 mod journal;
@@ -13,12 +15,13 @@ mod open;
 mod records;
 mod recovery;
 mod ringed;
+mod start;
 mod watch;
 mod write;
 
 pub use durable::{Durable, NotDone};
 pub use error::{BatchError, DurableError};
 pub use journal::Journal;
-pub use kv_file::{JournalFile, OpenFault, Sync, SystemFile};
+pub use kv_file::{JournalFile, OpenFault, ReplaceableFile, Sync, SystemFile, SystemPlace};
 pub use open::Opened;
 pub use recovery::{Recovered, recover};

@@ -8,16 +8,19 @@ ghost use Rattle.kv_keys.specs.Outcome.{Refuses};
 ghost use Rattle.kv_keys.specs.declared.error.KvError.{KvError as AnError};
 ghost use Rattle.kv_keys.specs.declared.error.KvError.TheVariants.{OutOfMemory};
 ghost use Rattle.kv_model.specs.Acts.{Act};
-ghost use Rattle.kv_model.specs.Configuration.{Configuration, IsLegal, configure};
+ghost use Rattle.kv_model.specs.Configuration.{IsLegal, configure};
 ghost use Rattle.kv_model.specs.State.{empty};
 ghost use Rattle.kv_single.specs.Held.{Represents};
 ghost use Rattle.kv_durable.specs.Durables.{IsAt, IsRefusal, state_of};
+ghost use Rattle.kv_frames.specs.Frames.{ArePayloads};
+ghost use Rattle.kv_durable.specs.Bases.{Base, IsBaseOf, IsLawfulBase, acts_before, base_payloads};
 ghost use Rattle.kv_durable.specs.Files.{Reads, file_of};
 ghost use Rattle.kv_durable.specs.Journals.{CanFollow, Keeps};
-ghost use Rattle.kv_durable.specs.Openings.{IsFound, IsNew, IsReopened, LeavesBytes};
+ghost use Rattle.kv_durable.specs.Openings.{IsFound, IsFoundIn, IsNew, IsReopenedOn, LeavesBytes};
 ghost use Rattle.kv_durable.specs.Refusals.{IsDamaged};
 ghost use Rattle.kv_durable.specs.declared.error.DurableError.TheVariants.{FileBusy, FileFault, OtherBucket, Refused};
 
+use crate::config::OwnConfig;
 use crate::durable::{Durable, NotDone};
 use crate::error::DurableError;
 use crate::journal::Journal;
@@ -36,15 +39,19 @@ pub struct Opened<F: JournalFile> {
     pub durable: Durable<F>,
     /// How many bytes behind the last whole frame were cut off: the torn end that a crash left.
     pub dropped: u64,
+    /// Whether the file begins with a checkpoint. Then the bytes do not tell which acts that stands in place of.
+    pub checkpointed: bool,
 }
 
 // The bucket that a file was found to have, and how that goes on.
 #[derive(Drop)]
 struct Found {
     bucket: Bucket,
+    config: OwnConfig,
     framing: Framing,
     place: u64,
     dropped: u64,
+    checkpointed: bool,
 }
 
 fn read_all<F: JournalFile>(alloc: Global, file: &mut F) -> Result<Vec<u8>, DurableError>
@@ -93,8 +100,10 @@ fn begin_in<F: JournalFile>(
     file: &mut F,
     seed: u64,
 ) -> Result<Found, DurableError>
+    requires { IsLegal config.now }
     ensures ok { IfOk result (λ found. Represents (empty config.now) found.bucket × (found.framing.seed ≡ seed)
-        × (found.place ≡ length (beginning seed config.now)) × (found.dropped ≡ 0)) }
+        × (found.place ≡ length (beginning seed config.now)) × (found.dropped ≡ 0) × (found.checkpointed ≡ false)
+        × (found.config.config ≡ config.now)) }
     ensures file { OnOk result (F.usable file.old ≡ true → F.has file.old [] [] → F.has file.new (beginning seed config.now) []) }
     ensures usable { OnOk result (F.usable file.new ≡ F.usable file.old) }
     ensures refused { IfErr result (λ e. (x : AnError) → e ≡ Refused x → Refuses x (configure config.now)) }
@@ -105,15 +114,18 @@ fn begin_in<F: JournalFile>(
     ensures no_other { IfErr result IsRefusal }
 {
     let bucket = Bucket::open(alloc, config)?;
+    let own = OwnConfig::copy_of(alloc, config)?;
     let framing = Framing::new(seed);
     let bytes = beginning_of(alloc, &framing, config)?;
     let place = bytes.len() as u64;
     put_first(file, &bytes)?;
     Ok(Found {
         bucket,
+        config: own,
         framing,
         place,
         dropped: 0,
+        checkpointed: false,
     })
 }
 
@@ -125,20 +137,18 @@ fn go_on_in<F: JournalFile>(
     file: &mut F,
     bytes: &[u8],
 ) -> Result<Found, DurableError>
-    requires { length bytes.now < 2 ^ 63 }
-    ensures ok { IfOk result (λ found. (entries : List Entry) × (rest : List ℕ)
-        × Reads config.now bytes.now found.framing.seed entries rest
-        × Represents (state_of config.now (acts_of entries)) found.bucket
-        × (found.place ≡ length (file_of found.framing.seed config.now entries)) × (found.dropped ≡ length rest)) }
-    ensures torn { IfOk result (λ _. (seed : ℕ) (entries : List Entry) (rest : List ℕ) →
-        Reads config.now bytes.now seed entries rest →
-        ShowsDamage seed (length (file_of seed config.now entries)) rest → ⊥) }
+    requires short { length bytes.now < 2 ^ 63 }
+    requires legal { IsLegal config.now }
+    ensures ok { IfOk result (λ found. (payloads : List (List ℕ)) × (entries : List Entry) × (rest : List ℕ)
+        × IsFoundIn config.now bytes.now payloads entries rest found) }
+    ensures torn { IfOk result (λ _. (base : Base) (seed : ℕ) (entries : List Entry) (rest : List ℕ) → base.config ≡ config.now →
+        Reads base bytes.now seed entries rest → ShowsDamage seed (length (file_of seed base entries)) rest → ⊥) }
     ensures file { IfOk result (λ found. F.usable file.old ≡ true → (kept loose : List ℕ) → F.has file.old kept loose →
         F.has file.new (take found.place (kept ++ loose)) []) }
     ensures usable { OnOk result (F.usable file.new ≡ F.usable file.old) }
-    ensures damaged { IfErr result (λ e. IsDamaged e → (seed : ℕ) (entries : List Entry) (rest : List ℕ) →
-        Reads config.now bytes.now seed entries rest →
-        ShowsDamage seed (length (file_of seed config.now entries)) rest) }
+    ensures damaged { IfErr result (λ e. IsDamaged e → (base : Base) (seed : ℕ) (entries : List Entry) (rest : List ℕ) →
+        base.config ≡ config.now → Reads base bytes.now seed entries rest →
+        ShowsDamage seed (length (file_of seed base entries)) rest) }
     ensures other { IsErrOf result OtherBucket → (seed : ℕ) × (payload : List ℕ) × (rest : List ℕ)
         × BeginsWith bytes.now seed payload rest × (payload ≢ configuration_payload config.now) }
     ensures refused { IfErr result (λ e. (x : AnError) → e ≡ Refused x → Refuses x (configure config.now)) }
@@ -148,13 +158,16 @@ fn go_on_in<F: JournalFile>(
     ensures fault { IsErrOf result FileFault → F.usable file.old ≡ true → F.faults file.old < F.faults file.new }
     ensures not_busy { IfErr result (λ e. e ≢ FileBusy) }
 {
+    let own = OwnConfig::copy_of(alloc, config)?;
     let recovered = recover(alloc, config, bytes)?;
     file.cut(recovered.place)?;
     Ok(Found {
         bucket: Bucket::from_version(alloc, recovered.version),
+        config: own,
         framing: recovered.framing,
         place: recovered.place,
         dropped: recovered.dropped,
+        checkpointed: recovered.checkpointed,
     })
 }
 
@@ -172,18 +185,19 @@ fn found_in<F: JournalFile>(
     file: &mut F,
     seed: u64,
 ) -> Result<Found, DurableError>
-    ensures ok { IfOk result (λ found. (bytes : List ℕ) × (entries : List Entry) × IsFound config.now seed bytes entries found
+    ensures ok { IfOk result (λ found. (bytes : List ℕ) × (payloads : List (List ℕ)) × (entries : List Entry)
+        × IsFound config.now seed bytes payloads entries found
         × ((kept loose : List ℕ) → F.has file.old kept loose → bytes ≡ kept ++ loose)
         × (F.usable file.old ≡ true → (kept loose : List ℕ) → F.has file.old kept loose →
-        F.has file.new (file_of found.framing.seed config.now entries) [])) }
+        (base : Base) → IsBaseOf config.now payloads base → F.has file.new (file_of found.framing.seed base entries) [])) }
     ensures usable { OnOk result (F.usable file.new ≡ F.usable file.old) }
     ensures seed { IfOk result (λ found. found.framing.seed < 2 ^ 64) }
-    ensures torn { IfOk result (λ _. (kept loose : List ℕ) → F.has file.old kept loose → (other : ℕ) (entries : List Entry) (rest : List ℕ) →
-        Reads config.now (kept ++ loose) other entries rest →
-        ShowsDamage other (length (file_of other config.now entries)) rest → ⊥) }
+    ensures torn { IfOk result (λ _. (kept loose : List ℕ) → F.has file.old kept loose →
+        (base : Base) (other : ℕ) (entries : List Entry) (rest : List ℕ) → base.config ≡ config.now →
+        Reads base (kept ++ loose) other entries rest → ShowsDamage other (length (file_of other base entries)) rest → ⊥) }
     ensures damaged { IfErr result (λ e. IsDamaged e → (kept loose : List ℕ) → F.has file.old kept loose →
-        (other : ℕ) (entries : List Entry) (rest : List ℕ) → Reads config.now (kept ++ loose) other entries rest →
-        ShowsDamage other (length (file_of other config.now entries)) rest) }
+        (base : Base) (other : ℕ) (entries : List Entry) (rest : List ℕ) → base.config ≡ config.now →
+        Reads base (kept ++ loose) other entries rest → ShowsDamage other (length (file_of other base entries)) rest) }
     ensures other { IsErrOf result OtherBucket → (kept loose : List ℕ) → F.has file.old kept loose →
         (other : ℕ) × (payload : List ℕ) × (rest : List ℕ)
         × BeginsWith (kept ++ loose) other payload rest × (payload ≢ configuration_payload config.now) }
@@ -205,24 +219,28 @@ fn found_in<F: JournalFile>(
 
 // The bucket that was found, with its file.
 fn opened_of<F: JournalFile>(file: F, found: Found, sync: Sync) -> Opened<F>
-    ensures parts { (result.durable.bucket ≡ found.bucket) × (result.dropped ≡ found.dropped) }
+    ensures parts { (result.durable.bucket ≡ found.bucket) × (result.dropped ≡ found.dropped)
+        × (result.checkpointed ≡ found.checkpointed) }
     ensures journal { (result.durable.journal.framing ≡ found.framing) × (result.durable.journal.appender.file ≡ file)
         × (result.durable.journal.appender.sync ≡ sync) }
-    ensures keeps { (config : Configuration) (entries : List Entry) → found.framing.seed < 2 ^ 64 →
-        CanFollow config [] entries → F.usable file ≡ true → F.has file (file_of found.framing.seed config entries) [] →
-        found.place ≡ length (file_of found.framing.seed config entries) →
-        Keeps F.has F.usable config entries [] result.durable.journal }
+    ensures keeps { (base : Base) (entries : List Entry) → found.framing.seed < 2 ^ 64 → found.config.config ≡ base.config →
+        ArePayloads (base_payloads base) → IsLawfulBase base → CanFollow base [] entries → F.usable file ≡ true →
+        F.has file (file_of found.framing.seed base entries) [] → found.place ≡ length (file_of found.framing.seed base entries) →
+        Keeps F.has F.usable base entries [] result.durable.journal }
 {
     let Found {
         bucket,
+        config,
         framing,
         place,
         dropped,
+        checkpointed,
     } = found;
-    let journal = Journal::new(file, framing, place, sync);
+    let journal = Journal::new(file, framing, config, place, sync);
     Opened {
         durable: Durable::from_parts(bucket, journal),
         dropped,
+        checkpointed,
     }
 }
 
@@ -232,6 +250,9 @@ impl<F: JournalFile> Durable<F> {
     /// configuration. What a crash left behind the last whole frame is cut off, and told; damage is refused with its
     /// place, and changes nothing. The bucket has no watches, and all that it has is on the disk.
     ///
+    /// Of a file that begins with a checkpoint the bytes do not tell which acts that stands in place of: the bucket is at the
+    /// state of whatever lawful acts it is the checkpoint of, with those of the entries behind them.
+    ///
     /// It reads the file once, into memory, and makes each act again. Nothing else is to write the file meanwhile.
     pub fn open(
         alloc: Global,
@@ -240,20 +261,23 @@ impl<F: JournalFile> Durable<F> {
         seed: u64,
         sync: Sync,
     ) -> Result<Opened<F>, NotDone<F>>
-        ensures represents { IfOk result (λ o. (acts : List Act) × Represents (state_of config.now acts) o.durable.bucket) }
+        ensures represents { IfOk result (λ o. o.checkpointed ≡ false →
+            (acts : List Act) × Represents (state_of config.now acts) o.durable.bucket) }
+        ensures restored { IfOk result (λ o. (payloads : List (List ℕ)) × (entries : List Entry) × ((base : Base) →
+            IsBaseOf config.now payloads base → Represents (state_of config.now (acts_before base ++ acts_of entries)) o.durable.bucket)) }
         ensures new { IfOk result (λ o. F.usable file ≡ true → F.has file [] [] →
-            IsNew F.has F.usable config.now seed o.durable o.dropped) }
+            (o.checkpointed ≡ false) × IsNew F.has F.usable config.now seed o.durable o.dropped) }
         ensures reopened { IfOk result (λ o. F.usable file ≡ true → (kept loose : List ℕ) → F.has file kept loose →
-            (kept ++ loose ≡ [] → ⊥) → (entries : List Entry) × (rest : List ℕ)
-            × IsReopened F.has F.usable config.now (kept ++ loose) entries rest o.durable o.dropped) }
+            (kept ++ loose ≡ [] → ⊥) →
+            IsReopenedOn F.has F.usable config.now (kept ++ loose) o.durable o.dropped o.checkpointed) }
         ensures torn { IfOk result (λ _. (kept loose : List ℕ) → F.has file kept loose →
-            (other : ℕ) (entries : List Entry) (rest : List ℕ) → Reads config.now (kept ++ loose) other entries rest →
-            ShowsDamage other (length (file_of other config.now entries)) rest → ⊥) }
+            (base : Base) (other : ℕ) (entries : List Entry) (rest : List ℕ) → base.config ≡ config.now →
+            Reads base (kept ++ loose) other entries rest → ShowsDamage other (length (file_of other base entries)) rest → ⊥) }
         ensures sync { IfOk result (λ o. o.durable.journal.appender.sync ≡ sync) }
         ensures usable { IfOk result (λ o. F.usable o.durable.journal.appender.file ≡ F.usable file) }
         ensures damaged { IfErr result (λ r. IsDamaged r.error → (kept loose : List ℕ) → F.has file kept loose →
-            (other : ℕ) (entries : List Entry) (rest : List ℕ) → Reads config.now (kept ++ loose) other entries rest →
-            ShowsDamage other (length (file_of other config.now entries)) rest) }
+            (base : Base) (other : ℕ) (entries : List Entry) (rest : List ℕ) → base.config ≡ config.now →
+            Reads base (kept ++ loose) other entries rest → ShowsDamage other (length (file_of other base entries)) rest) }
         ensures other { IfErr result (λ r. r.error ≡ OtherBucket → (kept loose : List ℕ) → F.has file kept loose →
             (other : ℕ) × (payload : List ℕ) × (rest : List ℕ)
             × BeginsWith (kept ++ loose) other payload rest × (payload ≢ configuration_payload config.now)) }

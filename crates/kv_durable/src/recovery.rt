@@ -1,6 +1,6 @@
 //! The version that the bytes of a file stand for.
 
-ghost use Rattle.std.specs.Prelude.{◌≡◌, ◌≢◌, ◌+◌, ◌<◌, ◌≤◌, ◌^◌, [], ℕ, List, drop, length, IfErr, IfOk, IsErrOf};
+ghost use Rattle.std.specs.Prelude.{◌≡◌, ◌≢◌, ◌+◌, ◌<◌, ◌≤◌, ◌^◌, ℕ, List, drop, length, IfErr, IfOk, IsErrOf};
 ghost use Rattle.kv_frames.specs.Frames.{Splits, place_after};
 ghost use Rattle.kv_keys.specs.Outcome.{Refuses};
 ghost use Rattle.kv_keys.specs.declared.error.KvError.{KvError as AnError};
@@ -8,13 +8,18 @@ ghost use Rattle.kv_keys.specs.declared.error.KvError.TheVariants.{OutOfMemory};
 ghost use Rattle.kv_journal.specs.Header.{BeginsWith, beginning, configuration_payload};
 ghost use Rattle.kv_journal.specs.Damage.{ShowsDamage};
 ghost use Rattle.kv_journal.specs.Entries.{AreLawful, Entry, acts_of, payloads_of};
+ghost use Rattle.kv_journal.specs.Replays.{Extends};
+ghost use Rattle.kv_model.specs.Acts.{Act};
 ghost use Rattle.kv_model.specs.Configuration.{configure};
 ghost use Rattle.kv_store.specs.Standing.{StandsFor};
+ghost use Rattle.kv_durable.specs.Bases.{Base};
 ghost use Rattle.kv_durable.specs.Files.{Reads, file_of};
+ghost use Rattle.kv_durable.specs.Openings.{IsRecovered};
 ghost use Rattle.kv_durable.specs.Refusals.{IsDamaged};
 ghost use Rattle.kv_durable.specs.declared.error.DurableError.TheVariants.{FileBusy, FileFault, OtherBucket, Refused};
 
 use crate::error::DurableError;
+use crate::start::started_of;
 use kv_frames::Framing;
 use kv_journal::{BeginningError, Begun, ReplayError, Replayed, begin, replay, shows_damage};
 use kv_keys::KvError;
@@ -33,6 +38,8 @@ pub struct Recovered {
     pub place: u64,
     /// How many bytes stand behind that.
     pub dropped: u64,
+    /// Whether it begins with a checkpoint.
+    pub checkpointed: bool,
 }
 
 // What the bytes begin with.
@@ -63,25 +70,26 @@ fn behind(bytes: &[u8], place: u64) -> &[u8]
     &bytes[place as usize..]
 }
 
-// The version that the frames behind the beginning stand for.
+// The version that goes on from this one by the entries whose frames stand in the bytes.
 fn replayed_of(
     alloc: Global,
-    empty: Version,
-    begun: &Begun,
+    version: Version,
+    framing: &Framing,
+    at: u64,
     bytes: &[u8],
 ) -> Result<Replayed, DurableError>
-    requires stands { StandsFor [] empty }
-    requires few { begun.now.place + length bytes.now < 2 ^ 64 }
+    requires few { at + length bytes.now < 2 ^ 64 }
     ensures ok { IfOk result (λ r. (entries : List Entry) × (rest : List ℕ)
-        × Splits begun.now.framing.seed begun.now.place bytes.now (payloads_of entries) rest
-        × (r.version.config ≡ empty.config) × StandsFor (acts_of entries) r.version × AreLawful empty.config [] entries
-        × (r.place ≡ place_after begun.now.place (payloads_of entries))) }
-    ensures damaged { IfErr result (λ e. IsDamaged e → (entries : List Entry) (rest : List ℕ) →
-        AreLawful empty.config [] entries →
-        Splits begun.now.framing.seed begun.now.place bytes.now (payloads_of entries) rest → ⊥) }
+        × Splits framing.now.seed at bytes.now (payloads_of entries) rest
+        × Extends version (acts_of entries) r.version
+        × ((before : List Act) → StandsFor before version → AreLawful version.config before entries)
+        × (r.place ≡ place_after at (payloads_of entries))) }
+    ensures damaged { IfErr result (λ e. IsDamaged e → (before : List Act) (entries : List Entry) (rest : List ℕ) →
+        StandsFor before version → AreLawful version.config before entries →
+        Splits framing.now.seed at bytes.now (payloads_of entries) rest → ⊥) }
     ensures err { IfErr result (λ e. (e ≢ FileFault) × (e ≢ FileBusy) × (e ≢ OtherBucket) × ((x : AnError) → e ≡ Refused x → x ≡ OutOfMemory)) }
 {
-    match replay(alloc, empty, &begun.framing, begun.place, bytes) {
+    match replay(alloc, version, framing, at, bytes) {
         Ok(replayed) => Ok(replayed),
         Err(ReplayError::OutOfMemory) => Err(DurableError::Refused(KvError::OutOfMemory)),
         Err(ReplayError::Damaged { at }) => Err(DurableError::FileDamaged { at }),
@@ -90,19 +98,20 @@ fn replayed_of(
 
 /// The version that the bytes of a file stand for, where they are those of a bucket with this configuration. What stands
 /// behind the last whole frame is a torn end, as far as the bytes can tell; where they tell that it was damaged after it had
-/// come onto the disk, it is refused with its place, and so are bytes that begin no journal, and an entry that cannot stand
-/// behind those before it. It reads the bytes once, and makes each act again.
+/// come onto the disk, it is refused with its place, and so are bytes that begin no journal, a checkpoint that is no
+/// bucket's, and an entry that cannot stand behind what is before it. It reads the bytes once, and makes each act again.
+///
+/// Of a file that begins with a checkpoint the bytes do not tell which acts that stands in place of: whatever lawful acts it
+/// is the checkpoint of, the version stands for these, and those of the entries behind them.
 pub fn recover(alloc: Global, config: &Config, bytes: &[u8]) -> Result<Recovered, DurableError>
     requires { length bytes.now < 2 ^ 63 }
-    ensures ok { IfOk result (λ r. (entries : List Entry) × (rest : List ℕ) × Reads config.now bytes.now r.framing.seed entries rest
-        × (r.version.config ≡ config.now) × StandsFor (acts_of entries) r.version
-        × (r.place ≡ length (file_of r.framing.seed config.now entries)) × (r.dropped ≡ length rest)) }
-    ensures torn { IfOk result (λ r. (seed : ℕ) (entries : List Entry) (rest : List ℕ) →
-        Reads config.now bytes.now seed entries rest →
-        ShowsDamage seed (length (file_of seed config.now entries)) rest → ⊥) }
-    ensures damaged { IfErr result (λ e. IsDamaged e → (seed : ℕ) (entries : List Entry) (rest : List ℕ) →
-        Reads config.now bytes.now seed entries rest →
-        ShowsDamage seed (length (file_of seed config.now entries)) rest) }
+    ensures ok { IfOk result (λ r. (payloads : List (List ℕ)) × (entries : List Entry) × (rest : List ℕ)
+        × IsRecovered config.now bytes.now payloads entries rest r) }
+    ensures torn { IfOk result (λ r. (base : Base) (seed : ℕ) (entries : List Entry) (rest : List ℕ) → base.config ≡ config.now →
+        Reads base bytes.now seed entries rest → ShowsDamage seed (length (file_of seed base entries)) rest → ⊥) }
+    ensures damaged { IfErr result (λ e. IsDamaged e → (base : Base) (seed : ℕ) (entries : List Entry) (rest : List ℕ) →
+        base.config ≡ config.now → Reads base bytes.now seed entries rest →
+        ShowsDamage seed (length (file_of seed base entries)) rest) }
     ensures other { IsErrOf result OtherBucket → (seed : ℕ) × (payload : List ℕ) × (rest : List ℕ)
         × BeginsWith bytes.now seed payload rest × (payload ≢ configuration_payload config.now) }
     ensures refused { IfErr result (λ e. (x : AnError) → e ≡ Refused x → Refuses x (configure config.now)) }
@@ -110,8 +119,12 @@ pub fn recover(alloc: Global, config: &Config, bytes: &[u8]) -> Result<Recovered
 {
     let empty = Version::empty(alloc, config)?;
     let begun = begun_of(alloc, bytes, config)?;
-    let entries = behind(bytes, begun.place);
-    let replayed = replayed_of(alloc, empty, &begun, entries)?;
+    let first = behind(bytes, begun.place);
+    let started = started_of(alloc, empty, config, &begun, first)?;
+    let start = started.place;
+    let checkpointed = started.checkpointed;
+    let entries = behind(bytes, start);
+    let replayed = replayed_of(alloc, started.version, &begun.framing, start, entries)?;
     let place = replayed.place;
     let rest = behind(bytes, place);
     if shows_damage(&begun.framing, place, rest) {
@@ -123,5 +136,6 @@ pub fn recover(alloc: Global, config: &Config, bytes: &[u8]) -> Result<Recovered
         framing: begun.framing,
         place,
         dropped,
+        checkpointed,
     })
 }

@@ -3,12 +3,13 @@ use Rattle.std.proofs.Common.{◌≡◌, ◌⊎◌, ℕ, Bool, List, [], ◌∷�
 use Rattle.kv_bucket.specs.Batches.{IsKeptBatch}
 use Rattle.kv_bucket.specs.Keeping as kept
 use Rattle.kv_bucket.specs.Keeping.{IsKeptStep}
+use Rattle.kv_durable.specs.Bases.{Base, acts_before}
 use Rattle.kv_durable.specs.Durables as durables
 use Rattle.kv_durable.specs.Files.{HasForgery, IsBetween}
 use Rattle.kv_durable.specs.Journals.{told_next}
 use Rattle.kv_durable.specs.Openings.{IsReopened}
 use Rattle.kv_durable.specs.declared.durable.Durable.{Durable}
-use Rattle.kv_durable.proofs.Living.{second_life}
+use Rattle.kv_durable.proofs.Living.{more_acts, second_life}
 use Rattle.kv_durable.proofs.Recording.{added_kept, all_added}
 use Rattle.kv_durable_live.specs.Lives.{GoesOn, Lives, Shared}
 use Rattle.kv_durable_live.specs.Sharing.{IsAt, durable_of}
@@ -16,7 +17,6 @@ use Rattle.kv_file.specs.File.{MayLeave}
 use Rattle.kv_file.specs.declared.appender.Sync.TheVariants.{Each}
 use Rattle.kv_journal.specs.Entries.{AreLawful, Entry, acts_of}
 use Rattle.kv_journal.specs.Records.{Content}
-use Rattle.kv_journal.proofs.Going.{acts_of-append}
 use Rattle.kv_model.specs.Acts.{Act, IsPrefix, Write}
 use Rattle.kv_model.specs.Answers.{Answer}
 use Rattle.kv_model.specs.Batches.{accept_all, after_batch}
@@ -27,12 +27,8 @@ use Rattle.kv_model.specs.declared.call.Call.{Call}
 use Rattle.kv_model.specs.declared.request.Request.{Request}
 use Rattle.kv_publish.proofs.Prefixes.{prefix_self, prefix_trans}
 
--- the acts of the first entries begin those of all
-front_acts : (xs ys : List Entry) → IsPrefix xs ys → IsPrefix (acts_of xs) (acts_of ys)
-front_acts xs ys p = (acts_of p.0, sym (acts_of-append xs p.0) ∙ ap acts_of p.1)
-
 module _ {F : Type 0} (has : F → List ℕ → List ℕ → Type 0) (usable : F → Bool) where
-  pub published_acts : (state : State) (entries loose : List Entry) (shared : Shared F) → IsAt has usable state entries loose shared.kept shared.journal → shared.kept.published ≡ acts_of (entries ++ loose)
+  pub published_acts : (state : State) (entries loose : List Entry) (shared : Shared F) → (at : IsAt has usable state entries loose shared.kept shared.journal) → shared.kept.published ≡ acts_before at.durable.base ++ acts_of (entries ++ loose)
   published_acts state entries loose shared at = at.published ∙ at.durable.acts
 
   -- a call that leads from each state to another, and that is added to the file
@@ -44,10 +40,12 @@ module _ {F : Type 0} (has : F → List ℕ → List ℕ → Type 0) (usable : F
       let on = step state (record { represents = at.durable.represents; published = at.published }) in
       let here : IsAt has usable (later state) there.0 there.1 new.kept new.journal = record { durable = there.4; published = on.published } in
       let all : IsPrefix (entries ++ loose) (there.0 ++ there.1) = (more, sym (all_added entries loose more there.0 there.1 there.2)) in
-      let acts = front_acts (entries ++ loose) (there.0 ++ there.1) all in
+      let before = acts_before at.durable.base in
+      let acts = more_acts before (entries ++ loose) (there.0 ++ there.1) all in
+      let all_there : acts_before there.4.base ++ acts_of (there.0 ++ there.1) ≡ before ++ acts_of (there.0 ++ there.1) = ap (λ (b : Base). acts_before b ++ acts_of (there.0 ++ there.1)) there.5 in
       let published : IsPrefix old.kept.published new.kept.published =
       subst (λ (xs : List Act). IsPrefix xs new.kept.published) (sym (published_acts state entries loose old at))
-      (subst (IsPrefix (acts_of (entries ++ loose))) (sym (published_acts (later state) there.0 there.1 new here)) acts) in
+      (subst (IsPrefix (before ++ acts_of (entries ++ loose))) (sym (published_acts (later state) there.0 there.1 new here ∙ all_there)) acts) in
       (later state, there.0, there.1, added_kept entries loose more there.0 there.1 there.2, all, published, (λ each none. there.3 each), same, here)
 
   pub recorded_goes_on : (call : Call) (answer : Answer) (told : State → List Content) (old new : Shared F) → IsKeptStep old.kept call answer new.kept
@@ -61,10 +59,10 @@ module _ {F : Type 0} (has : F → List ℕ → List ℕ → Type 0) (usable : F
       added_goes_on (λ state. after_batch state (accept_all state.config (map asked requests) state.acts)) (λ state. durables.batch_of (accept_all state.config (map asked requests) state.acts)) old new
       (λ state at. let done = batch state at in subst (λ (r : Result (List Write) BatchRefused). kept.IsAt (after_batch state r) new.kept) (sym done.1.0) done.1.1.1) recorded same
 
-  pub synced_goes_on : (old new : Shared F) → ((state : State) (entries loose : List Entry) → IsAt has usable state entries loose old.kept old.journal → IsAt has usable state (entries ++ loose) [] new.kept new.journal)
+  pub synced_goes_on : (old new : Shared F) → ((state : State) (entries loose : List Entry) (at : IsAt has usable state entries loose old.kept old.journal) → (next : IsAt has usable state (entries ++ loose) [] new.kept new.journal) × (next.durable.base ≡ at.durable.base))
       → new.kept ≡ old.kept → new.journal.appender.sync ≡ old.journal.appender.sync → GoesOn has usable old new
   synced_goes_on old new on same sync = λ state entries loose at.
-      (state, entries ++ loose, [], (loose, refl), ([], refl), subst (λ k. IsPrefix old.kept.published k.published) (sym same) (prefix_self old.kept.published), (λ each none. refl), sync, on state entries loose at)
+      (state, entries ++ loose, [], (loose, refl), ([], refl), subst (λ k. IsPrefix old.kept.published k.published) (sym same) (prefix_self old.kept.published), (λ each none. refl), sync, (on state entries loose at).0)
 
   -- where each act is synced and nothing was loose
   pub goes_on : (calls : List (Shared F)) (first last : Shared F) (state : State) (entries : List Entry) → first.journal.appender.sync ≡ Each → Lives has usable calls first last → IsAt has usable state entries [] first.kept first.journal
@@ -80,21 +78,22 @@ module _ {F : Type 0} (has : F → List ℕ → List ℕ → Type 0) (usable : F
 
   pub seen_comes_back : (calls : List (Shared F)) (first last : Shared F) (state : State) (entries : List Entry) (seen : List Act) → first.journal.appender.sync ≡ Each → IsAt has usable state entries [] first.kept first.journal
       → IsPrefix seen first.kept.published → Lives has usable calls first last
-      → (later : State) × (kept : List Entry) × IsAt has usable later kept [] last.kept last.journal
-      × ((told found : List Entry) (second : Durable F) (dropped : ℕ) (disk more left rest : List ℕ) → AreLawful later.config later.acts told → IsBetween last.journal.framing.seed later.config kept told disk more → MayLeave disk more left
-      → IsReopened has usable later.config left found rest second dropped → IsPrefix seen (acts_of found) ⊎ HasForgery last.journal.framing.seed later.config kept told left)
+      → (later : State) × (kept : List Entry) × (at : IsAt has usable later kept [] last.kept last.journal)
+      × ((told found : List Entry) (second : Durable F) (dropped : ℕ) (disk more left rest : List ℕ) → AreLawful later.config later.acts told → IsBetween last.journal.framing.seed at.durable.base kept told disk more → MayLeave disk more left
+      → IsReopened has usable at.durable.base left found rest second dropped → IsPrefix seen (acts_before at.durable.base ++ acts_of found) ⊎ HasForgery last.journal.framing.seed at.durable.base kept told left)
   seen_comes_back calls first last state entries seen each at saw lives =
       let there = goes_on calls first last state entries each lives at in
       let later = there.0 in
       let kept = there.1 in
-      let on_disk : last.kept.published ≡ acts_of kept = published_acts later kept [] last there.3 ∙ ap acts_of (append-nil kept) in
-      let own : IsPrefix seen (acts_of kept) = subst (IsPrefix seen) on_disk (prefix_trans seen first.kept.published last.kept.published saw there.2) in (
+      let before = acts_before there.3.durable.base in
+      let on_disk : last.kept.published ≡ before ++ acts_of kept = published_acts later kept [] last there.3 ∙ ap (λ (es : List Entry). before ++ acts_of es) (append-nil kept) in
+      let own : IsPrefix seen (before ++ acts_of kept) = subst (IsPrefix seen) on_disk (prefix_trans seen first.kept.published last.kept.published saw there.2) in (
         later,
         kept,
         there.3,
         λ told found second dropped disk more left rest lawful between may again.
             elim (second_life has usable later kept [] told found (durable_of last.kept last.journal) second dropped disk more left rest there.3.durable lawful between may again) [
-              | inl back ↦ inl (prefix_trans seen (acts_of kept) (acts_of found) own back.all_kept)
+              | inl back ↦ inl (prefix_trans seen (before ++ acts_of kept) (before ++ acts_of found) own back.all_kept)
               | inr forged ↦ inr forged
             ],
       )

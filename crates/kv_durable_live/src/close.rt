@@ -19,9 +19,10 @@ use std::sync::Wait;
 impl<N: LiveName, F: JournalFile> DurableKeeper<N, F> {
     /// Brings all that was accepted onto the disk.
     pub fn sync(&mut self) -> Result<(), DurableError>
-        ensures ok { OnOk result ((state : State) (kept loose : List Entry) →
-            IsAt F.has F.usable state kept loose self.old.keeper self.old.journal →
-            IsAt F.has F.usable state (kept ++ loose) [] self.new.keeper self.new.journal) }
+        ensures ok { OnOk result ((state : State) (kept loose : List Entry)
+            (at : IsAt F.has F.usable state kept loose self.old.keeper self.old.journal) →
+            (next : IsAt F.has F.usable state (kept ++ loose) [] self.new.keeper self.new.journal)
+            × (next.durable.base ≡ at.durable.base)) }
         ensures keeper { self.new.keeper ≡ self.old.keeper }
         ensures handed { OnErr result (IsHanded F.has F.usable (λ _. [])
             (durable_of self.old.keeper self.old.journal) (durable_of self.new.keeper self.new.journal)) }
@@ -41,13 +42,13 @@ impl<N: LiveName, F: JournalFile> DurableKeeper<N, F> {
     /// Ends it: ends the publisher, adds to the file that it ends cleanly, brings all onto the disk, and gives the file back.
     /// Readers read what is published on. It waits for the readers that are reading.
     pub fn close<R: Wait>(self, rt: &R) -> Result<F, NotDone<F>>
-        ensures ok { IfOk result (λ file. (state : State) (kept loose : List Entry) →
-            IsAt F.has F.usable state kept loose self.keeper self.journal →
-            IsClosed F.has state.config kept loose state.acts self.journal file) }
+        ensures ok { IfOk result (λ file. (state : State) (kept loose : List Entry)
+            (at : IsAt F.has F.usable state kept loose self.keeper self.journal) →
+            IsClosed F.has at.durable.base kept loose state.acts self.journal file) }
         ensures usable { IfOk result (λ file. F.usable file ≡ true) }
-        ensures handed { IfErr result (λ r. (state : State) (kept loose : List Entry) →
-            IsAt F.has F.usable state kept loose self.keeper self.journal →
-            IsLeft F.has self.journal.framing.seed state.config kept (loose ++ told_next self.journal (end_of state.acts)) r.file) }
+        ensures handed { IfErr result (λ r. (state : State) (kept loose : List Entry)
+            (at : IsAt F.has F.usable state kept loose self.keeper self.journal) →
+            IsLeft F.has self.journal.framing.seed at.durable.base kept (loose ++ told_next self.journal (end_of state.acts)) r.file) }
         ensures refused { IfErr result (λ r. (x : AnError) → r.error ≡ Refused x →
             (x ≡ OutOfMemory) × (r.file ≡ self.journal.appender.file)) }
         ensures fault { IfErr result (λ r. r.error ≡ FileFault → (is_stopped F.usable self.journal ≡ true)

@@ -3,6 +3,7 @@
 ghost use Rattle.std.specs.Prelude.{◌≡◌, ◌⊎◌, ◌++◌, [], ℕ, List, map};
 ghost use Rattle.kv_bucket.specs.Batches.{IsKeptBatch};
 ghost use Rattle.kv_bucket.specs.Keeping.{IsKeptStep};
+ghost use Rattle.kv_durable.specs.Bases.{acts_before};
 ghost use Rattle.kv_durable.specs.Durables.{IsRecorded, batch_of};
 ghost use Rattle.kv_durable.specs.Files.{HasForgery, IsBetween};
 ghost use Rattle.kv_durable.specs.Openings.{IsReopened};
@@ -23,11 +24,11 @@ ghost use Rattle.kv_model.specs.declared.request.Request.{Request};
 
 use kv_durable::JournalFile;
 
-/// What is published is what the file has: all acts of its entries, on the disk and loose, and no other.
+/// What is published is what the file has: all acts of its base and of its entries, on the disk and loose, and no other.
 pub fn published_is_in_the_file<F: JournalFile>()
     ensures { (state : State) (entries loose : List Entry) (shared : Shared F) →
-        IsAt F.has F.usable state entries loose shared.kept shared.journal →
-        shared.kept.published ≡ acts_of (entries ++ loose) }
+        (at : IsAt F.has F.usable state entries loose shared.kept shared.journal) →
+        shared.kept.published ≡ acts_before at.durable.base ++ acts_of (entries ++ loose) }
 {}
 
 /// Each call that is answered goes on: one that was recorded, as a write, a seal and a compaction; a batch; and a sync.
@@ -42,9 +43,9 @@ pub fn each_call_goes_on<F: JournalFile>()
         (λ state. batch_of (accept_all state.config (map asked requests) state.acts))
         (durable_of old.kept old.journal) (durable_of new.kept new.journal) →
         new.journal.appender.sync ≡ old.journal.appender.sync → GoesOn F.has F.usable old new }
-    ensures synced { (old new : Shared F) → ((state : State) (entries loose : List Entry) →
-        IsAt F.has F.usable state entries loose old.kept old.journal →
-        IsAt F.has F.usable state (entries ++ loose) [] new.kept new.journal) →
+    ensures synced { (old new : Shared F) → ((state : State) (entries loose : List Entry)
+        (at : IsAt F.has F.usable state entries loose old.kept old.journal) →
+        (next : IsAt F.has F.usable state (entries ++ loose) [] new.kept new.journal) × (next.durable.base ≡ at.durable.base)) →
         new.kept ≡ old.kept → new.journal.appender.sync ≡ old.journal.appender.sync → GoesOn F.has F.usable old new }
 {}
 
@@ -56,10 +57,11 @@ pub fn what_was_seen_comes_back<F: JournalFile>()
     ensures { (calls : List (Shared F)) (first last : Shared F) (state : State) (entries : List Entry) (seen : List Act) →
         first.journal.appender.sync ≡ Each → IsAt F.has F.usable state entries [] first.kept first.journal →
         IsPrefix seen first.kept.published → Lives F.has F.usable calls first last →
-        (later : State) × (kept : List Entry) × IsAt F.has F.usable later kept [] last.kept last.journal
+        (later : State) × (kept : List Entry) × (at : IsAt F.has F.usable later kept [] last.kept last.journal)
         × ((told found : List Entry) (second : Durable F) (dropped : ℕ) (disk more left rest : List ℕ) →
         AreLawful later.config later.acts told →
-        IsBetween last.journal.framing.seed later.config kept told disk more → MayLeave disk more left →
-        IsReopened F.has F.usable later.config left found rest second dropped →
-        IsPrefix seen (acts_of found) ⊎ HasForgery last.journal.framing.seed later.config kept told left) }
+        IsBetween last.journal.framing.seed at.durable.base kept told disk more → MayLeave disk more left →
+        IsReopened F.has F.usable at.durable.base left found rest second dropped →
+        IsPrefix seen (acts_before at.durable.base ++ acts_of found)
+        ⊎ HasForgery last.journal.framing.seed at.durable.base kept told left) }
 {}

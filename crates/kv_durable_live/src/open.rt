@@ -1,10 +1,11 @@
 //! Opening a durable bucket that threads share.
 
-ghost use Rattle.std.specs.Prelude.{◌≡◌, [], Ok, All, length, true, IfErr, IfOk};
+ghost use Rattle.std.specs.Prelude.{◌≡◌, [], Ok, All, length, true, false, if◌then◌else◌, IfErr, IfOk};
 ghost use Rattle.kv_bucket.specs.Keeping.{may_open};
+ghost use Rattle.kv_durable.specs.Bases.{fresh};
 ghost use Rattle.kv_durable.specs.Journals.{Keeps};
 ghost use Rattle.kv_durable_live.specs.Sharing.{IsAt};
-ghost use Rattle.kv_durable_live.specs.declared.open.OpenError.TheVariants.{HasActs};
+ghost use Rattle.kv_durable_live.specs.declared.open.OpenError.TheVariants.{HasActs, HasCheckpoint};
 ghost use Rattle.kv_model.specs.State.{empty};
 
 use crate::keeper::DurableKeeper;
@@ -29,6 +30,8 @@ pub enum OpenError {
     /// The file has acts. What is published begins with no act, so only an empty file is opened for threads; open such a file
     /// by `Durable::open`.
     HasActs,
+    /// The file begins with a checkpoint, which stands in place of acts.
+    HasCheckpoint,
 }
 
 /// An opening that was refused, with the file.
@@ -38,12 +41,22 @@ pub struct NotOpened<F> {
     pub file: F,
 }
 
-// The journal of a file that has no acts.
-fn journal_without_acts<F: JournalFile>(durable: Durable<F>) -> Result<Journal<F>, NotOpened<F>>
-    ensures ok { IfOk result (λ journal. journal ≡ durable.journal) }
-    ensures err { IfErr result (λ r. (r.error ≡ HasActs) × (r.file ≡ durable.journal.appender.file)) }
+// The journal of a file that has no acts, and no checkpoint.
+fn journal_without_acts<F: JournalFile>(
+    durable: Durable<F>,
+    checkpointed: bool,
+) -> Result<Journal<F>, NotOpened<F>>
+    ensures ok { IfOk result (λ journal. (journal ≡ durable.journal) × (checkpointed ≡ false)) }
+    ensures err { IfErr result (λ r. (r.error ≡ (if checkpointed then HasCheckpoint else HasActs))
+        × (r.file ≡ durable.journal.appender.file)) }
 {
     let (bucket, journal) = durable.into_parts();
+    if checkpointed {
+        return Err(NotOpened {
+            error: OpenError::HasCheckpoint,
+            file: journal.into_file(),
+        });
+    }
     if bucket.version().revision() > 0 || bucket.version().sealed() {
         return Err(NotOpened {
             error: OpenError::HasActs,
@@ -62,11 +75,11 @@ fn new_journal<F: JournalFile>(
     sync: Sync,
 ) -> Result<Journal<F>, NotOpened<F>>
     ensures new { IfOk result (λ journal. F.usable file ≡ true → F.has file [] [] →
-        Keeps F.has F.usable config.now [] [] journal) }
+        Keeps F.has F.usable (fresh config.now) [] [] journal) }
     ensures sync { IfOk result (λ journal. journal.appender.sync ≡ sync) }
 {
     match Durable::open(alloc, config, file, seed, sync) {
-        Ok(opened) => journal_without_acts(opened.durable),
+        Ok(opened) => journal_without_acts(opened.durable, opened.checkpointed),
         Err(refused) => Err(NotOpened {
             error: OpenError::Refused(refused.error),
             file: refused.file,
@@ -89,7 +102,7 @@ impl<F: JournalFile> DurableLive<Brand, F> {
         ensures ok { IfOk result (λ o. (may_open config.now readers ≡ Ok config.now)
             × (o.opened.opening.config ≡ config.now) × (o.opened.readers ≡ readers)) }
         ensures new { IfOk result (λ o. F.usable file ≡ true → F.has file [] [] →
-            Keeps F.has F.usable config.now [] [] o.journal) }
+            Keeps F.has F.usable (fresh config.now) [] [] o.journal) }
         ensures sync { IfOk result (λ o. o.journal.appender.sync ≡ sync) }
     {
         match Live::open(alloc, config, readers) {
@@ -113,7 +126,7 @@ impl<F: JournalFile> Opened<F> {
         rt: &R,
     ) -> Result<(DurableKeeper<N, F>, Notifier<N>, Vec<Reader<N>>), NotDone<F>>
         requires { self.opened.opening ≡ N.opening }
-        ensures at { IfOk result (λ r. Keeps F.has F.usable N.opening.config [] [] self.journal →
+        ensures at { IfOk result (λ r. Keeps F.has F.usable (fresh N.opening.config) [] [] self.journal →
             IsAt F.has F.usable (empty N.opening.config) [] [] r.0.keeper r.0.journal) }
         ensures ok { IfOk result
             (λ r. (r.0.journal ≡ self.journal) × (length r.2.items ≡ self.opened.readers)

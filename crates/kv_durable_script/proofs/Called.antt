@@ -1,5 +1,5 @@
 -- Each call of a durable bucket keeps on.
-use Rattle.std.proofs.Common.{◌≡◌, ℕ, Bool, true, false, cond, List, [], ◌∷◌, ◌++◌, Option, Some, None, Result, Ok, Err, refl, sym, ◌∙◌, subst, inl, inr, append-nil}
+use Rattle.std.proofs.Common.{◌≡◌, ℕ, Bool, true, false, cond, List, [], ◌∷◌, ◌++◌, Option, Some, None, Result, Ok, Err, refl, sym, ap, ◌∙◌, subst, inl, inr, append-nil}
 use Rattle.std.specs.Prelude.{IfErr, IfOk, IsErrOf, IsOk, OnErr, OnOk}
 use Rattle.kv_keys.specs.declared.error.KvError.{KvError}
 use Rattle.kv_model.specs.Given.{Item}
@@ -8,11 +8,13 @@ use Rattle.kv_model.specs.declared.call.Call.TheVariants as calls
 use Rattle.kv_model.specs.declared.options.Options.{Options}
 use Rattle.kv_single.specs.Held.{Represents}
 use Rattle.kv_journal.specs.Records.{Content}
+use Rattle.kv_journal.specs.Entries.{acts_of}
+use Rattle.kv_durable.specs.Bases.{Base, acts_before}
 use Rattle.kv_durable.specs.Durables.{IsHanded, IsRecorded, IsRefusal}
-use Rattle.kv_durable.specs.Journals.{is_stopped, told_next}
+use Rattle.kv_durable.specs.Journals.{Keeps, is_stopped, told_next}
 use Rattle.kv_durable.specs.declared.durable.Durable.{Durable}
 use Rattle.kv_durable.specs.declared.error.DurableError.{DurableError}
-use Rattle.kv_durable.specs.declared.error.DurableError.TheVariants.{Refused, FileFault, FileDamaged, FileBusy, OtherBucket}
+use Rattle.kv_durable.specs.declared.error.DurableError.TheVariants.{Refused, FileFault, FileDamaged, FileBusy, OtherBucket, HasCheckpoint}
 use Rattle.kv_durable.specs.declared.error.BatchError.{BatchError}
 use Rattle.kv_durable.specs.declared.error.BatchError.TheVariants as batches
 use Rattle.kv_model.specs.declared.batch.BatchRefused.{BatchRefused}
@@ -31,6 +33,7 @@ by_rules FileFault other = absurd (other refl)
 by_rules (FileDamaged at) other = absurd (other refl)
 by_rules FileBusy other = absurd (other refl)
 by_rules OtherBucket other = absurd (other refl)
+by_rules HasCheckpoint other = absurd (other refl)
 
 pub only_memory : (error : DurableError) → ((x : KvError) → error ≡ Refused x → x ≡ OutOfMemory) → told_as error ≡ OutOfMemory
 only_memory (Refused e) refused = refused e refl
@@ -38,6 +41,7 @@ only_memory FileFault refused = refl
 only_memory (FileDamaged at) refused = refl
 only_memory FileBusy refused = refl
 only_memory OtherBucket refused = refl
+only_memory HasCheckpoint refused = refl
 
 pub batch_by_rules : (error : BatchError) → ((batch_told_as error).error ≡ OutOfMemory → ⊥) → error ≡ batches.Refused (batch_told_as error)
 batch_by_rules (batches.Refused refused) other = refl
@@ -79,7 +83,7 @@ module _ {F : Type 0} (has : F → List ℕ → List ℕ → Type 0) (usable : F
 
   pub watches_on : (later : State → State) (old new : Durable F) → ((state : State) → Represents state old.bucket → Represents (later state) new.bucket) → ((state : State) → IsAsLate state (later state))
       → new.journal ≡ old.journal → KeepsOn has usable old new
-  watches_on later old new step late same = λ state kept loose has_kept. record {
+  watches_on later old new step late same = λ base state kept loose has_kept. record {
     later = later state;
     on_disk = kept;
     behind = loose;
@@ -88,9 +92,10 @@ module _ {F : Type 0} (has : F → List ℕ → List ℕ → Type 0) (usable : F
     sync = rw same refl;
     each = λ each none. none;
     has_kept = record {
+      config = has_kept.config ∙ sym (late state).1;
       represents = step state has_kept.represents;
       acts = (late state).0 ∙ has_kept.acts;
-      file = rw (same, (late state).1) has_kept.file;
+      file = rw same has_kept.file;
     };
   }
 
@@ -108,9 +113,9 @@ module _ {F : Type 0} (has : F → List ℕ → List ℕ → Type 0) (usable : F
   module _ (later : State → State) (told : State → List Content) (old new : Durable F) where
     -- the call was answered
     pub recorded_on : IsRecorded has usable later told old new → (is_stopped usable old.journal ≡ true → ⊥) → new.journal.appender.sync ≡ old.journal.appender.sync → KeepsOn has usable old new
-    recorded_on recorded goes same = λ state kept loose has_kept. elim has_kept.file [
+    recorded_on recorded goes same = λ base state kept loose has_kept. elim has_kept.file [
       | inl keeps ↦
-          let there = recorded state kept loose (record { represents = has_kept.represents; acts = has_kept.acts; keeps = keeps }) in
+          let there = recorded state kept loose (record { base = base; config = has_kept.config; represents = has_kept.represents; acts = has_kept.acts; keeps = keeps }) in
           let entries = told_next old.journal (told state) in
           record {
             later = later state;
@@ -120,7 +125,12 @@ module _ {F : Type 0} (has : F → List ℕ → List ℕ → Type 0) (usable : F
             whole = (entries, sym (all_added kept loose entries there.0 there.1 there.2));
             sync = same;
             each = λ each none. there.3 each;
-            has_kept = record { represents = there.4.represents; acts = there.4.acts; file = inl there.4.keeps };
+            has_kept = record {
+              config = ap (λ (b : Base). b.config) (sym there.5) ∙ there.4.config;
+              represents = there.4.represents;
+              acts = there.4.acts ∙ ap (λ (b : Base). acts_before b ++ acts_of (there.0 ++ there.1)) there.5;
+              file = inl (subst (λ (b : Base). Keeps has usable b there.0 there.1 new.journal) there.5 there.4.keeps);
+            };
           }
       | inr left ↦ absurd (goes left.0)
     ]
@@ -128,7 +138,7 @@ module _ {F : Type 0} (has : F → List ℕ → List ℕ → Type 0) (usable : F
     -- the file failed
     pub handed_on : IsHanded has usable told old new → new.bucket ≡ old.bucket → is_stopped usable new.journal ≡ true → (is_stopped usable old.journal ≡ true → new ≡ old)
         → (new.journal.framing ≡ old.journal.framing) × (new.journal.appender.sync ≡ old.journal.appender.sync) → KeepsOn has usable old new
-    handed_on handed bucket stops stopped same = λ state kept loose has_kept. elim has_kept.file [
+    handed_on handed bucket stops stopped same = λ base state kept loose has_kept. elim has_kept.file [
       | inl keeps ↦ record {
         later = state;
         on_disk = kept;
@@ -138,18 +148,19 @@ module _ {F : Type 0} (has : F → List ℕ → List ℕ → Type 0) (usable : F
         sync = same.1;
         each = λ each none. none;
         has_kept = record {
+          config = has_kept.config;
           represents = subst (Represents state) (sym bucket) has_kept.represents;
           acts = has_kept.acts;
           file = inr (
             stops,
             (
               told_next old.journal (told state),
-              rw same.0 (handed state kept loose (record { represents = has_kept.represents; acts = has_kept.acts; keeps = keeps })),
+              rw same.0 (handed state kept loose (record { base = base; config = has_kept.config; represents = has_kept.represents; acts = has_kept.acts; keeps = keeps })),
             ),
           );
         };
       }
-      | inr left ↦ same_on old new (stopped left.0) state kept loose has_kept
+      | inr left ↦ same_on old new (stopped left.0) base state kept loose has_kept
     ]
 
     -- the call has ended in one of these ways, or the rules or memory refused it, and nothing has changed
@@ -163,6 +174,7 @@ module _ {F : Type 0} (has : F → List ℕ → List ℕ → Type 0) (usable : F
     called_on {X} (Err (FileDamaged at)) recorded untouched bucket handed stops stopped no_other same = absurd no_other
     called_on {X} (Err FileBusy) recorded untouched bucket handed stops stopped no_other same = absurd no_other
     called_on {X} (Err OtherBucket) recorded untouched bucket handed stops stopped no_other same = absurd no_other
+    called_on {X} (Err HasCheckpoint) recorded untouched bucket handed stops stopped no_other same = absurd no_other
 
     -- the same of a batch of some requests
     module _ {R : Type 0} (requests : List R) where

@@ -6,6 +6,7 @@ use Rattle.kv_model.specs.State.{State}
 use Rattle.kv_file.specs.declared.appender.Sync.TheVariants.{Each}
 use Rattle.kv_journal.specs.Entries.{Entry, acts_of}
 use Rattle.kv_single.specs.Held.{Represents}
+use Rattle.kv_durable.specs.Bases.{Base, acts_before}
 use Rattle.kv_durable.specs.Journals.{IsLeft, Keeps, is_stopped}
 use Rattle.kv_keys.specs.declared.error.KvError.{KvError}
 use Rattle.kv_keys.specs.declared.error.KvError.TheVariants.{OutOfMemory}
@@ -27,19 +28,20 @@ batch_told_as (batches.Refused refused) = refused
 batch_told_as batches.FileFault = record { at = 0; error = OutOfMemory }
 
 module _ {F : Type 0} (has : F → List ℕ → List ℕ → Type 0) (usable : F → Bool) where
-  -- The bucket represents a state whose acts are those of these entries of its file. The file has the first ones on the disk
+  -- The bucket represents a state whose acts are those of its base and of these entries of its file. The file has the first ones on the disk
   -- and the others loose behind them; or it has failed, nothing that was on the disk has gone, and at most one more act was
   -- begun behind them.
-  pub record HasKept (state : State) (kept loose : List Entry) (durable : Durable F) : Type 0 where
+  pub record HasKept (base : Base) (state : State) (kept loose : List Entry) (durable : Durable F) : Type 0 where
+    pub config : base.config ≡ state.config
     pub represents : Represents state durable.bucket
-    pub acts : state.acts ≡ acts_of (kept ++ loose)
-    pub file : Keeps has usable state.config kept loose durable.journal
+    pub acts : state.acts ≡ acts_before base ++ acts_of (kept ++ loose)
+    pub file : Keeps has usable base kept loose durable.journal
         ⊎ ((is_stopped usable durable.journal ≡ true) × ((told : List Entry)
-        × IsLeft has durable.journal.framing.seed state.config kept (loose ++ told) durable.journal.appender.file))
+        × IsLeft has durable.journal.framing.seed base kept (loose ++ told) durable.journal.appender.file))
 
   -- What it has kept later, behind these entries: nothing that was on the disk has gone, and nothing was taken back. Where each
   -- act is synced, all are on the disk.
-  pub record KeepsMore (old : Durable F) (kept loose : List Entry) (new : Durable F) : Type 0 where
+  pub record KeepsMore (base : Base) (old : Durable F) (kept loose : List Entry) (new : Durable F) : Type 0 where
     pub later : State
     pub on_disk : List Entry
     pub behind : List Entry
@@ -47,14 +49,14 @@ module _ {F : Type 0} (has : F → List ℕ → List ℕ → Type 0) (usable : F
     pub whole : IsPrefix (kept ++ loose) (on_disk ++ behind)
     pub sync : new.journal.appender.sync ≡ old.journal.appender.sync
     pub each : old.journal.appender.sync ≡ Each → loose ≡ [] → behind ≡ []
-    pub has_kept : HasKept later on_disk behind new
+    pub has_kept : HasKept base later on_disk behind new
 
   -- whatever it had kept, it has kept that and more
   abbrev pub KeepsOn : Durable F → Durable F → Type 0
-  KeepsOn old new = (state : State) (kept loose : List Entry) → HasKept state kept loose old → KeepsMore old kept loose new
+  KeepsOn old new = (base : Base) (state : State) (kept loose : List Entry) → HasKept base state kept loose old → KeepsMore base old kept loose new
 
   pub keeps_on_itself : (d : Durable F) → KeepsOn d d
-  keeps_on_itself d = λ state kept loose has_kept. record {
+  keeps_on_itself d = λ base state kept loose has_kept. record {
     later = state;
     on_disk = kept;
     behind = loose;
@@ -69,9 +71,9 @@ module _ {F : Type 0} (has : F → List ℕ → List ℕ → Type 0) (usable : F
   prefix_on xs ys zs one two = (one.0 ++ two.0, sym (append_assoc xs one.0 two.0) ∙ ap (λ (ws : List Entry). ws ++ two.0) one.1 ∙ two.1)
 
   pub keeps_on_later : (a b c : Durable F) → KeepsOn a b → KeepsOn b c → KeepsOn a c
-  keeps_on_later a b c ab bc = λ state kept loose has_kept.
-      let one = ab state kept loose has_kept in
-      let two = bc one.later one.on_disk one.behind one.has_kept in
+  keeps_on_later a b c ab bc = λ base state kept loose has_kept.
+      let one = ab base state kept loose has_kept in
+      let two = bc base one.later one.on_disk one.behind one.has_kept in
       record {
         later = two.later;
         on_disk = two.on_disk;

@@ -12,6 +12,7 @@ ghost use Rattle.kv_model.specs.Configuration.{configure};
 ghost use Rattle.kv_journal.specs.Entries.{Entry, payloads_of};
 ghost use Rattle.kv_replay.specs.Faults.{IsWriteOrMemory};
 ghost use Rattle.kv_replay.specs.inside.Written.{Pours, Puts};
+ghost use Rattle.kv_durable.specs.Bases.{fresh};
 ghost use Rattle.kv_durable.specs.Files.{Reads};
 ghost use Rattle.kv_durable.specs.declared.error.DurableError.TheVariants.{FileBusy, FileFault, Refused};
 ghost use Rattle.kv_durable_script.specs.Dumps.{dump_text};
@@ -110,7 +111,8 @@ fn behind(bytes: &[u8], place: u64) -> &[u8]
 /// configuration the script leads to the same acts: each entry with its revision, what was freed, and the seal. It answers how
 /// many bytes behind the last whole frame it left out.
 ///
-/// The bytes are read as by [`Durable::open`](crate::Durable), and refused as there.
+/// The bytes are read as by [`Durable::open`](crate::Durable), and refused as there; and where they begin with a checkpoint, as
+/// HasCheckpoint: no script leads to the acts in whose place that stands.
 pub fn dump<K: Output>(
     alloc: Global,
     config: &Config,
@@ -121,11 +123,11 @@ pub fn dump<K: Output>(
     ensures same { K.goes_on sink.old sink.new }
     // What stands in the bytes was written.
     ensures ok { IfOk result (λ left_out. (seed : ℕ) × (entries : List Entry) × (rest : List ℕ)
-        × Reads config.now bytes.now seed entries rest × (left_out ≡ length rest)
+        × Reads (fresh config.now) bytes.now seed entries rest × (left_out ≡ length rest)
         × Appends (K.held sink.old) (K.held sink.new) (dump_text entries)) }
     // Or a beginning of it was, or nothing.
     ensures early { OnErr result ((sink.new ≡ sink.old) ⊎ ((seed : ℕ) × (entries : List Entry) × (rest : List ℕ)
-        × Reads config.now bytes.now seed entries rest
+        × Reads (fresh config.now) bytes.now seed entries rest
         × (text : List ℕ) × StartsWith (dump_text entries) text × Appends (K.held sink.old) (K.held sink.new) text)) }
     ensures refused { IfErr result (λ e. (x : AnError) → e ≡ Refused x → (x ≡ WriteFault) ⊎ Refuses x (configure config.now)) }
     ensures write_fault { IsErrOf result (Refused WriteFault) → K.failed_between sink.old sink.new }
@@ -133,6 +135,9 @@ pub fn dump<K: Output>(
 {
     config.check()?;
     let recovered = recover(alloc, config, bytes)?;
+    if recovered.checkpointed {
+        return Err(DurableError::HasCheckpoint);
+    }
     let Ok(begun) = begin(alloc, bytes, config) else {
         return Err(DurableError::Refused(KvError::OutOfMemory));
     };

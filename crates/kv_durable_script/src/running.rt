@@ -41,12 +41,12 @@ fn outcome_of(run: Result<(), KvError>, is_stopped: bool) -> Result<(), DurableE
 
 // Ends the file, whatever the run came to.
 fn close<F: JournalFile>(durable: Durable<F>, run: Result<(), DurableError>) -> Finished<F>
-    ensures ok { OnOk result.result ((run ≡ Ok tt) × ((state : State) (kept loose : List Entry) →
-        IsAt F.has F.usable state kept loose durable →
-        IsClosed F.has state.config kept loose state.acts durable.journal result.file)) }
+    ensures ok { OnOk result.result ((run ≡ Ok tt) × ((state : State) (kept loose : List Entry)
+        (at : IsAt F.has F.usable state kept loose durable) →
+        IsClosed F.has at.base kept loose state.acts durable.journal result.file)) }
     ensures err { IfErr result.result (λ e. (run ≡ Err e) ⊎ ((run ≡ Ok tt) × IsUnclosed e)) }
-    ensures file { (state : State) (kept loose : List Entry) → IsAt F.has F.usable state kept loose durable →
-        HasEnded F.has state.config kept loose state.acts durable.journal result.file }
+    ensures file { (state : State) (kept loose : List Entry) (at : IsAt F.has F.usable state kept loose durable) →
+        HasEnded F.has at.base kept loose state.acts durable.journal result.file }
 {
     match durable.close() {
         Ok(file) => Finished { file, result: run },
@@ -77,15 +77,15 @@ pub fn run_durable<F: JournalFile, S: BoundedInput, K: Output>(
         Replays (text_from form (outside state)) (whole_from form (outside state))
         (S.left source.old) (S.left source.new) (K.held sink.old) (K.held sink.new)) }
     // What was answered is in the file.
-    ensures recorded { OnOk result.result ((state : State) (kept loose : List Entry) →
-        IsAt F.has F.usable state kept loose durable →
-        ClosesBehind F.has F.usable form state kept loose (S.left source.old) (S.left source.new) durable result.file) }
+    ensures recorded { OnOk result.result ((state : State) (kept loose : List Entry)
+        (at : IsAt F.has F.usable state kept loose durable) →
+        ClosesBehind F.has F.usable form at.base state kept loose (S.left source.old) (S.left source.new) durable result.file) }
     // Or it ended early, and a beginning of that text was written.
     ensures early { IfErr result.result (λ e. (state : State) → Represents state durable.bucket →
         EndsBy form (outside state) (S.left source.old) (S.left source.new) (K.held sink.old) (K.held sink.new) e) }
     // And what was answered is in the file too.
-    ensures answered { (state : State) (kept loose : List Entry) → IsAt F.has F.usable state kept loose durable →
-        KeepsAnswered F.has F.usable form state kept loose (S.left source.old) (S.left source.new)
+    ensures answered { (state : State) (kept loose : List Entry) (at : IsAt F.has F.usable state kept loose durable) →
+        KeepsAnswered F.has F.usable form at.base state kept loose (S.left source.old) (S.left source.new)
         (K.held sink.old) (K.held sink.new) durable result.file }
     ensures in_time { S.has_ended source.old ≡ false → S.was_asked_late source.new ≡ S.was_asked_late source.old }
     ensures read_fault { IsErrOf result.result (Refused ReadFault) → S.failed_between source.old source.new }

@@ -7,6 +7,8 @@
 #[cfg(test)]
 mod batches;
 #[cfg(test)]
+mod checkpointed;
+#[cfg(test)]
 mod checkpoints;
 #[cfg(test)]
 mod durables;

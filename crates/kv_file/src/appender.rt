@@ -1,11 +1,13 @@
 //! What adds to a file, and brings it onto the disk when that is due.
 
-ghost use Rattle.std.specs.Prelude.{◌≡◌, ◌⊎◌, ◌<◌, ◌≤◌, ◌^◌, ◌++◌, ◌&&◌, [], ℕ, true, is_ok, if◌then◌else◌, nat_lt, List, length, take, OnErr, OnOk};
+ghost use Rattle.std.specs.Prelude.{◌≡◌, ◌⊎◌, ◌<◌, ◌≤◌, ◌^◌, ◌++◌, ◌&&◌, [], ℕ, true, false, is_ok, if◌then◌else◌, nat_lt, List, length, take, IsErrOf, OnErr, OnOk};
 ghost use Rattle.kv_file.specs.Adding.{Adds, Fails};
 ghost use Rattle.kv_file.specs.Bytes.{Has};
 ghost use Rattle.kv_file.specs.declared.appender.Sync.TheVariants.{Each, Every};
+ghost use Rattle.kv_file.specs.declared.replace.ReplaceFault.TheVariants.{Unchanged, Unknown};
 
 use crate::file::{FileFault, JournalFile};
+use crate::replace::{ReplaceFault, ReplaceableFile};
 
 // So many bytes may be loose when more is added. A journal's frame tells their number in four bytes.
 const MOST_LOOSE: u64 = 1_073_741_824;
@@ -185,6 +187,33 @@ impl<F: JournalFile> Appender<F> {
         if self.is_due() {
             return self.flush();
         }
+        Ok(())
+    }
+
+    /// Puts these bytes in the place of all that the file has, all of them on the disk.
+    pub fn replace<P>(&mut self, place: &P, bytes: Vec<u8>) -> Result<(), ReplaceFault>
+    where
+        F: ReplaceableFile<P>,
+        ensures ok { OnOk result ((kept loose : List ℕ) → Has F.has F.usable kept loose self.old →
+            Has F.has F.usable bytes.items [] self.new) }
+        ensures none { OnOk result ((self.new.loose ≡ 0) × (self.new.waiting ≡ 0)) }
+        ensures unchanged { IsErrOf result Unchanged → (kept loose : List ℕ) → Has F.has F.usable kept loose self.old →
+            Has F.has F.usable kept loose self.new }
+        ensures unknown { IsErrOf result Unknown → (kept loose : List ℕ) → Has F.has F.usable kept loose self.old →
+            F.has self.new.file kept loose ⊎ F.has self.new.file bytes.items [] }
+        ensures stays { IsErrOf result Unchanged → F.usable self.new.file ≡ F.usable self.old.file }
+        ensures stops { IsErrOf result Unknown → F.usable self.new.file ≡ false }
+        ensures place { OnErr result (self.new.place ≡ self.old.place) }
+        ensures same { self.new.sync ≡ self.old.sync }
+        ensures faults { F.faults self.old.file ≤ F.faults self.new.file }
+        ensures failed { OnErr result (F.usable self.old.file ≡ true →
+            F.faults self.old.file < F.faults self.new.file) }
+    {
+        let len = bytes.len() as u64;
+        self.file.replace(place, bytes)?;
+        self.place = len;
+        self.loose = 0;
+        self.waiting = 0;
         Ok(())
     }
 }

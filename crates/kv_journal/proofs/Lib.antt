@@ -14,3 +14,5 @@ pub mod Pushing
 pub mod Restores
 pub mod FewWrites
 pub mod Unrefused
+pub mod OtherKinds
+pub mod OnlyCheckpoint

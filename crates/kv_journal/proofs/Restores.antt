@@ -1,5 +1,5 @@
 -- A checkpoint that is read, one payload after the other.
-use Rattle.std.proofs.Common.{◌≡◌, ℕ, ◌+◌, ◌<◌, ◌≤◌, Bool, List, [], ◌∷◌, ◌++◌, drop, length, map, refl, sym, ap, ◌∙◌, subst, arith, ⊎_elim}
+use Rattle.std.proofs.Common.{◌≡◌, ℕ, ◌+◌, ◌^◌, ◌<◌, ◌≤◌, Bool, List, [], ◌∷◌, ◌++◌, drop, length, map, refl, sym, ap, ◌∙◌, subst, arith, ⊎_elim}
 use Rattle.std.specs.Prelude.{Option, None, Some, MatchOption, Result, Ok, Err, IfOk, ◌≢◌}
 use Rattle.std.specs.List.{Contains}
 use Rattle.std.proofs.lemmas.List.{map-append}
@@ -15,7 +15,7 @@ use Rattle.kv_store.specs.Stored.{Stored}
 use Rattle.kv_journal.specs.Checkpoints.{Checkpoint, checkpoint_payloads, numbers_bytes, numbers_record, settled_payload, stored_payload}
 use Rattle.kv_journal.specs.declared.replays.Replayed.{Replayed}
 use Rattle.kv_journal.specs.declared.restoration.Numbers.{Numbers}
-use Rattle.kv_journal.specs.Restored.{HasPutBack, IsRestored}
+use Rattle.kv_journal.specs.Restored.{HasPutBack, IsOnly, IsRestored}
 use Rattle.kv_journal.proofs.PuttingBack.{one_more_back}
 
 -- so far these writes are put back, whose frames stand in front of the rest
@@ -57,18 +57,17 @@ one_put config seed at bytes ws place rest version p after w new some are fits f
           (Contains-push_cases ws w v m);
     }
 
-checkpoint : List Write → (last values floor : ℕ) → Bool → Checkpoint
+abbrev pub checkpoint : List Write → (last values floor : ℕ) → Bool → Checkpoint
 checkpoint ws last values floor sealed = record { writes = ws; last = last; values = values; floor = floor; sealed = sealed }
 
 abbrev pub Reads : Configuration → (seed at : ℕ) → List ℕ → Stored → ℕ → Type 0
 Reads config seed at bytes version place = (c : Checkpoint) × (rest : List ℕ) × (bytes ≡ frames seed at (checkpoint_payloads c) ++ rest) × ArePayloads (checkpoint_payloads c)
-    × IsRestored config c version × (place ≡ place_after at (checkpoint_payloads c))
+    × IsRestored config c version × (place ≡ place_after at (checkpoint_payloads c)) × IsOnly config seed at bytes c
 
 pub all_put : (config : Configuration) (seed at : ℕ) (bytes : List ℕ) (ws : List Write) (place : ℕ) (rest : List ℕ) (version : Stored) (p after : List ℕ) (new : Stored) (end last values floor : ℕ) (sealed : Bool)
     → ArePutBack config seed at bytes ws place rest version → IsPayload p → rest ≡ frame seed place p ++ after → p ≡ settled_payload (numbers_record last values floor sealed)
-    → new ≡ record version { last = last; values = values; floor = floor; sealed = sealed } → end ≡ place + (8 + length p) → Reads config seed at bytes new end
-unfolding checkpoint
-all_put config seed at bytes ws place rest version p after new end last values floor sealed are fits found says is there =
+    → new ≡ record version { last = last; values = values; floor = floor; sealed = sealed } → end ≡ place + (8 + length p) → IsOnly config seed at bytes (checkpoint ws last values floor sealed) → Reads config seed at bytes new end
+all_put config seed at bytes ws place rest version p after new end last values floor sealed are fits found says is there only =
     let c = checkpoint ws last values floor sealed in
     let all : map stored_payload ws ++ p ∷ [] ≡ checkpoint_payloads c = ap (λ (q : List ℕ). map stored_payload ws ++ q ∷ []) says in
     let settled : Stored = record version { last = last; values = values; floor = floor; sealed = sealed } in (
@@ -78,16 +77,18 @@ all_put config seed at bytes ws place rest version p after new end last values f
       subst ArePayloads all (ArePayloads-push (map stored_payload ws) p are.each fits),
       subst (IsRestored config c) (sym is) (record { same = are.same; writes = record { written = are.put.written; kept = are.put.kept; last_of = are.put.last_of }; last = refl; values = refl; floor = refl; sealed = refl }),
       there ∙ ap (λ (n : ℕ). n + (8 + length p)) are.here ∙ sym (place_after-append at (map stored_payload ws) (p ∷ [])) ∙ ap (λ (ps : List (List ℕ)). place_after at ps) all,
+      only,
     )
 
 -- the same of what is answered
 pub settled_so : {E : Type 0} (config : Configuration) (seed at : ℕ) (bytes : List ℕ) (ws : List Write) (place : ℕ) (rest : List ℕ) (version : Stored) (p after : List ℕ) → ArePutBack config seed at bytes ws place rest version → IsPayload p → rest ≡ frame seed place p ++ after
+    → ((last values floor : ℕ) (sealed : Bool) → last < 2 ^ 64 → values < 2 ^ 64 → floor < 2 ^ 64 → p ≡ settled_payload (numbers_record last values floor sealed) → IsOnly config seed at bytes (checkpoint ws last values floor sealed))
     → (r : Result Replayed E) → IfOk r (λ r. (last : ℕ) × (values : ℕ) × (floor : ℕ) × (sealed : Bool) × (p ≡ settled_payload (numbers_record last values floor sealed))
-    × (r.version ≡ record version { last = last; values = values; floor = floor; sealed = sealed }) × (r.place ≡ place + (8 + length p)))
+    × (r.version ≡ record version { last = last; values = values; floor = floor; sealed = sealed }) × (r.place ≡ place + (8 + length p)) × (last < 2 ^ 64) × (values < 2 ^ 64) × (floor < 2 ^ 64))
     → IfOk r (λ r. Reads config seed at bytes r.version r.place)
-settled_so config seed at bytes ws place rest version p after are fits found (Ok r) h =
-    all_put config seed at bytes ws place rest version p after r.version r.place h.0 h.1 h.2 h.3 are fits found h.4 h.5 h.6
-settled_so config seed at bytes ws place rest version p after are fits found (Err e) h = tt
+settled_so config seed at bytes ws place rest version p after are fits found only (Ok r) h =
+    all_put config seed at bytes ws place rest version p after r.version r.place h.0 h.1 h.2 h.3 are fits found h.4 h.5 h.6 (only h.0 h.1 h.2 h.3 h.7 h.8 h.9 h.4)
+settled_so config seed at bytes ws place rest version p after are fits found only (Err e) h = tt
 
 -- the numbers behind the kind of their record
 pub numbers_behind : (o : Option Numbers) (rest p : List ℕ) → p ≡ settled_payload (8 ∷ rest)

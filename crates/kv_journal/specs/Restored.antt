@@ -1,13 +1,15 @@
 -- A version that was made of a checkpoint.
-use Rattle.std.specs.Prelude.{◌≡◌, ℕ, List, None, filter, find, ◌==◌}
+use Rattle.std.specs.Prelude.{◌≡◌, ℕ, List, None, ◌++◌, filter, find, ◌==◌}
 use Rattle.std.specs.List.{last_or}
 use Rattle.std.specs.Str.{bytes_eq}
-use Rattle.kv_model.specs.Acts.{Write}
+use Rattle.kv_frames.specs.Frames.{ArePayloads, frames}
+use Rattle.kv_model.specs.Acceptance.{IsLawful}
+use Rattle.kv_model.specs.Acts.{Act, Write}
 use Rattle.kv_model.specs.Configuration.{Configuration}
 use Rattle.kv_model.specs.Reads.{unless_empty}
 use Rattle.kv_model.specs.Retained.{last_n, revisions, since_purge}
 use Rattle.kv_store.specs.Stored.{Stored, kept_at, last_at, write_at}
-use Rattle.kv_journal.specs.Checkpoints.{Checkpoint}
+use Rattle.kv_journal.specs.Checkpoints.{Checkpoint, checkpoint_of, checkpoint_payloads}
 
 -- these writes of a key
 abbrev pub those_of : List ℕ → List Write → List Write
@@ -28,3 +30,8 @@ pub record IsRestored (config : Configuration) (checkpoint : Checkpoint) (versio
   pub values : version.values ≡ checkpoint.values
   pub floor : version.floor ≡ checkpoint.floor
   pub sealed : version.sealed ≡ checkpoint.sealed
+
+-- where the bytes begin with the checkpoint of a bucket, it is this one
+abbrev pub IsOnly : Configuration → (seed at : ℕ) → List ℕ → Checkpoint → Type 0
+IsOnly config seed at bytes checkpoint = (acts : List Act) (left : List ℕ) → IsLawful config acts → ArePayloads (checkpoint_payloads (checkpoint_of config acts)) →
+    bytes ≡ frames seed at (checkpoint_payloads (checkpoint_of config acts)) ++ left → checkpoint_of config acts ≡ checkpoint

@@ -11,7 +11,7 @@ ghost use Rattle.kv_store.specs.Standing.{StandsFor};
 ghost use Rattle.kv_journal.specs.Checkpoints.{Checkpoint, checkpoint_of, checkpoint_payloads, numbers_bytes, numbers_record, settled_payload, stored_payload};
 ghost use Rattle.kv_journal.specs.Records.{IsRecordableAct, write_record};
 ghost use Rattle.kv_journal.specs.Replays.{IsDamaged};
-ghost use Rattle.kv_journal.specs.Restored.{IsRestored};
+ghost use Rattle.kv_journal.specs.Restored.{IsOnly, IsRestored};
 
 use crate::decode::request_in;
 use crate::header::long_number_of;
@@ -177,7 +177,7 @@ fn settled(
     ensures ok { IfOk result (λ r. (last : ℕ) × (values : ℕ) × (floor : ℕ) × (sealed : Bool)
         × (payload.now ≡ settled_payload (numbers_record last values floor sealed))
         × (r.version ≡ record version { last = last; values = values; floor = floor; sealed = sealed })
-        × (r.place ≡ place + (8 + length payload.now))) }
+        × (r.place ≡ place + (8 + length payload.now)) × (last < 2 ^ 64) × (values < 2 ^ 64) × (floor < 2 ^ 64)) }
     ensures damaged { IfErr result (λ e. IsDamaged e → (last values floor : ℕ) (sealed : Bool) → last < 2 ^ 64 →
         values < 2 ^ 64 → floor < 2 ^ 64 → payload.now ≡ settled_payload (numbers_record last values floor sealed) →
         version.last ≤ last → last ≤ config.now.revision_limit → values ≤ last → ⊥) }
@@ -218,7 +218,8 @@ pub fn restore(
     requires few { at + length bytes.now < 2 ^ 64 }
     ensures ok { IfOk result (λ r. (c : Checkpoint) × (rest : List ℕ)
         × (bytes.now ≡ frames framing.now.seed at (checkpoint_payloads c) ++ rest) × ArePayloads (checkpoint_payloads c)
-        × IsRestored config.now c r.version × (r.place ≡ place_after at (checkpoint_payloads c))) }
+        × IsRestored config.now c r.version × (r.place ≡ place_after at (checkpoint_payloads c))
+        × IsOnly config.now framing.now.seed at bytes.now c) }
     // That of a bucket is not refused as damaged.
     ensures damaged { IfErr result (λ e. IsDamaged e → (acts : List Act) (rest : List ℕ) → IsLawful config.now acts →
         ArePayloads (checkpoint_payloads (checkpoint_of config.now acts)) →

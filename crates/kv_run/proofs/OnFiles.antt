@@ -12,6 +12,7 @@ use Rattle.kv_journal.specs.Entries.{AreLawful, Entry}
 use Rattle.kv_replay.specs.Outcome.{Replays}
 use Rattle.kv_replay.specs.Sessions.{outside, text_from, whole_from}
 use Rattle.kv_durable.specs.Durables.{state_of}
+use Rattle.kv_durable.specs.Bases.{fresh}
 use Rattle.kv_durable.specs.Files.{Reads}
 use Rattle.kv_durable.specs.declared.error.DurableError.{DurableError}
 use Rattle.kv_durable_script.specs.Dumps.{dump_text}
@@ -34,7 +35,7 @@ run_on_acts form same_form config same_config acts bucket same_bucket unread sam
 
 -- what stands in the bytes of a file was written
 pub dumped_of : (config same_config : Configuration) (bytes : List ℕ) (seed : ℕ) (entries : List Entry) (rest : List ℕ) (held holds : Option (List ℕ)) (result : Result ⊤ DurableError)
-    → Reads config bytes seed entries rest → Appends held holds (dump_text entries) → config ≡ same_config → OnOk result (IsDumped same_config held holds)
+    → Reads (fresh config) bytes seed entries rest → Appends held holds (dump_text entries) → config ≡ same_config → OnOk result (IsDumped same_config held holds)
 dumped_of config same_config bytes seed entries rest held holds result reads written c = on_ok result (entries, subst (λ x. AreLawful x [] entries) c reads.lawful, written)
   where
     on_ok : {P : Type 0} (r : Result ⊤ DurableError) → P → OnOk r P

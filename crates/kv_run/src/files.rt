@@ -1,6 +1,6 @@
 //! The program on a bucket in a file, and the script of a file.
 
-ghost use Rattle.std.specs.Prelude.{◌≡◌, ◌≤◌, ◌<◌, ◌^◌, ℕ, List, None, Some, IfErr, IfOk, OnOk, length};
+ghost use Rattle.std.specs.Prelude.{◌≡◌, ◌≤◌, ◌<◌, ◌^◌, ℕ, List, false, None, Some, IfErr, IfOk, OnOk, length};
 ghost use Rattle.kv_model.specs.Acts.{Act};
 ghost use Rattle.kv_single.specs.Held.{Represents};
 ghost use Rattle.kv_durable.specs.Durables.{state_of};
@@ -133,7 +133,19 @@ fn seed<T: RandomSource>(rt: &T) -> Result<u64, DurableError> {
     }
 }
 
-/// Opens the bucket of a file, which is made if it isn't there.
+/// What was opened, where its file begins with no checkpoint.
+fn without_checkpoint(
+    opened: Opened<SystemFile>,
+) -> Result<Opened<SystemFile>, DurableError>
+    ensures { IfOk result (λ o. (o ≡ opened) × (opened.checkpointed ≡ false)) }
+{
+    if opened.checkpointed {
+        return Err(DurableError::HasCheckpoint);
+    }
+    Ok(opened)
+}
+
+/// Opens the bucket of a file, which is made if it isn't there. One that begins with a checkpoint is refused.
 fn open<T: Files<File = File> + RandomSource>(
     rt: &T,
     alloc: Global,
@@ -147,7 +159,7 @@ fn open<T: Files<File = File> + RandomSource>(
     let seed = seed(rt)?;
     let file = SystemFile::open(rt, path)?;
     match Durable::open(alloc, config, file, seed, when) {
-        Ok(opened) => Ok(opened),
+        Ok(opened) => without_checkpoint(opened),
         Err(refused) => Err(refused.error),
     }
 }
@@ -167,7 +179,11 @@ fn run<T: Files<File = File> + RandomSource, R: Input, W: Output, F: Output>(
 {
     let config = arguments.config(alloc)?;
     let when = when_of(arguments.sync()).unwrap_or(When::Each);
-    let Opened { durable, dropped } = open(rt, alloc, &config, path, when)?;
+    let Opened {
+        durable,
+        dropped,
+        checkpointed: _,
+    } = open(rt, alloc, &config, path, when)?;
     tell_torn(alloc, dropped, "dropped", path, faults)?;
     let mut source = Bounded::new(reader, READ_CALLS);
     let Finished { file: _, result } = run_durable(

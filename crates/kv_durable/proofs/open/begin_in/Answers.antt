@@ -9,6 +9,11 @@ returns-in_err-bytes-clause-refused g c =
     let inner = memory_of_legal c.args.config.now (legal_from c.args.config.now c.in_ok-bucket.bucket c.in_ok-bucket.ensures.ok) in
     search (rules, inner)
 
+pub returns-in_err-own-clause-refused : goal.returns-in_err-own-clause-refused
+returns-in_err-own-clause-refused g c =
+    let inner = memory_of_legal c.args.config.now c.requires in
+    search (rules, inner)
+
 pub returns-in_err-put_first-clause-handed : goal.returns-in_err-put_first-clause-handed
 returns-in_err-put_first-clause-handed g c = when_err c.from_residual-in_err-put_first.result (λ works h.
     let is : c.deref.result.now ≡ beginning c.args.seed c.args.config.now = c.deref.ensures.value ∙ c.in_ok-bytes.ensures.ok ∙ ap (λ (n : ℕ). beginning n c.args.config.now) c.new-framing.ensures in

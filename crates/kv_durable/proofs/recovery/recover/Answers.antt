@@ -1,11 +1,12 @@
-use Rattle.std.proofs.Common.{rules, ℕ, List, [], length, sym, ap, ◌∙◌, subst, arith}
+use Rattle.std.proofs.Common.{◌≡◌, rules, ℕ, List, [], length, sym, ap, ◌∙◌, subst, arith}
 use Rattle.kv_model.specs.Configuration.{Configuration, IsLegal}
-use Rattle.kv_journal.specs.Header.{configuration_payload}
+use Rattle.kv_journal.specs.Header.{BeginsWith, configuration_payload}
 use Rattle.kv_journal.specs.Damage.{ShowsDamage}
-use Rattle.kv_journal.specs.Entries.{AreLawful, Entry}
+use Rattle.kv_journal.specs.Entries.{AreLawful, Entry, acts_of}
+use Rattle.kv_durable.specs.Bases.{Base, IsBaseOf, acts_before}
 use Rattle.kv_durable.specs.Files.{Reads, file_of}
 use Rattle.kv_durable.specs.Refusals.{IsDamaged}
-use Rattle.kv_durable.proofs.Readings.{damage_shows, place_behind, read_begins, reads, reads_from, rest_is, within}
+use Rattle.kv_durable.proofs.Readings.{damage_shows, end_of_base, end_there, no_start, read_begins, reads, reads_from, stands, tells, within_front}
 use Rattle.kv_durable.proofs.recovery.recover.Goals as goal
 
 pub returns-in_err-begun-clause-damaged : goal.returns-in_err-begun-clause-damaged
@@ -14,84 +15,153 @@ returns-in_err-begun-clause-damaged c =
     let bytes = c.args.bytes.now in
     let empty = c.in_ok-empty.ensures.ok in
     let legal = subst IsLegal empty.0 empty.1.legal in
-    let inner : IsDamaged c.in_err-begun.field-0.0 → (seed : ℕ) (entries : List Entry) (rest : List ℕ) → Reads config bytes seed entries rest → ShowsDamage seed (length (file_of seed config entries)) rest =
-    λ is seed entries rest read. absurd (c.in_err-begun.ensures.damaged is seed (configuration_payload config) _ (read_begins config bytes seed entries rest legal read)) in
+    let inner : IsDamaged c.in_err-begun.field-0.0 → (base : Base) (seed : ℕ) (entries : List Entry) (rest : List ℕ) → base.config ≡ config → Reads base bytes seed entries rest → ShowsDamage seed (length (file_of seed base entries)) rest =
+    λ is base seed entries rest same read.
+    let begins = read_begins base bytes seed entries rest (subst IsLegal (sym same) legal) read in
+    absurd (c.in_err-begun.ensures.damaged is seed (configuration_payload base.config) _ begins) in
     search (rules, inner)
+
+pub returns-in_err-started-clause-damaged : goal.returns-in_err-started-clause-damaged
+returns-in_err-started-clause-damaged c =
+    let config = c.args.config.now in
+    let bytes = c.args.bytes.now in
+    let b = c.in_ok-begun.ensures.ok in
+    let own = c.in_ok-begun.begun.framing.seed in
+    let inner : IsDamaged c.in_err-started.field-0.0 → (base : Base) (seed : ℕ) (entries : List Entry) (rest : List ℕ) → base.config ≡ config → Reads base bytes seed entries rest → ShowsDamage seed (length (file_of seed base entries)) rest =
+    λ is base seed entries rest same read.
+    absurd (no_start config bytes own c.in_ok-begun.begun.place c.behind-first.result.now b.0 b.1 b.2 c.behind-first.ensures (c.in_err-started.ensures.no_checkpoint is) (c.in_err-started.ensures.no_entries is) base seed entries rest same read) in
+    search (rules, inner)
+
+pub behind-entries-requires : goal.behind-entries-requires
+behind-entries-requires c =
+    let config = c.args.config.now in
+    let bytes = c.args.bytes.now in
+    let b = c.in_ok-begun.ensures.ok in
+    let own = c.in_ok-begun.begun.framing.seed in
+    let at = c.in_ok-begun.begun.place in
+    let s = c.in_ok-started.ensures.ok in
+    let started = c.in_ok-started.started in
+    omega (arith, within_front config bytes own at c.behind-first.result.now b.0 b.1 b.2 c.behind-first.ensures s.0 s.1 started s.2)
 
 pub returns-in_err-replayed-clause-damaged : goal.returns-in_err-replayed-clause-damaged
 returns-in_err-replayed-clause-damaged c =
     let config = c.args.config.now in
     let bytes = c.args.bytes.now in
-    let empty = c.in_ok-empty.ensures.ok in
     let b = c.in_ok-begun.ensures.ok in
     let own = c.in_ok-begun.begun.framing.seed in
-    let place = c.in_ok-begun.begun.place in
-    let inner : IsDamaged c.in_err-replayed.field-0.0 → (seed : ℕ) (entries : List Entry) (rest : List ℕ) → Reads config bytes seed entries rest → ShowsDamage seed (length (file_of seed config entries)) rest =
-    λ is seed entries rest read. absurd (c.in_err-replayed.ensures.damaged is entries rest
-    (subst (λ (k : Configuration). AreLawful k [] entries) (sym empty.0) read.lawful)
-    (reads_from config bytes own place c.behind-entries.result.now b.0 seed entries rest b.1 b.2 c.behind-entries.ensures read)) in
+    let at = c.in_ok-begun.begun.place in
+    let s = c.in_ok-started.ensures.ok in
+    let started = c.in_ok-started.started in
+    let place = started.place in
+    let left = c.behind-entries.result.now in
+    let there = stands config bytes own at c.behind-first.result.now b.0 b.1 b.2 c.behind-first.ensures s.0 s.1 started s.2 left c.behind-entries.ensures in
+    let tell = tells config bytes own at c.behind-first.result.now b.0 b.1 b.2 c.behind-first.ensures s.0 s.1 started s.2 in
+    let inner : IsDamaged c.in_err-replayed.field-0.0 → (base : Base) (seed : ℕ) (entries : List Entry) (rest : List ℕ) → base.config ≡ config → Reads base bytes seed entries rest → ShowsDamage seed (length (file_of seed base entries)) rest =
+    λ is base seed entries rest same read.
+    let based = tell.read base seed entries rest same read in
+    absurd (c.in_err-replayed.ensures.damaged is (acts_before base) entries rest (s.2.stands base based)
+    (subst (λ (k : Configuration). AreLawful k (acts_before base) entries) (same ∙ sym s.2.same) read.lawful)
+    (reads_from config bytes own s.0 place left there base based seed entries rest read)) in
     search (rules, inner)
 
 pub behind-rest-requires : goal.behind-rest-requires
 behind-rest-requires c =
     let config = c.args.config.now in
     let bytes = c.args.bytes.now in
-    let empty = c.in_ok-empty.ensures.ok in
     let b = c.in_ok-begun.ensures.ok in
-    let r = c.in_ok-replayed.ensures.ok in
     let own = c.in_ok-begun.begun.framing.seed in
-    let lawful = subst (λ (k : Configuration). AreLawful k [] r.0) empty.0 r.5 in
-    let read = reads config bytes own c.in_ok-begun.begun.place c.behind-entries.result.now b.0 r.0 r.1 b.1 b.2 c.behind-entries.ensures lawful r.2 in
-    let here = place_behind own config c.in_ok-begun.begun.place c.in_ok-replayed.replayed.place r.0 b.2 r.6 in
-    omega (arith, within config bytes own c.in_ok-replayed.replayed.place r.0 r.1 read here)
+    let at = c.in_ok-begun.begun.place in
+    let s = c.in_ok-started.ensures.ok in
+    let started = c.in_ok-started.started in
+    let place = started.place in
+    let left = c.behind-entries.result.now in
+    let there = stands config bytes own at c.behind-first.result.now b.0 b.1 b.2 c.behind-first.ensures s.0 s.1 started s.2 left c.behind-entries.ensures in
+    let r = c.in_ok-replayed.ensures.ok in
+    omega (arith, (end_there config bytes own s.0 place left there r.0 r.1 c.in_ok-replayed.replayed.place r.2 r.5).0)
 
 pub returns-then-shows_damage-clause-damaged : goal.returns-then-shows_damage-clause-damaged
-returns-then-shows_damage-clause-damaged c = λ _ seed entries rest found.
+returns-then-shows_damage-clause-damaged c = λ _ base seed entries rest same found.
     let config = c.args.config.now in
     let bytes = c.args.bytes.now in
-    let empty = c.in_ok-empty.ensures.ok in
-    let legal = subst IsLegal empty.0 empty.1.legal in
     let b = c.in_ok-begun.ensures.ok in
-    let r = c.in_ok-replayed.ensures.ok in
     let own = c.in_ok-begun.begun.framing.seed in
-    let place = c.in_ok-replayed.replayed.place in
-    let lawful = subst (λ (k : Configuration). AreLawful k [] r.0) empty.0 r.5 in
-    let read = reads config bytes own c.in_ok-begun.begun.place c.behind-entries.result.now b.0 r.0 r.1 b.1 b.2 c.behind-entries.ensures lawful r.2 in
-    let here = place_behind own config c.in_ok-begun.begun.place place r.0 b.2 r.6 in
-    let left = rest_is config bytes own place c.behind-rest.result.now r.0 r.1 read here c.behind-rest.ensures in
+    let at = c.in_ok-begun.begun.place in
+    let s = c.in_ok-started.ensures.ok in
+    let started = c.in_ok-started.started in
+    let place = started.place in
+    let left = c.behind-entries.result.now in
+    let there = stands config bytes own at c.behind-first.result.now b.0 b.1 b.2 c.behind-first.ensures s.0 s.1 started s.2 left c.behind-entries.ensures in
+    let tell = tells config bytes own at c.behind-first.result.now b.0 b.1 b.2 c.behind-first.ensures s.0 s.1 started s.2 in
+    let r = c.in_ok-replayed.ensures.ok in
+    let end = c.in_ok-replayed.replayed.place in
+    let lawful : (base : Base) → IsBaseOf config s.0 base → AreLawful base.config (acts_before base) r.0 =
+    λ base is. subst (λ (k : Configuration). AreLawful k (acts_before base) r.0) (s.2.same ∙ sym is.same) (r.4 (acts_before base) (s.2.stands base is)) in
+    let read : (base : Base) → IsBaseOf config s.0 base → Reads base bytes own r.0 r.1 = λ base is. reads config bytes own s.0 place left there base is r.0 r.1 (lawful base is) r.2 in
+    let here : (base : Base) → IsBaseOf config s.0 base → end ≡ length (file_of own base r.0) = λ base is. end_of_base config bytes own s.0 place left there base is r.0 end r.5 in
+    let behind_all = c.behind-rest.ensures ∙ (end_there config bytes own s.0 place left there r.0 r.1 end r.2 r.5).1 in
+    let empty = c.in_ok-empty.ensures.ok in
+    let legal = subst IsLegal (empty.0 ∙ sym same) empty.1.legal in
+    let based = tell.read base seed entries rest same found in
     let shows = c.shows_damage.ensures.yes c.if-shows_damage.true in
-    damage_shows config bytes own seed r.0 entries r.1 rest legal read found
-    (subst (λ (w : List ℕ). ShowsDamage own (length (file_of own config r.0)) w) left (subst (λ (n : ℕ). ShowsDamage own n c.behind-rest.result.now) here shows))
+    damage_shows base bytes own seed r.0 entries r.1 rest legal (read base based) found
+    (subst (λ (w : List ℕ). ShowsDamage own (length (file_of own base r.0)) w) behind_all (subst (λ (n : ℕ). ShowsDamage own n c.behind-rest.result.now) (here base based) shows))
 
 pub returns-clause-ok : goal.returns-clause-ok
 returns-clause-ok c =
     let config = c.args.config.now in
     let bytes = c.args.bytes.now in
-    let empty = c.in_ok-empty.ensures.ok in
     let b = c.in_ok-begun.ensures.ok in
-    let r = c.in_ok-replayed.ensures.ok in
     let own = c.in_ok-begun.begun.framing.seed in
-    let place = c.in_ok-replayed.replayed.place in
-    let lawful = subst (λ (k : Configuration). AreLawful k [] r.0) empty.0 r.5 in
-    let read = reads config bytes own c.in_ok-begun.begun.place c.behind-entries.result.now b.0 r.0 r.1 b.1 b.2 c.behind-entries.ensures lawful r.2 in
-    let here = place_behind own config c.in_ok-begun.begun.place place r.0 b.2 r.6 in
-    let left = rest_is config bytes own place c.behind-rest.result.now r.0 r.1 read here c.behind-rest.ensures in
-    (r.0, r.1, read, r.3 ∙ empty.0, r.4, here, ap (λ (w : List ℕ). length w) left)
+    let at = c.in_ok-begun.begun.place in
+    let s = c.in_ok-started.ensures.ok in
+    let started = c.in_ok-started.started in
+    let place = started.place in
+    let left = c.behind-entries.result.now in
+    let there = stands config bytes own at c.behind-first.result.now b.0 b.1 b.2 c.behind-first.ensures s.0 s.1 started s.2 left c.behind-entries.ensures in
+    let tell = tells config bytes own at c.behind-first.result.now b.0 b.1 b.2 c.behind-first.ensures s.0 s.1 started s.2 in
+    let r = c.in_ok-replayed.ensures.ok in
+    let end = c.in_ok-replayed.replayed.place in
+    let lawful : (base : Base) → IsBaseOf config s.0 base → AreLawful base.config (acts_before base) r.0 =
+    λ base is. subst (λ (k : Configuration). AreLawful k (acts_before base) r.0) (s.2.same ∙ sym is.same) (r.4 (acts_before base) (s.2.stands base is)) in
+    let read : (base : Base) → IsBaseOf config s.0 base → Reads base bytes own r.0 r.1 = λ base is. reads config bytes own s.0 place left there base is r.0 r.1 (lawful base is) r.2 in
+    let here : (base : Base) → IsBaseOf config s.0 base → end ≡ length (file_of own base r.0) = λ base is. end_of_base config bytes own s.0 place left there base is r.0 end r.5 in
+    let behind_all = c.behind-rest.ensures ∙ (end_there config bytes own s.0 place left there r.0 r.1 end r.2 r.5).1 in (
+      s.0,
+      r.0,
+      r.1,
+      record {
+        same = r.3.config ∙ s.2.same;
+        told = ap (λ (w : List ℕ). length w) behind_all;
+        tells = tell;
+        reads = read;
+        stands = λ base is. r.3.on (acts_before base) (s.2.stands base is);
+        place = here;
+      },
+    )
 
 pub returns-clause-torn : goal.returns-clause-torn
-returns-clause-torn c = λ seed entries rest found shows.
+returns-clause-torn c = λ base seed entries rest same found shows.
     let config = c.args.config.now in
     let bytes = c.args.bytes.now in
-    let empty = c.in_ok-empty.ensures.ok in
-    let legal = subst IsLegal empty.0 empty.1.legal in
     let b = c.in_ok-begun.ensures.ok in
-    let r = c.in_ok-replayed.ensures.ok in
     let own = c.in_ok-begun.begun.framing.seed in
-    let place = c.in_ok-replayed.replayed.place in
-    let lawful = subst (λ (k : Configuration). AreLawful k [] r.0) empty.0 r.5 in
-    let read = reads config bytes own c.in_ok-begun.begun.place c.behind-entries.result.now b.0 r.0 r.1 b.1 b.2 c.behind-entries.ensures lawful r.2 in
-    let here = place_behind own config c.in_ok-begun.begun.place place r.0 b.2 r.6 in
-    let left = rest_is config bytes own place c.behind-rest.result.now r.0 r.1 read here c.behind-rest.ensures in
-    let there = damage_shows config bytes seed own entries r.0 rest r.1 legal found read shows in
+    let at = c.in_ok-begun.begun.place in
+    let s = c.in_ok-started.ensures.ok in
+    let started = c.in_ok-started.started in
+    let place = started.place in
+    let left = c.behind-entries.result.now in
+    let there = stands config bytes own at c.behind-first.result.now b.0 b.1 b.2 c.behind-first.ensures s.0 s.1 started s.2 left c.behind-entries.ensures in
+    let tell = tells config bytes own at c.behind-first.result.now b.0 b.1 b.2 c.behind-first.ensures s.0 s.1 started s.2 in
+    let r = c.in_ok-replayed.ensures.ok in
+    let end = c.in_ok-replayed.replayed.place in
+    let lawful : (base : Base) → IsBaseOf config s.0 base → AreLawful base.config (acts_before base) r.0 =
+    λ base is. subst (λ (k : Configuration). AreLawful k (acts_before base) r.0) (s.2.same ∙ sym is.same) (r.4 (acts_before base) (s.2.stands base is)) in
+    let read : (base : Base) → IsBaseOf config s.0 base → Reads base bytes own r.0 r.1 = λ base is. reads config bytes own s.0 place left there base is r.0 r.1 (lawful base is) r.2 in
+    let here : (base : Base) → IsBaseOf config s.0 base → end ≡ length (file_of own base r.0) = λ base is. end_of_base config bytes own s.0 place left there base is r.0 end r.5 in
+    let behind_all = c.behind-rest.ensures ∙ (end_there config bytes own s.0 place left there r.0 r.1 end r.2 r.5).1 in
+    let empty = c.in_ok-empty.ensures.ok in
+    let legal = subst IsLegal (empty.0 ∙ sym same) empty.1.legal in
+    let based = tell.read base seed entries rest same found in
+    let shown = damage_shows base bytes seed own entries r.0 rest r.1 legal found (read base based) shows in
     c.shows_damage.ensures.no c.if-shows_damage.false
-    (subst (λ (n : ℕ). ShowsDamage own n c.behind-rest.result.now) (sym here) (subst (λ (w : List ℕ). ShowsDamage own (length (file_of own config r.0)) w) (sym left) there))
+    (subst (λ (n : ℕ). ShowsDamage own n c.behind-rest.result.now) (sym (here base based)) (subst (λ (w : List ℕ). ShowsDamage own (length (file_of own base r.0)) w) (sym behind_all) shown))

@@ -1,7 +1,9 @@
 use Rattle.std.proofs.Common.{◌≡◌, inr, rules}
 use Rattle.kv_keys.specs.declared.error.KvError.TheVariants.{WriteFault}
 use Rattle.kv_durable.specs.declared.error.DurableError.TheVariants.{Refused}
-use Rattle.kv_durable.proofs.Readings.{reads_from}
+use Rattle.kv_durable.specs.Bases.{fresh}
+use Rattle.kv_durable.proofs.Finding.{is_fresh}
+use Rattle.kv_durable.proofs.Readings.{plain_from}
 use Rattle.kv_replay.proofs.Progress.{on_err, starts}
 use Rattle.kv_durable_script.proofs.Lawful.{can_dump}
 use Rattle.kv_durable_script.proofs.dumping.dump.Goals as goal
@@ -12,9 +14,11 @@ returns-clause-ok g c =
     let bytes = c.args.bytes.now in
     let r = c.in_ok-recovered.ensures.ok in
     let b = c.in-Ok.ensures.ok in
-    let splits = reads_from config bytes c.in-Ok.begun.framing.seed c.in-Ok.begun.place c.behind-entries.result.now b.0 c.in_ok-recovered.recovered.framing.seed r.0 r.1 b.1 b.2 c.behind-entries.ensures r.2 in
-    let can = can_dump config r.0 c.in_ok-check.ensures.ok.0 r.2.lawful in
-    (c.in_ok-recovered.recovered.framing.seed, r.0, r.1, r.2, r.6, c.in_ok-write_entries.ensures.ok r.0 r.1 splits can)
+    let none = r.3.tells.plain c.if-recovered.false in
+    let read = r.3.reads (fresh config) (is_fresh config r.0 none) in
+    let splits = plain_from config bytes c.in-Ok.begun.framing.seed c.in-Ok.begun.place c.behind-entries.result.now b.0 c.in_ok-recovered.recovered.framing.seed r.1 r.2 b.1 b.2 c.behind-entries.ensures read in
+    let can = can_dump config r.1 c.in_ok-check.ensures.ok.0 read.lawful in
+    (c.in_ok-recovered.recovered.framing.seed, r.1, r.2, read, r.3.told, c.in_ok-write_entries.ensures.ok r.1 r.2 splits can)
 
 pub returns-in_err-recovered-clause-write_fault : goal.returns-in_err-recovered-clause-write_fault
 returns-in_err-recovered-clause-write_fault g c =
@@ -28,7 +32,9 @@ returns-in_err-write_entries-clause-early g c =
     let bytes = c.args.bytes.now in
     let r = c.in_ok-recovered.ensures.ok in
     let b = c.in-Ok.ensures.ok in
-    let splits = reads_from config bytes c.in-Ok.begun.framing.seed c.in-Ok.begun.place c.behind-entries.result.now b.0 c.in_ok-recovered.recovered.framing.seed r.0 r.1 b.1 b.2 c.behind-entries.ensures r.2 in
-    let can = can_dump config r.0 c.in_ok-check.ensures.ok.0 r.2.lawful in
-    let puts = c.in_err-write_entries.ensures.early r.0 r.1 splits can in
-    on_err c.from_residual-in_err-write_entries.result (inr (c.in_ok-recovered.recovered.framing.seed, r.0, r.1, r.2, puts.front, starts _ puts.front puts.rest puts.parts, puts.written))
+    let none = r.3.tells.plain c.if-recovered.false in
+    let read = r.3.reads (fresh config) (is_fresh config r.0 none) in
+    let splits = plain_from config bytes c.in-Ok.begun.framing.seed c.in-Ok.begun.place c.behind-entries.result.now b.0 c.in_ok-recovered.recovered.framing.seed r.1 r.2 b.1 b.2 c.behind-entries.ensures read in
+    let can = can_dump config r.1 c.in_ok-check.ensures.ok.0 read.lawful in
+    let puts = c.in_err-write_entries.ensures.early r.1 r.2 splits can in
+    on_err c.from_residual-in_err-write_entries.result (inr (c.in_ok-recovered.recovered.framing.seed, r.1, r.2, read, puts.front, starts _ puts.front puts.rest puts.parts, puts.written))

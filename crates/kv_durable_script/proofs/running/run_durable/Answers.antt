@@ -19,7 +19,7 @@ returns-clause-recorded g c =
     let stands = ok_gives c.run_on-target.result.result c.run_on-target.ensures.stands out.0 in
     closes has usable c.args.form state kept loose _ _ c.args.durable last c.close.result.file
     (subst (λ d. KeepsOn has usable d last) c.new.ensures c.run_on-target.ensures.kept) goes
-    (λ s k l is. subst (λ d. IsAt has usable s k l d → IsClosed has s.config k l s.acts d.journal c.close.result.file) c.into_durable.ensures (done.1 s k l) is)
+    (λ s k l is. subst (λ d. (at : IsAt has usable s k l d) → IsClosed has at.base k l s.acts d.journal c.close.result.file) c.into_durable.ensures (done.1 s k l) is)
     (stands state (subst (λ d. Represents state d.bucket) (sym c.new.ensures) at_first.represents)) at_first)
     c.close.ensures.ok
 
@@ -30,5 +30,5 @@ returns-clause-answered g c = λ state kept loose at_first.
     let last = c.run_on-target.result.target.durable in
     answers has usable c.args.form state kept loose _ _ _ _ c.args.durable last c.close.result.file
     (subst (λ d. KeepsOn has usable d last) c.new.ensures c.run_on-target.ensures.kept)
-    (λ s k l is. subst (λ d. IsAt has usable s k l d → HasEnded has s.config k l s.acts d.journal c.close.result.file) c.into_durable.ensures (c.close.ensures.file s k l) is)
+    (λ s k l is. subst (λ d. (at : IsAt has usable s k l d) → HasEnded has at.base k l s.acts d.journal c.close.result.file) c.into_durable.ensures (c.close.ensures.file s k l) is)
     (c.run_on-target.ensures.left state (subst (λ d. Represents state d.bucket) (sym c.new.ensures) at_first.represents)) at_first

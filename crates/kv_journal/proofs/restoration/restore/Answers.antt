@@ -3,6 +3,7 @@ use Rattle.kv_frames.proofs.Fronts.{length_frame}
 use Rattle.kv_model.specs.Configuration.{IsLegal}
 use Rattle.kv_store.specs.Stored.{Stored}
 use Rattle.kv_store.proofs.Standings.{history_some}
+use Rattle.kv_journal.proofs.OnlyCheckpoint.{only_this}
 use Rattle.kv_journal.proofs.Restores.{ArePutBack, begun, one_put, settled_so}
 use Rattle.kv_journal.proofs.Unrefused.{AreFirst, none_first, not_cut_short, not_misplaced, one_first, refused_so}
 use Rattle.kv_journal.proofs.restoration.restore.Goals as goal
@@ -57,7 +58,8 @@ returns-in-Ok-None c =
     let there = subst (λ (v : Stored). ArePutBack config seed at bytes ws c.loop-payload.place c.loop-payload.rest.now v) (sym same) inv.1.1 in
     let first = subst (λ (v : Stored). AreFirst seed at bytes ws c.loop-payload.place c.loop-payload.rest.now v.last) (sym same) inv.1.2 in
     record {
-      ok = settled_so config seed at bytes ws c.loop-payload.place c.loop-payload.rest.now c.put_payload.new.version p after there found.0 found.1 c.settled.result c.settled.ensures.ok;
+      ok = settled_so config seed at bytes ws c.loop-payload.place c.loop-payload.rest.now c.put_payload.new.version p after there found.0 found.1
+          (only_this config seed at bytes ws c.loop-payload.place c.loop-payload.rest.now c.put_payload.new.version.last first legal p after found.0 found.1 (c.put_payload.ensures.none e)) c.settled.result c.settled.ensures.ok;
       damaged = refused_so config seed at bytes ws c.loop-payload.place c.loop-payload.rest.now c.put_payload.new.version.last first legal p after found.0 found.1 (c.put_payload.ensures.none e) c.settled.result c.settled.ensures.damaged;
     }
 

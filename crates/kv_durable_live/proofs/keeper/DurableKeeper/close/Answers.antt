@@ -16,8 +16,8 @@ returns-clause-ok g c =
     let keeper = c.args.self.keeper in
     let journal = c.args.self.journal in
     let is : c.from_parts.result ≡ durable_of keeper journal = parts_are c.from_parts.result keeper journal (c.from_parts.ensures.0 ∙ c.close.ensures) c.from_parts.ensures.1 in
-    IfOk-weaker c.close-2.result _ (λ file. (state : State) (kept loose : List Entry) → IsAt has usable state kept loose keeper journal → IsClosed has state.config kept loose state.acts journal file)
-    (λ file h state kept loose at. subst (λ d. IsClosed has state.config kept loose state.acts d.journal file) is (h state kept loose (subst (λ d. durables.IsAt has usable state kept loose d) (sym is) at.durable))) c.close-2.ensures.ok
+    IfOk-weaker c.close-2.result _ (λ file. (state : State) (kept loose : List Entry) (at : IsAt has usable state kept loose keeper journal) → IsClosed has at.durable.base kept loose state.acts journal file)
+    (λ file h state kept loose at. subst (λ d. (there : durables.IsAt has usable state kept loose d) → IsClosed has there.base kept loose state.acts d.journal file) is (h state kept loose) at.durable) c.close-2.ensures.ok
 
 pub returns-clause-handed : goal.returns-clause-handed
 returns-clause-handed g c =
@@ -26,5 +26,5 @@ returns-clause-handed g c =
     let keeper = c.args.self.keeper in
     let journal = c.args.self.journal in
     let is : c.from_parts.result ≡ durable_of keeper journal = parts_are c.from_parts.result keeper journal (c.from_parts.ensures.0 ∙ c.close.ensures) c.from_parts.ensures.1 in
-    IfErr-weaker c.close-2.result _ (λ r. (state : State) (kept loose : List Entry) → IsAt has usable state kept loose keeper journal → IsLeft has journal.framing.seed state.config kept (loose ++ told_next journal (end_of state.acts)) r.file)
-    (λ r h state kept loose at. subst (λ d. IsLeft has d.journal.framing.seed state.config kept (loose ++ told_next d.journal (end_of state.acts)) r.file) is (h state kept loose (subst (λ d. durables.IsAt has usable state kept loose d) (sym is) at.durable))) c.close-2.ensures.handed
+    IfErr-weaker c.close-2.result _ (λ r. (state : State) (kept loose : List Entry) (at : IsAt has usable state kept loose keeper journal) → IsLeft has journal.framing.seed at.durable.base kept (loose ++ told_next journal (end_of state.acts)) r.file)
+    (λ r h state kept loose at. subst (λ d. (there : durables.IsAt has usable state kept loose d) → IsLeft has d.journal.framing.seed there.base kept (loose ++ told_next d.journal (end_of state.acts)) r.file) is (h state kept loose) at.durable) c.close-2.ensures.handed

@@ -1,0 +1,117 @@
+-- A journal whose file is replaced.
+use Rattle.std.proofs.Common.{◌≡◌, ◌⊎◌, ℕ, ◌^◌, ◌<◌, Bool, List, [], ◌++◌, refl, sym, ap, ◌∙◌, subst, append-nil, ⊎_elim, inl, inr}
+use Rattle.kv_file.specs.Bytes.{Has}
+use Rattle.kv_file.specs.declared.replace.ReplaceFault.{ReplaceFault}
+use Rattle.kv_file.specs.declared.replace.ReplaceFault.TheVariants.{Unchanged, Unknown}
+use Rattle.kv_frames.specs.Frames.{ArePayloads}
+use Rattle.kv_model.specs.Acceptance.{IsLawful}
+use Rattle.kv_model.specs.Acts.{Act}
+use Rattle.kv_model.specs.Configuration.{Configuration}
+use Rattle.kv_model.specs.State.{State}
+use Rattle.kv_single.specs.Held.{Represents}
+use Rattle.kv_store.specs.Standing.{StandsFor}
+use Rattle.kv_journal.specs.Entries.{Entry, acts_of}
+use Rattle.kv_durable.specs.Bases.{Base, IsLawfulBase, base_payloads, opening, replaced_by}
+use Rattle.kv_durable.specs.Durables.{IsAt}
+use Rattle.kv_durable.specs.Files.{file_of, frames_behind}
+use Rattle.kv_durable.specs.Journals.{HasEntries, Keeps}
+use Rattle.kv_durable.specs.declared.durable.Durable.{Durable}
+use Rattle.kv_durable.specs.declared.journal.Journal.{Journal}
+
+module _ {F : Type 0} (has : F → List ℕ → List ℕ → Type 0) (usable : F → Bool) where
+  pub replaced : (was base : Base) (kept loose : List Entry) (old new : Journal F) (seed : ℕ) (bytes : List ℕ) → Keeps has usable was kept loose old → base.config ≡ was.config → IsLawfulBase base → ArePayloads (base_payloads base)
+      → bytes ≡ opening seed base → seed < 2 ^ 64 → new.framing.seed ≡ seed → new.config ≡ old.config → ((k l : List ℕ) → Has has usable k l old.appender → Has has usable bytes [] new.appender) → Keeps has usable base [] [] new
+  replaced was base kept loose old new seed bytes keeps config lawful first is fits seeded kept_config on =
+      let whole : bytes ≡ file_of seed base [] = is ∙ sym (append-nil (opening seed base)) in
+      let there = on (file_of old.framing.seed was kept) (frames_behind old.framing.seed was kept loose) keeps.bytes in
+      record {
+        seed_fits = subst (λ (n : ℕ). n < 2 ^ 64) (sym seeded) fits;
+        own = ap (λ c. c.config) kept_config ∙ keeps.own ∙ sym config;
+        first = first;
+        replaced = lawful;
+        lawful = tt;
+        payloads = tt;
+        bytes = subst (λ (n : ℕ). Has has usable (file_of n base []) [] new.appender) (sym seeded) (subst (λ (w : List ℕ). Has has usable w [] new.appender) whole there);
+      }
+
+  pub not_replaced : (base : Base) (kept loose : List Entry) (old new : Journal F) → Keeps has usable base kept loose old → new.framing ≡ old.framing → new.config ≡ old.config
+      → ((k l : List ℕ) → Has has usable k l old.appender → Has has usable k l new.appender) → Keeps has usable base kept loose new
+  not_replaced base kept loose old new keeps same kept_config on =
+      let seed = old.framing.seed in
+      let seeded : new.framing.seed ≡ seed = ap (λ f. f.seed) same in
+      record {
+        seed_fits = subst (λ (n : ℕ). n < 2 ^ 64) (sym seeded) keeps.seed_fits;
+        own = ap (λ c. c.config) kept_config ∙ keeps.own;
+        first = keeps.first;
+        replaced = keeps.replaced;
+        lawful = keeps.lawful;
+        payloads = keeps.payloads;
+        bytes = subst (λ (n : ℕ). Has has usable (file_of n base kept) (frames_behind n base kept loose) new.appender) (sym seeded) (on (file_of seed base kept) (frames_behind seed base kept loose) keeps.bytes);
+      }
+
+  pub same_file : (base : Base) (kept loose : List Entry) (old new : Journal F) → new.framing ≡ old.framing → Keeps has usable base kept loose new → HasEntries has old.framing.seed base kept loose new.appender.file
+  same_file base kept loose old new same keeps = subst (λ (n : ℕ). HasEntries has n base kept loose new.appender.file) (ap (λ f. f.seed) same) keeps.bytes.file
+
+  pub either_file : (was base : Base) (kept loose : List Entry) (old : Journal F) (file : F) (seed : ℕ) (bytes : List ℕ) → Keeps has usable was kept loose old → bytes ≡ opening seed base
+      → ((k l : List ℕ) → Has has usable k l old.appender → has file k l ⊎ has file bytes []) → HasEntries has old.framing.seed was kept loose file ⊎ HasEntries has seed base [] [] file
+  either_file was base kept loose old file seed bytes keeps is on =
+      elim (on (file_of old.framing.seed was kept) (frames_behind old.framing.seed was kept loose) keeps.bytes) [
+        | inl there ↦ inl there
+        | inr there ↦ inr (subst (λ (w : List ℕ). has file w []) (is ∙ sym (append-nil (opening seed base))) there)
+      ]
+
+  -- what is known of the bytes of a checkpoint of what a bucket stands for
+  abbrev pub AreOf : Durable F → ℕ → List ℕ → Type 0
+  AreOf durable seed bytes = (acts : List Act) → StandsFor acts durable.bucket.version → durable.bucket.version.config ≡ durable.journal.config.config → bytes ≡ opening seed (replaced_by durable.journal.config.config acts)
+
+  abbrev pub AreFit : Durable F → Type 0
+  AreFit durable = (acts : List Act) → StandsFor acts durable.bucket.version → durable.bucket.version.config ≡ durable.journal.config.config → ArePayloads (base_payloads (replaced_by durable.journal.config.config acts))
+
+  module _ (state : State) (kept loose : List Entry) (old : Durable F) (at : IsAt has usable state kept loose old) where
+    own_config : old.journal.config.config ≡ state.config
+    own_config = at.keeps.own ∙ at.config
+
+    same_config : old.bucket.version.config ≡ old.journal.config.config
+    same_config = at.represents.config ∙ sym own_config
+
+    pub bytes_are : (seed : ℕ) (bytes : List ℕ) → AreOf old seed bytes → bytes ≡ opening seed (replaced_by state.config state.acts)
+    bytes_are seed bytes are = subst (λ (c : Configuration). bytes ≡ opening seed (replaced_by c state.acts)) own_config (are state.acts at.represents.version same_config)
+
+    pub next_at : (new : Durable F) (seed : ℕ) (bytes : List ℕ) → AreOf old seed bytes → AreFit old → new.bucket ≡ old.bucket
+        → ((was base : Base) (ks ls : List Entry) → Keeps has usable was ks ls old.journal → base.config ≡ was.config → IsLawfulBase base → ArePayloads (base_payloads base) → bytes ≡ opening seed base → Keeps has usable base [] [] new.journal)
+        → (next : IsAt has usable state [] [] new) × (next.base ≡ replaced_by state.config state.acts)
+    next_at new seed bytes are fit bucket on =
+        let base = replaced_by state.config state.acts in
+        let lawful = subst (λ (c : Configuration). IsLawful c state.acts) at.represents.config at.represents.version.lawful in
+        let first = subst (λ (c : Configuration). ArePayloads (base_payloads (replaced_by c state.acts))) own_config (fit state.acts at.represents.version same_config) in (
+          record {
+            base = base;
+            config = refl;
+            represents = subst (Represents state) (sym bucket) at.represents;
+            acts = sym (append-nil state.acts);
+            keeps = on at.base base kept loose at.keeps (sym at.config) lawful first (bytes_are seed bytes are);
+          },
+          refl,
+        )
+
+    pub still_at : (new : Durable F) → new.bucket ≡ old.bucket → ((base : Base) (ks ls : List Entry) → Keeps has usable base ks ls old.journal → Keeps has usable base ks ls new.journal)
+        → (next : IsAt has usable state kept loose new) × (next.base ≡ at.base)
+    still_at new bucket on = (
+      record {
+        base = at.base;
+        config = at.config;
+        represents = subst (Represents state) (sym bucket) at.represents;
+        acts = at.acts;
+        keeps = on at.base kept loose at.keeps;
+      },
+      refl,
+    )
+
+    pub left_there : (file : F) (seed : ℕ) (bytes : List ℕ) → AreOf old seed bytes
+        → ((was base : Base) (ks ls : List Entry) → Keeps has usable was ks ls old.journal → bytes ≡ opening seed base → HasEntries has old.journal.framing.seed was ks ls file ⊎ HasEntries has seed base [] [] file)
+        → HasEntries has old.journal.framing.seed at.base kept loose file ⊎ HasEntries has seed (replaced_by state.config state.acts) [] [] file
+    left_there file seed bytes are on = on at.base (replaced_by state.config state.acts) kept loose at.keeps (bytes_are seed bytes are)
+
+pub by_fault : {P : Type 0} (fault : ReplaceFault) → (fault ≡ Unchanged → P) → (fault ≡ Unknown → P) → P
+by_fault Unchanged here there = here refl
+by_fault Unknown here there = there refl

@@ -1,0 +1,87 @@
+//! Checkpoints of a durable bucket: its file is replaced by one that has what the bucket stores, in place of the acts that led
+//! to it.
+
+ghost use Rattle.std.specs.Prelude.{◌≡◌, ◌⊎◌, ◌<◌, ◌^◌, [], List, Err, false, true, IfErr, IfOk, IsErrOf, OnErr, OnOk};
+ghost use Rattle.kv_frames.specs.Frames.{ArePayloads};
+ghost use Rattle.kv_journal.specs.Entries.{Entry};
+ghost use Rattle.kv_keys.specs.declared.error.KvError.{KvError as AnError};
+ghost use Rattle.kv_keys.specs.declared.error.KvError.TheVariants.{OutOfMemory};
+ghost use Rattle.kv_model.specs.Acts.{Act};
+ghost use Rattle.kv_model.specs.State.{State};
+ghost use Rattle.kv_store.specs.Standing.{StandsFor};
+ghost use Rattle.kv_durable.specs.Bases.{base_payloads, opening, replaced_by};
+ghost use Rattle.kv_durable.specs.Durables.{IsAt, IsRefusal};
+ghost use Rattle.kv_durable.specs.Journals.{HasEntries, is_stopped};
+ghost use Rattle.kv_durable.specs.declared.error.DurableError.TheVariants.{FileFault, Refused};
+
+use crate::config::OwnConfig;
+use crate::durable::Durable;
+use crate::error::DurableError;
+use kv_file::{JournalFile, ReplaceableFile};
+use kv_frames::Framing;
+use kv_journal::{push_beginning, push_checkpoint};
+use kv_store::Version;
+use std::alloc::Global;
+
+// The bytes of a file that begins with the checkpoint of a version, and has nothing behind it.
+fn file_of(
+    alloc: Global,
+    framing: &Framing,
+    own: &OwnConfig,
+    version: &Version,
+) -> Result<Vec<u8>, DurableError>
+    ensures items { IfOk result (λ v. (acts : List Act) → StandsFor acts version.now → version.now.config ≡ own.now.config →
+        v.items ≡ opening framing.now.seed (replaced_by own.now.config acts)) }
+    ensures payloads { OnOk result ((acts : List Act) → StandsFor acts version.now → version.now.config ≡ own.now.config →
+        ArePayloads (base_payloads (replaced_by own.now.config acts))) }
+    ensures err { IfErr result (λ e. e ≡ Refused OutOfMemory) }
+{
+    let mut bytes = Vec::new(alloc);
+    push_beginning(alloc, &mut bytes, framing, &own.config)?;
+    push_checkpoint(alloc, &mut bytes, framing, version)?;
+    Ok(bytes)
+}
+
+impl<F: JournalFile> Durable<F> {
+    /// Replaces the file, where it lies in such a place, by one with this seed that has what the bucket stores, and none of the
+    /// acts that led to it. Choose the seed at random, and another for each file: a disk can leave blocks of the old file in
+    /// the new one. Whatever a crash leaves, it is the old file or the whole new one, and both are of the same bucket.
+    ///
+    /// A fault before the new file takes the place of the old one leaves that in use: the bucket goes on, as `is_stopped` of
+    /// its journal tells. After a fault whose outcome is not known, nothing more is written.
+    ///
+    /// It makes the new file in memory: a frame of each stored write, and one of the numbers.
+    pub fn checkpoint<P>(&mut self, place: &P, seed: u64) -> Result<(), DurableError>
+    where
+        F: ReplaceableFile<P>,
+        ensures ok { OnOk result ((state : State) (kept loose : List Entry) → IsAt F.has F.usable state kept loose self.old →
+            (next : IsAt F.has F.usable state [] [] self.new) × (next.base ≡ replaced_by state.config state.acts)) }
+        ensures seed { OnOk result (self.new.journal.framing.seed ≡ seed) }
+        ensures bucket { self.new.bucket ≡ self.old.bucket }
+        ensures goes_on { OnErr result (is_stopped F.usable self.new.journal ≡ false →
+            (state : State) (kept loose : List Entry) (at : IsAt F.has F.usable state kept loose self.old) →
+            (next : IsAt F.has F.usable state kept loose self.new) × (next.base ≡ at.base)) }
+        ensures left { OnErr result ((state : State) (kept loose : List Entry) (at : IsAt F.has F.usable state kept loose self.old) →
+            HasEntries F.has self.old.journal.framing.seed at.base kept loose self.new.journal.appender.file
+            ⊎ HasEntries F.has seed (replaced_by state.config state.acts) [] [] self.new.journal.appender.file) }
+        ensures refused { IfErr result (λ e. (x : AnError) → e ≡ Refused x → x ≡ OutOfMemory) }
+        ensures untouched { IfErr result (λ e. (x : AnError) → e ≡ Refused x → self.new ≡ self.old) }
+        ensures fault { IsErrOf result FileFault → (is_stopped F.usable self.old.journal ≡ true)
+            ⊎ (F.faults self.old.journal.appender.file < F.faults self.new.journal.appender.file) }
+        ensures stopped { is_stopped F.usable self.old.journal ≡ true → (result ≡ Err FileFault) × (self.new ≡ self.old) }
+        ensures no_other { IfErr result IsRefusal }
+        ensures sync { self.new.journal.appender.sync ≡ self.old.journal.appender.sync }
+    {
+        self.journal.may_add()?;
+        let framing = Framing::new(seed);
+        let bucket = self.bucket.single();
+        let bytes = file_of(
+            bucket.alloc(),
+            &framing,
+            &self.journal.config,
+            bucket.version(),
+        )?;
+        self.journal.replace(place, framing, bytes)?;
+        Ok(())
+    }
+}

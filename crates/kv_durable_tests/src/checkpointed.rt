@@ -1,0 +1,114 @@
+//! Tests of durable buckets whose file is replaced by a checkpoint.
+
+use crate::durables::{Bucket, STEPS, empty, is_same, opened, reopened, step};
+use crate::equal::equal;
+use kv_durable::{DurableError, Opened, Sync};
+use kv_keys::KvError;
+use std::alloc::Global;
+use std::process::Abort;
+use std::test::Fail;
+
+const NEXT_SEED: u64 = 0xFEDC_BA98_7654_3210;
+
+// A bucket behind so many steps, on a file of which so many calls go well: two make it, and each step is two.
+fn behind(alloc: Global, steps: usize, calls: u64) -> Result<Bucket, DurableError> {
+    let mut file = empty(alloc);
+    file.fail_after(calls);
+    let mut bucket = opened(alloc, file, Sync::Each)?.durable;
+    for number in 0..steps {
+        step(alloc, &mut bucket, number)?;
+    }
+    Ok(bucket)
+}
+
+fn are_same(rt: &impl Abort, first: &Bucket, second: &Bucket) {
+    assert!(rt; is_same(first.bucket().version(), second.bucket().version()));
+}
+
+// What the file of a bucket is opened as: the same bucket.
+fn same_again(
+    rt: &impl Abort,
+    alloc: Global,
+    bucket: &Bucket,
+    has_checkpoint: bool,
+) -> Result<Bucket, DurableError> {
+    let Opened {
+        durable,
+        dropped,
+        checkpointed,
+    } = reopened(alloc, bucket.journal().file().kept())?;
+    assert!(rt; checkpointed == has_checkpoint);
+    equal(rt, dropped, 0);
+    are_same(rt, bucket, &durable);
+    Ok(durable)
+}
+
+// A bucket behind so many steps is opened again from its checkpoint, and both make the others: revisions go on, a floor is
+// kept, and so is a seal.
+fn comes_back(rt: &impl Abort, alloc: Global, steps: usize) -> Result<(), DurableError> {
+    let mut bucket = behind(alloc, steps, u64::MAX)?;
+    bucket.checkpoint(&(), NEXT_SEED)?;
+    let mut second = same_again(rt, alloc, &bucket, true)?;
+    equal(rt, second.journal().seed(), NEXT_SEED);
+    equal(rt, second.journal().place(), bucket.journal().place());
+    for number in steps..STEPS {
+        step(alloc, &mut bucket, number)?;
+        step(alloc, &mut second, number)?;
+        are_same(rt, &bucket, &second);
+    }
+    same_again(rt, alloc, &bucket, true)?;
+    Ok(())
+}
+
+fn each_comes_back(rt: &impl Abort, alloc: Global) -> Result<(), DurableError> {
+    for steps in 0..STEPS + 1 {
+        comes_back(rt, alloc, steps)?;
+    }
+    Ok(())
+}
+
+#[test]
+fn a_checkpoint_is_opened_as_the_same_bucket(rt: HostRuntime) -> Result<(), Fail> {
+    match each_comes_back(&rt, rt.alloc()) {
+        Ok(()) => Ok(()),
+        Err(_) => Ok(each_comes_back(&rt, rt.alloc())?),
+    }
+}
+
+// A checkpoint of which a call of the file fails: the first leaves the old file, and the second the new one. Both are of the
+// same bucket, which goes on by the first.
+fn is_cut_off(
+    rt: &impl Abort,
+    alloc: Global,
+    steps: usize,
+    calls: u64,
+) -> Result<(), DurableError> {
+    let mut bucket = behind(alloc, steps, 2 + 2 * steps as u64 + calls)?;
+    let before = behind(alloc, steps, u64::MAX)?;
+    let told = bucket.checkpoint(&(), NEXT_SEED);
+    if told == Err(DurableError::Refused(KvError::OutOfMemory)) {
+        return told;
+    }
+    assert!(rt; told == Err(DurableError::FileFault));
+    assert!(rt; bucket.journal().is_stopped() == (calls == 1));
+    equal(rt, bucket.journal().seed(), before.journal().seed());
+    are_same(rt, &before, &bucket);
+    same_again(rt, alloc, &bucket, calls == 1)?;
+    Ok(())
+}
+
+fn each_is_cut_off(rt: &impl Abort, alloc: Global) -> Result<(), DurableError> {
+    for steps in 0..STEPS + 1 {
+        is_cut_off(rt, alloc, steps, 0)?;
+        is_cut_off(rt, alloc, steps, 1)?;
+    }
+    Ok(())
+}
+
+#[test]
+fn a_checkpoint_that_is_cut_off_leaves_the_bucket(rt: HostRuntime) -> Result<(), Fail> {
+    match each_is_cut_off(&rt, rt.alloc()) {
+        Ok(()) => Ok(()),
+        Err(_) => Ok(each_is_cut_off(&rt, rt.alloc())?),
+    }
+}
