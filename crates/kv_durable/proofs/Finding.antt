@@ -21,7 +21,7 @@ use Rattle.kv_durable.specs.Bases.{Base, IsBaseOf, IsLawfulBase, acts_before, ba
 use Rattle.kv_durable.specs.Durables.{IsAt, state_of}
 use Rattle.kv_durable.specs.Files.{Reads, file_of}
 use Rattle.kv_durable.specs.Journals.{CanFollow, Keeps}
-use Rattle.kv_durable.specs.Openings.{IsFound, IsFoundIn, IsNew, IsReopened, IsReopenedOn, LeavesBytes, TellsBase}
+use Rattle.kv_durable.specs.Openings.{HasRead, IsFound, IsFoundIn, IsNew, IsReopened, IsReopenedOn, LeavesBytes, TellsBase}
 use Rattle.kv_durable.specs.Refusals.{IsDamaged}
 use Rattle.kv_durable.specs.declared.durable.Durable.{Durable}
 use Rattle.kv_durable.specs.declared.open.Found.{Found}
@@ -226,3 +226,41 @@ again_opened {F} has usable config seed old new found durable dropped checkpoint
     let some_there : gone.0 ≡ [] → ⊥ = λ e. some (sym are ∙ e) in
     subst (λ (bs : List ℕ). IsReopenedOn has usable config bs durable dropped checkpointed) are
     (opened_again has usable config seed new gone.0 gone.1 gone.2 found durable dropped checkpointed some_there gone.3 bucket told kind framing (gone.5 works kept loose h) keeps)
+
+empty_or_not : (bytes : List ℕ) → (bytes ≡ []) ⊎ (bytes ≡ [] → ⊥)
+empty_or_not [] = inl refl
+empty_or_not (x ∷ xs) = inr (λ e. absurd cc)
+
+-- what was opened has read just the entries that were found
+pub has_read : {F : Type 0} (has : F → List ℕ → List ℕ → Type 0) (usable : F → Bool) (config : Configuration) (seed : ℕ) (old new : F) (found : Found) (durable : Durable F) (dropped : ℕ) → IsGone has usable config seed old new found
+    → found.checkpointed ≡ false → durable.bucket ≡ found.bucket → dropped ≡ found.dropped → durable.journal.framing ≡ found.framing → (usable old ≡ true → KeepsFound has usable new found durable)
+    → (entries : List Entry) × HasRead has usable config old entries durable dropped
+unfolding opened_again
+has_read has usable config seed old new found durable dropped gone plain bucket told framing keeps =
+    let entries = gone.2 in
+    let is = gone.3 in
+    let b = is_fresh config gone.1 (is.plain plain) in (
+      entries,
+      (
+        subst (Represents (state_of config (acts_of entries))) (sym bucket) (is.represents (fresh config) b),
+        (λ works kept loose h.
+            let same : gone.0 ≡ kept ++ loose = gone.4 kept loose h in
+            let again = λ (some : gone.0 ≡ [] → ⊥). (opened_again has usable config seed new gone.0 gone.1 entries found durable dropped found.checkpointed some is bucket told refl framing (gone.5 works kept loose h) (keeps works)).each (fresh config) b in
+            let at : (at : IsAt has usable (state_of config (acts_of entries)) entries [] durable) × (at.base ≡ fresh config) =
+            elim (empty_or_not gone.0) [
+              | inl none ↦
+                  let n = (new_opened has usable config seed old new found durable dropped found.checkpointed gone works (from_empty has old kept loose (sym same ∙ none) h) bucket told refl framing (keeps works)).1 in
+                  subst (λ (es : List Entry). (at : IsAt has usable (state_of config (acts_of es)) es [] durable) × (at.base ≡ fresh config)) (sym (is.new none).1) (n.at, n.based)
+              | inr some ↦ ((again some).at, (again some).based)
+            ] in (
+              at.0,
+              at.1,
+              (λ empty. (is.new (same ∙ empty)).1),
+              (λ some.
+                  let read = is.read (λ e. some (sym same ∙ e)) in (
+                    read.0,
+                    subst (λ (bs : List ℕ). IsReopened has usable (fresh config) bs entries read.0 durable dropped) same (again (λ e. some (sym same ∙ e))),
+                  )),
+            )),
+      ),
+    )

@@ -32,6 +32,14 @@ pub record IsNew {F : Type 0} (has : F → List ℕ → List ℕ → Type 0) (us
   pub based : at.base ≡ fresh config
   pub none : dropped ≡ 0
 
+-- An opening has read these entries of a file with no checkpoint: the bucket is at the state of their acts. And whatever a usable
+-- file had, all of them are on the disk: none, where it was empty; else those that are read of it, with a rest that was cut off.
+abbrev pub HasRead : {F : Type 0} → (F → List ℕ → List ℕ → Type 0) → (F → Bool) → Configuration → F → List Entry → Durable F → ℕ → Type 0
+HasRead has usable config file entries durable dropped = Represents (state_of config (acts_of entries)) durable.bucket
+    × (usable file ≡ true → (kept loose : List ℕ) → has file kept loose →
+    (at : IsAt has usable (state_of config (acts_of entries)) entries [] durable) × (at.base ≡ fresh config) × (kept ++ loose ≡ [] → entries ≡ [])
+    × ((kept ++ loose ≡ [] → ⊥) → (rest : List ℕ) × IsReopened has usable (fresh config) (kept ++ loose) entries rest durable dropped))
+
 -- What a failed opening leaves. Of a file with bytes these are left, and those that were on the disk are there, at least up to
 -- the end of what is read. An empty file has a beginning of what it was to begin with.
 abbrev pub LeavesBytes : {F : Type 0} → (F → List ℕ → List ℕ → Type 0) → Configuration → (seed : ℕ) → (kept loose : List ℕ) → F → Type 0

@@ -16,7 +16,7 @@ ghost use Rattle.kv_frames.specs.Frames.{ArePayloads};
 ghost use Rattle.kv_durable.specs.Bases.{Base, IsBaseOf, IsLawfulBase, acts_before, base_payloads};
 ghost use Rattle.kv_durable.specs.Files.{Reads, file_of};
 ghost use Rattle.kv_durable.specs.Journals.{CanFollow, Keeps};
-ghost use Rattle.kv_durable.specs.Openings.{IsFound, IsFoundIn, IsNew, IsReopenedOn, LeavesBytes};
+ghost use Rattle.kv_durable.specs.Openings.{HasRead, IsFound, IsFoundIn, IsNew, IsReopenedOn, LeavesBytes};
 ghost use Rattle.kv_durable.specs.Refusals.{IsDamaged};
 ghost use Rattle.kv_durable.specs.declared.error.DurableError.TheVariants.{FileBusy, FileFault, OtherBucket, Refused};
 
@@ -270,6 +270,8 @@ impl<F: JournalFile> Durable<F> {
         ensures reopened { IfOk result (λ o. F.usable file ≡ true → (kept loose : List ℕ) → F.has file kept loose →
             (kept ++ loose ≡ [] → ⊥) →
             IsReopenedOn F.has F.usable config.now (kept ++ loose) o.durable o.dropped o.checkpointed) }
+        ensures read { IfOk result (λ o. o.checkpointed ≡ false → (entries : List Entry)
+            × HasRead F.has F.usable config.now file entries o.durable o.dropped) }
         ensures torn { IfOk result (λ _. (kept loose : List ℕ) → F.has file kept loose →
             (base : Base) (other : ℕ) (entries : List Entry) (rest : List ℕ) → base.config ≡ config.now →
             Reads base (kept ++ loose) other entries rest → ShowsDamage other (length (file_of other base entries)) rest → ⊥) }

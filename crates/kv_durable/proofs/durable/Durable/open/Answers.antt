@@ -3,7 +3,7 @@ use Rattle.kv_single.specs.Held.{Represents}
 use Rattle.kv_journal.specs.Entries.{acts_of}
 use Rattle.kv_durable.specs.Bases.{acts_before, fresh}
 use Rattle.kv_durable.specs.Durables.{state_of}
-use Rattle.kv_durable.proofs.Finding.{again_opened, is_fresh, new_opened}
+use Rattle.kv_durable.proofs.Finding.{again_opened, has_read, is_fresh, new_opened}
 use Rattle.kv_durable.proofs.durable.Durable.open.Goals as goal
 
 pub returns-in-Ok-clause-represents : goal.returns-in-Ok-clause-represents
@@ -34,3 +34,11 @@ returns-in-Ok-clause-reopened g c = λ works.
     again_opened has usable c.args.config.now c.args.seed c.args.file c.found_in.new.file c.in-Ok.found c.opened_of.result.durable c.opened_of.result.dropped c.opened_of.result.checkpointed c.in-Ok.ensures.ok works
     c.opened_of.ensures.parts.0 c.opened_of.ensures.parts.1 c.opened_of.ensures.parts.2 c.opened_of.ensures.journal.0
     (λ base entries own first lawful can there place. c.opened_of.ensures.keeps base entries c.in-Ok.ensures.seed own first lawful can (c.in-Ok.ensures.usable ∙ works) there place)
+
+pub returns-in-Ok-clause-read : goal.returns-in-Ok-clause-read
+returns-in-Ok-clause-read g c = λ plain.
+    let has = g.F.JournalFile.has in
+    let usable = g.F.JournalFile.usable in
+    has_read has usable c.args.config.now c.args.seed c.args.file c.found_in.new.file c.in-Ok.found c.opened_of.result.durable c.opened_of.result.dropped c.in-Ok.ensures.ok (sym c.opened_of.ensures.parts.2 ∙ plain)
+    c.opened_of.ensures.parts.0 c.opened_of.ensures.parts.1 c.opened_of.ensures.journal.0
+    (λ works base entries own first lawful can there place. c.opened_of.ensures.keeps base entries c.in-Ok.ensures.seed own first lawful can (c.in-Ok.ensures.usable ∙ works) there place)
