@@ -1,5 +1,5 @@
 -- What was read of a line.
-use Rattle.std.proofs.Common.{◌≡◌, ℕ, true, false, List, [], Result, Ok, Err, refl}
+use Rattle.std.proofs.Common.{◌≡◌, ◌≢◌, ℕ, true, false, List, [], Result, Ok, Err, refl, subst}
 use Rattle.std.specs.Prelude.{OnOk}
 use Rattle.kv_keys.specs.declared.error.KvError.{KvError}
 use Rattle.kv_keys.specs.declared.error.KvError.TheVariants.{OutOfMemory, BadBucket, BadConfig, BadKey, BadFilter, OptionsClash, ValueTooLarge, Sealed, JournalFull, KeyExists, WrongLastRevision, KeyNotFound, NoSuchWatch, TooManyWatches, NoReader, BadCommand, ReadFault, WriteFault, BadFloor, WatchBehind, Lagged}
@@ -20,8 +20,8 @@ unfolding line_steps
 line_steps-read form state line outcome reads is = rw (reads, is) refl
 
 -- a refusal for its own cause is that of the grammar
-pub refused_by : (error : KvError) (outcome : Result Meaning KvError) → Fails error outcome → IsRefusal error → outcome ≡ Err error
-refused_by OutOfMemory outcome fails is = absurd is
+pub refused_by : (error : KvError) (outcome : Result Meaning KvError) → Fails error outcome → error ≢ OutOfMemory → outcome ≡ Err error
+refused_by OutOfMemory outcome fails is = absurd (is refl)
 refused_by BadBucket outcome fails is = fails
 refused_by BadConfig outcome fails is = fails
 refused_by BadKey outcome fails is = fails
@@ -42,6 +42,9 @@ refused_by WriteFault outcome fails is = fails
 refused_by BadFloor outcome fails is = fails
 refused_by (WatchBehind watch) outcome fails is = fails
 refused_by (Lagged floor) outcome fails is = fails
+
+pub other_than_memory : (error : KvError) → IsRefusal error → error ≢ OutOfMemory
+other_than_memory error is = λ memory. subst IsRefusal memory is
 
 -- what two facts of a success bring together
 pub on_ok_both : {T F : Type 0} {P Q R : Type 0} (r : Result T F) → (P → Q → R) → OnOk r P → OnOk r Q → OnOk r R

@@ -1,6 +1,6 @@
 use Rattle.std.proofs.Common.{◌++◌, Err, append-nil, sym, ap, ◌∙◌}
 use Rattle.std.proofs.lemmas.Result.{on_ok_weaker, on_err_weaker}
-use Rattle.kv_replay.proofs.Parsing.{line_steps-skipped, line_steps-read, on_ok_both, refused_by}
+use Rattle.kv_replay.proofs.Parsing.{line_steps-skipped, line_steps-read, on_ok_both, other_than_memory, refused_by}
 use Rattle.kv_replay.proofs.Taking.{between_at_once, ends_at_once, read_take}
 use Rattle.kv_replay.proofs.answer.answer_line_in.Goals as goal
 
@@ -23,7 +23,7 @@ returns-in-Ok-clause-err c =
 pub returns-in-Err-clause-ok : goal.returns-in-Err-clause-ok
 returns-in-Err-clause-ok c =
     on_ok_both c.answer_refusal.result (λ cause text state r.
-    rw (line_steps-read c.args.form state c.args.line.now (Err c.in-Err.error) (sym c.is_skipped.ensures ∙ c.if-is_skipped.false) (refused_by _ _ c.in-Err.ensures cause))
+    rw (line_steps-read c.args.form state c.args.line.now (Err c.in-Err.error) (sym c.is_skipped.ensures ∙ c.if-is_skipped.false) (refused_by _ _ c.in-Err.ensures (other_than_memory _ cause)))
     (text ∙ ap (λ t. c.args.out.now.items ++ t) (sym (append-nil _)), r))
     c.answer_refusal.ensures.cause c.answer_refusal.ensures.ok
 

@@ -1,6 +1,7 @@
 use Rattle.std.proofs.Common.{Err, sym, ◌∙◌}
 use Rattle.std.proofs.lemmas.Result.{on_ok_weaker}
-use Rattle.kv_run.proofs.Lines.{on_ok_both, other_adds, read_adds, refused_by, skipped_adds}
+use Rattle.kv_replay.proofs.Parsing.{on_ok_both, refused_by}
+use Rattle.kv_run.proofs.Lines.{other_adds, read_adds, skipped_adds}
 use Rattle.kv_run.proofs.races.plan.Plan.take_command.Goals as goal
 
 pub returns-then-is_skipped-clause-ok : goal.returns-then-is_skipped-clause-ok
