@@ -125,10 +125,10 @@ pub fn dump<K: Output>(
     ensures ok { IfOk result (λ left_out. (seed : ℕ) × (entries : List Entry) × (rest : List ℕ)
         × Reads (fresh config.now) bytes.now seed entries rest × (left_out ≡ length rest)
         × Appends (K.held sink.old) (K.held sink.new) (dump_text entries)) }
-    // Or a beginning of it was, or nothing.
-    ensures early { OnErr result ((sink.new ≡ sink.old) ⊎ ((seed : ℕ) × (entries : List Entry) × (rest : List ℕ)
-        × Reads (fresh config.now) bytes.now seed entries rest
-        × (text : List ℕ) × StartsWith (dump_text entries) text × Appends (K.held sink.old) (K.held sink.new) text)) }
+    // Or nothing was; or a beginning of it, until the sink failed or memory ran out.
+    ensures early { IfErr result (λ e. (sink.new ≡ sink.old) ⊎ (((x : AnError) × (e ≡ Refused x) × IsWriteOrMemory x)
+        × ((seed : ℕ) × (entries : List Entry) × (rest : List ℕ) × Reads (fresh config.now) bytes.now seed entries rest
+        × (text : List ℕ) × StartsWith (dump_text entries) text × Appends (K.held sink.old) (K.held sink.new) text))) }
     ensures refused { IfErr result (λ e. (x : AnError) → e ≡ Refused x → (x ≡ WriteFault) ⊎ Refuses x (configure config.now)) }
     ensures write_fault { IsErrOf result (Refused WriteFault) → K.failed_between sink.old sink.new }
     ensures no_fault { IfErr result (λ e. (e ≢ FileFault) × (e ≢ FileBusy)) }

@@ -1,10 +1,11 @@
-use Rattle.std.proofs.Common.{◌≡◌, inr, rules}
+use Rattle.std.proofs.Common.{◌≡◌, inr, refl, rules}
 use Rattle.kv_keys.specs.declared.error.KvError.TheVariants.{WriteFault}
 use Rattle.kv_durable.specs.declared.error.DurableError.TheVariants.{Refused}
+use Rattle.std.proofs.lemmas.Result.{err_from_is_err_and}
 use Rattle.kv_durable.specs.Bases.{fresh}
 use Rattle.kv_durable.proofs.Finding.{is_fresh}
 use Rattle.kv_durable.proofs.Readings.{plain_from}
-use Rattle.kv_replay.proofs.Progress.{on_err, starts}
+use Rattle.kv_replay.proofs.Progress.{starts}
 use Rattle.kv_durable_script.proofs.Lawful.{can_dump}
 use Rattle.kv_durable_script.proofs.dumping.dump.Goals as goal
 
@@ -37,4 +38,5 @@ returns-in_err-write_entries-clause-early g c =
     let splits = plain_from config bytes c.in-Ok.begun.framing.seed c.in-Ok.begun.place c.behind-entries.result.now b.0 c.in_ok-recovered.recovered.framing.seed r.1 r.2 b.1 b.2 c.behind-entries.ensures read in
     let can = can_dump config r.1 c.in_ok-check.ensures.ok.0 read.lawful in
     let puts = c.in_err-write_entries.ensures.early r.1 r.2 splits can in
-    on_err c.from_residual-in_err-write_entries.result (inr (c.in_ok-recovered.recovered.framing.seed, r.1, r.2, read, puts.front, starts _ puts.front puts.rest puts.parts, puts.written))
+    let why = err_from_is_err_and c.from_residual-in_err-write_entries.result c.from_residual-in_err-write_entries.ensures.1 in
+    rw (why.1, why.2) (inr ((_, refl, c.in_err-write_entries.ensures.fault), (c.in_ok-recovered.recovered.framing.seed, r.1, r.2, read, puts.front, starts _ puts.front puts.rest puts.parts, puts.written)))
