@@ -284,28 +284,53 @@ static bool make_condition(pthread_cond_t *condition) {
     return is_made;
 }
 
-uint64_t kv_shared_open(kv_shared *shared, const uint8_t *name, size_t name_size, const kv_limits *limits) {
+/* What an opening stands on: NULL where there is no memory, or the handle is open, which *code tells. */
+static struct core *new_core(kv_shared *shared, uint64_t *code) {
     struct core *core;
-    uint64_t code;
+    *code = KV_OPEN_ALREADY;
     if (__atomic_load_n(&shared->state, __ATOMIC_ACQUIRE) & OPEN)
-        return KV_OPEN_ALREADY;
+        return NULL;
+    *code = KV_OUT_OF_MEMORY;
     core = malloc(sizeof *core);
     if (!core)
-        return KV_OUT_OF_MEMORY;
+        return NULL;
     *core =
         (struct core){.lock = PTHREAD_ADAPTIVE_MUTEX_INITIALIZER_NP, .idle = PTHREAD_COND_INITIALIZER, .references = 1};
-    code = kv_open(&core->bucket, name, name_size, limits);
-    if (code == KV_OK && !make_condition(&core->changed)) {
-        kv_close(&core->bucket);
-        code = KV_OUT_OF_MEMORY;
-    }
+    if (make_condition(&core->changed))
+        return core;
+    free(core);
+    return NULL;
+}
+
+/* Opens the handle on a core whose bucket was opened. Where that was refused, the core is freed. */
+static uint64_t opened(kv_shared *shared, struct core *core, uint64_t code) {
+    kv_status status;
     if (code != KV_OK) {
-        free(core);
+        release(core);
         return code;
     }
+    /* That of an open bucket is never refused. */
+    kv_get_status(&core->bucket, &status);
+    core->last = status.last;
     shared->at = core;
     __atomic_fetch_or(&shared->state, OPEN, __ATOMIC_RELEASE);
     return KV_OK;
+}
+
+uint64_t kv_shared_open(kv_shared *shared, const uint8_t *name, size_t name_size, const kv_limits *limits) {
+    uint64_t code;
+    struct core *core = new_core(shared, &code);
+    return !core ? code : opened(shared, core, kv_open(&core->bucket, name, name_size, limits));
+}
+
+uint64_t kv_shared_open_file(kv_shared *shared, const uint8_t *path, size_t path_size, const uint8_t *name,
+                             size_t name_size, const kv_limits *limits, uint64_t sync, uint64_t *dropped,
+                             uint64_t *at) {
+    uint64_t code;
+    struct core *core = new_core(shared, &code);
+    return !core ? code
+                 : opened(shared, core,
+                          kv_open_file(&core->bucket, path, path_size, name, name_size, limits, sync, dropped, at));
 }
 
 uint64_t kv_shared_finish(kv_shared *shared) {
@@ -316,10 +341,11 @@ uint64_t kv_shared_finish(kv_shared *shared) {
     return leave(shared, core, KV_OK);
 }
 
-void kv_shared_close(kv_shared *shared) {
+uint64_t kv_shared_close(kv_shared *shared) {
     struct core *core;
+    uint64_t code;
     if (!(__atomic_fetch_and(&shared->state, ~(uint64_t)OPEN, __ATOMIC_ACQ_REL) & OPEN))
-        return;
+        return KV_OK;
     core = shared->at;
     pthread_mutex_lock(&core->lock);
     publish(core, sequence_of(core) | CLOSED);
@@ -328,8 +354,9 @@ void kv_shared_close(kv_shared *shared) {
     pthread_mutex_unlock(&core->lock);
     shared->at = NULL;
     /* Whoever finds the flag leaves the bucket alone. */
-    kv_close(&core->bucket);
+    code = kv_close(&core->bucket);
     release(core);
+    return code;
 }
 
 uint64_t kv_shared_put(kv_shared *shared, const uint8_t *key, size_t key_size, const uint8_t *value, size_t value_size,
@@ -386,6 +413,11 @@ uint64_t kv_shared_write_all(kv_shared *shared, kv_batch *batch, uint64_t *revis
         return leave(shared, core, code);
     core->last = *revision + size - 1;
     return leave_published(shared, core, KV_OK);
+}
+
+uint64_t kv_shared_sync(kv_shared *shared) {
+    struct core *core = enter(shared);
+    return !core ? KV_CLOSED : leave(shared, core, kv_sync(&core->bucket));
 }
 
 uint64_t kv_shared_seal(kv_shared *shared) {

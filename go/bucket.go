@@ -30,11 +30,13 @@ var _ KeyValue = (*Bucket)(nil)
 // Bucket is a bucket, which any number of goroutines use at once. Each write holds its lock, and is published before it returns.
 // Each call behind its Close is ErrClosed, and each may be ErrOutOfMemory.
 type Bucket struct {
-	name   *string
-	shared *handle
+	name    *string
+	shared  *handle
+	dropped uint64
 }
 
-// CreateKeyValue opens a bucket with no writes. ErrBadBucket, ErrBadConfig.
+// CreateKeyValue opens a bucket with no writes, or that of a file. ErrBadBucket, ErrBadConfig; of a file ErrFileFault, FileDamaged,
+// ErrFileBusy, ErrOtherBucket.
 func CreateKeyValue(cfg *KeyValueConfig) (*Bucket, error) {
 	limits := *cfg
 	if limits.History == 0 {
@@ -58,11 +60,23 @@ func CreateKeyValue(cfg *KeyValueConfig) (*Bucket, error) {
 	}
 	name := limits.Bucket
 	b := &Bucket{name: &name, shared: shared}
-	if err := shared.open(&limits); err != nil {
+	if limits.Path == "" {
+		err = shared.open(&limits)
+	} else {
+		b.dropped, err = shared.openFile(&limits)
+	}
+	if err != nil {
 		return nil, err
 	}
 	return b, nil
 }
+
+// Dropped is how many bytes of a torn end were cut off the file when it was opened, which a crash had left.
+func (b *Bucket) Dropped() uint64 { return b.dropped }
+
+// Sync brings all that was accepted onto the disk; without a file there is nothing to bring. ErrFileFault, and from then on each write
+// and each Sync: reads and watches go on.
+func (b *Bucket) Sync() error { return b.shared.sync() }
 
 // Bucket is its name.
 func (b *Bucket) Bucket() string { return *b.name }

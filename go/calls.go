@@ -29,6 +29,16 @@ static vg_told vg_open(uintptr_t at, _GoString_ name, uint64_t history, uint64_t
     kv_limits limits = {history, values, writes, revisions};
     TOLD(kv_shared_open(SHARED, BYTES(name), &limits));
 }
+static vg_told vg_open_file(uintptr_t at, _GoString_ path, _GoString_ name, uint64_t history, uint64_t values, uint64_t writes,
+                            uint64_t revisions, uint64_t sync) {
+    kv_limits limits = {history, values, writes, revisions};
+    uint64_t dropped = 0, place = 0;
+    vg_told told = {0};
+    told.code = kv_shared_open_file(SHARED, BYTES(path), BYTES(name), &limits, sync, &dropped, &place);
+    told.number = told.code == KV_OK ? dropped : place;
+    return told;
+}
+static vg_told vg_sync(uintptr_t at) { TOLD(kv_shared_sync(SHARED)); }
 static void vg_close(uintptr_t at) { kv_shared_close(SHARED); }
 static vg_told vg_finish(uintptr_t at) { TOLD(kv_shared_finish(SHARED)); }
 static vg_told vg_put(uintptr_t at, _GoString_ key, _GoString_ value) {
@@ -361,6 +371,24 @@ func written(it *handle, told C.vg_told) (uint64, error) {
 func (h *handle) open(limits *KeyValueConfig) error {
 	_, err := written(h, C.vg_open(h.at, limits.Bucket, C.uint64_t(limits.History), C.uint64_t(limits.MaxValueSize),
 		C.uint64_t(limits.WriteLimit), C.uint64_t(limits.RevisionLimit)))
+	return err
+}
+
+// How many bytes of a torn end were dropped.
+func (h *handle) openFile(limits *KeyValueConfig) (uint64, error) {
+	sync := uint64(1)
+	switch {
+	case limits.SyncEvery > 0:
+		sync = uint64(limits.SyncEvery)
+	case limits.SyncEvery < 0:
+		sync = 0
+	}
+	return written(h, C.vg_open_file(h.at, limits.Path, limits.Bucket, C.uint64_t(limits.History), C.uint64_t(limits.MaxValueSize),
+		C.uint64_t(limits.WriteLimit), C.uint64_t(limits.RevisionLimit), C.uint64_t(sync)))
+}
+
+func (h *handle) sync() error {
+	_, err := written(h, C.vg_sync(h.at))
 	return err
 }
 

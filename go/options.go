@@ -14,6 +14,12 @@ type KeyValueConfig struct {
 	WriteLimit uint64
 	// RevisionLimit is the last revision; 4,294,967,295, which is the most.
 	RevisionLimit uint64
+	// Path is a file, by which the bucket outlives the process: what it had accepted is there again, but its watches. None; then it is
+	// in memory alone.
+	Path string
+	// SyncEvery is how many writes there are from one sync of the file to the next; 1, so each write is on the disk when it returns.
+	// With a negative number only Sync and Close sync.
+	SyncEvery int
 }
 
 // AllKeys is the filter that matches each key.

@@ -2,8 +2,8 @@ package vilgoued
 
 import "fmt"
 
-// Refusal is why a call was refused, by the code of the rules. A refused call leaves the bucket as it was. Three refusals come with
-// what they tell, as WrongLastRevision, WatchBehind and Lagged; errors.Is finds the code of these too.
+// Refusal is why a call was refused, by the code of the rules. A refused call leaves the bucket as it was. Four refusals come with
+// what they tell, as WrongLastRevision, WatchBehind, Lagged and FileDamaged; errors.Is finds the code of these too.
 type Refusal uint64
 
 // The refusals. The names of nats.go stand for the same ones.
@@ -25,6 +25,10 @@ const (
 	ErrBadFloor          Refusal = 19
 	ErrWatchBehind       Refusal = 20
 	ErrLagged            Refusal = 21
+	ErrFileFault         Refusal = 22
+	ErrFileDamaged       Refusal = 23
+	ErrFileBusy          Refusal = 24
+	ErrOtherBucket       Refusal = 25
 	ErrClosed            Refusal = 32
 	ErrNoDescriptor      Refusal = 64
 
@@ -51,6 +55,10 @@ var told = map[Refusal][2]string{
 	ErrBadFloor:          {"BadFloor", "the floor is 0, above the last revision, or below the last compaction's"},
 	ErrWatchBehind:       {"WatchBehind", "a held watch is behind the floor"},
 	ErrLagged:            {"Lagged", "what follows lags behind a compaction"},
+	ErrFileFault:         {"FileFault", "the bucket's file has failed, and it takes no more writes"},
+	ErrFileDamaged:       {"FileDamaged", "the file is damaged, or none of a bucket"},
+	ErrFileBusy:          {"FileBusy", "another opening has the file"},
+	ErrOtherBucket:       {"OtherBucket", "the file is of a bucket with another name or other limits"},
 	ErrClosed:            {"Closed", "it is closed"},
 	ErrNoDescriptor:      {"NoDescriptor", "the system gives no descriptor: too many files are open"},
 }
@@ -103,7 +111,17 @@ func (r Lagged) Error() string {
 // Unwrap is ErrLagged.
 func (r Lagged) Unwrap() error { return ErrLagged }
 
-// The refusal of a code of the library; three tell a number.
+// FileDamaged refuses a file that has other bytes than were written, or is none of a bucket: they are good up to the place At.
+type FileDamaged struct{ At uint64 }
+
+func (r FileDamaged) Error() string {
+	return fmt.Sprintf("vilgoued: the file is damaged, or none of a bucket: its bytes are good up to place %d", r.At)
+}
+
+// Unwrap is ErrFileDamaged.
+func (r FileDamaged) Unwrap() error { return ErrFileDamaged }
+
+// The refusal of a code of the library; four tell a number.
 func refusal[Number ~uint64](code, number Number) error {
 	switch Refusal(code) {
 	case 0:
@@ -114,6 +132,8 @@ func refusal[Number ~uint64](code, number Number) error {
 		return WatchBehind{uint64(number)}
 	case ErrLagged:
 		return Lagged{uint64(number)}
+	case ErrFileDamaged:
+		return FileDamaged{uint64(number)}
 	}
 	return Refusal(code)
 }

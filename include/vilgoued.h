@@ -1,4 +1,4 @@
-/* A key-value bucket in the memory of one process, with wildcard watches.
+/* A key-value bucket in the memory of one process, with wildcard watches, and with a file if it is to outlive that.
  *
  * A handle whose bytes are all 0 is closed. The caller owns the handles and all memory that it names; keys, values and
  * names are read during the call alone. No pointer is null, also for a length of 0. The memory that a call names does
@@ -6,7 +6,8 @@
  *
  * Each function that returns a number returns KV_OK or why it was refused. A refused call leaves the bucket as it was,
  * and copies nothing. What it would have told it leaves as it was too, but for what is said here of
- * KV_WRONG_LAST_REVISION, KV_WATCH_BEHIND, KV_LAGGED, KV_TOO_LITTLE_ROOM and the place of kv_batch_write.
+ * KV_WRONG_LAST_REVISION, KV_WATCH_BEHIND, KV_LAGGED, KV_FILE_DAMAGED, KV_TOO_LITTLE_ROOM and the place of
+ * kv_batch_write.
  */
 #ifndef VILGOUED_H
 #define VILGOUED_H
@@ -36,6 +37,9 @@ enum {
     KV_BAD_FLOOR = 19,
     KV_WATCH_BEHIND = 20,
     KV_LAGGED = 21,
+    KV_FILE_FAULT = 22,
+    KV_FILE_DAMAGED = 23,
+    KV_FILE_BUSY = 24,
     KV_OTHER_BUCKET = 25,
     KV_CLOSED = 32,
     KV_TOO_LITTLE_ROOM = 33,
@@ -56,6 +60,10 @@ enum { KV_PUT = 0, KV_DELETE = 1, KV_PURGE = 2 };
 
 /* What a watch begins with: the latest entry of each matching key, all retained entries, none, those from a revision. */
 enum { KV_LATEST = 0, KV_HISTORY = 1, KV_UPDATES = 2, KV_FROM = 3 };
+
+/* When what a bucket with a file accepts is on the disk: once kv_sync or kv_close is called, or when its call answers.
+ * Any other number n: when the n-th such call behind the last sync answers. */
+enum { KV_SYNC_ASKED = 0, KV_SYNC_EACH = 1 };
 
 typedef struct kv_bucket {
     bool is_open;
@@ -111,7 +119,24 @@ typedef struct kv_status {
 } kv_status;
 
 uint64_t kv_open(kv_bucket *bucket, const uint8_t *name, size_t name_size, const kv_limits *limits);
-void kv_close(kv_bucket *bucket);
+/* Opens a bucket that outlives the process, by a journal file: what it had accepted is there again, but its watches. Where
+ * the path names no file, or an empty one, it is made that of a new bucket. No other opening has the file until this one is
+ * closed, or its process has ended. *dropped tells how many bytes of a torn end were cut off, which a crash had left.
+ *
+ * KV_FILE_BUSY where another opening has the file; KV_OTHER_BUCKET where it is that of a bucket with another name or other
+ * limits; KV_FILE_DAMAGED where its bytes are no longer those that were written, or it is no journal: *at is then, and only
+ * then, the place up to which they are good; KV_FILE_FAULT where the system refuses a call. */
+uint64_t kv_open_file(kv_bucket *bucket, const uint8_t *path, size_t path_size, const uint8_t *name, size_t name_size,
+                      const kv_limits *limits, uint64_t sync, uint64_t *dropped, uint64_t *at);
+/* Brings all that was accepted onto the disk; without a file there is nothing to bring.
+ *
+ * Where a call of the file fails, the call that made it is refused as KV_FILE_FAULT, and from then on each that would be
+ * added to the file, and each sync. Reads and watches go on. The write whose call failed may be in the file, or not: an
+ * opening tells. */
+uint64_t kv_sync(kv_bucket *bucket);
+/* Frees the bucket. Its file ends cleanly, with all on the disk: where that fails, or a call of the file had failed, it tells
+ * KV_FILE_FAULT, and frees all the same. */
+uint64_t kv_close(kv_bucket *bucket);
 
 uint64_t kv_put(kv_bucket *bucket, const uint8_t *key, size_t key_size, const uint8_t *value, size_t value_size,
                 uint64_t *revision);
@@ -141,7 +166,7 @@ uint64_t kv_batch_size(kv_batch *batch, size_t *size);
  * on; where nothing is gathered it is the bucket's last one. Then the batch is empty.
  *
  * Where one is refused, with the code that it has as a single write, the bucket and the batch are as they were, and *at
- * is the place of that write, from 0. It is told with each code but KV_CLOSED, and else stays as it was. With
+ * is the place of that write, from 0. It is told with each code but KV_CLOSED and KV_FILE_FAULT, and else stays as it was. With
  * KV_WRONG_LAST_REVISION, *revision is the last revision of its key, those before it in the batch counted. */
 uint64_t kv_batch_write(kv_bucket *bucket, kv_batch *batch, uint64_t *revision, size_t *at);
 /* Empties the batch. */

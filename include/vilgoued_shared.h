@@ -64,6 +64,12 @@ typedef void kv_watched(void *with, const kv_item *item, const char *key, const 
  * others use it. */
 uint64_t kv_shared_open(kv_shared *shared, const uint8_t *name, size_t name_size, const kv_limits *limits);
 
+/* The same with a file, as kv_open_file. Its calls sync one after another, under the mutex. */
+uint64_t kv_shared_open_file(kv_shared *shared, const uint8_t *path, size_t path_size, const uint8_t *name,
+                             size_t name_size, const kv_limits *limits, uint64_t sync, uint64_t *dropped,
+                             uint64_t *at);
+uint64_t kv_shared_sync(kv_shared *shared);
+
 /* Tells followers that no write comes any more: who sleeps is woken, and kv_follower_next is KV_CLOSED once all was
  * handed out. It stops no writer: a write that comes all the same is published, and handed out by a later next. Any
  * thread, and more than once. So a service ends by a finish, the end of its followers, and then the close. */
@@ -73,8 +79,8 @@ uint64_t kv_shared_finish(kv_shared *shared);
  * others call, sleep or read: it waits for the calls that are inside with this handle, and each call behind it is
  * KV_CLOSED, with this handle and with those of readers and followers, also where a follower had items left. Their
  * owners close these, before or after. A closed handle stays closed, and its memory has to be there as long as a
- * thread may call with it. It may be opened again once the close has returned. */
-void kv_shared_close(kv_shared *shared);
+ * thread may call with it. It may be opened again once the close has returned. It tells what kv_close does. */
+uint64_t kv_shared_close(kv_shared *shared);
 
 /* Writes, as the calls of vilgoued.h that they are named after, with the same refusals. Any thread. Each holds the
  * mutex for as long as its write takes, and is published before it returns: a reader's next call reads it, and a

@@ -1,4 +1,4 @@
-"""A key-value bucket in the memory of this process, with wildcard watches.
+"""A key-value bucket in the memory of this process, with wildcard watches, and with a file if it is to outlive that.
 
     from vilgoued import Bucket
 
@@ -17,7 +17,7 @@ from ._mirror import Mirror
 from ._snapshot import Feed, Snapshot
 from ._watch import Watch
 from .refusals import (
-    BadBucket, BadConfig, BadFilter, BadFloor, BadKey, Closed, JournalFull, KeyExists, KeyNotFound,
+    BadBucket, BadConfig, BadFilter, BadFloor, BadKey, Closed, FileBusy, FileDamaged, FileFault, JournalFull, KeyExists, KeyNotFound,
     KvError, Lagged, NoDescriptor, NoSuchStart, NoSuchWatch, OlderView, OpenAlready, OptionsClash, OtherBucket,
     OutOfMemory, Sealed, TooLittleRoom, TooManyWatches, ValueTooLarge, WatchBehind,
     WrongLastRevision,
@@ -27,6 +27,7 @@ __all__ = [
     "Batch", "Bucket", "Entry", "Feed", "Item", "MARKER", "Marker", "Mirror", "Op", "Snapshot", "Status",
     "Value", "Watch", "KvError", "OutOfMemory", "BadBucket", "BadConfig", "BadKey", "BadFilter",
     "OptionsClash", "ValueTooLarge", "Sealed", "JournalFull", "KeyExists", "WrongLastRevision",
-    "KeyNotFound", "NoSuchWatch", "TooManyWatches", "BadFloor", "WatchBehind", "Lagged", "OtherBucket", "Closed",
+    "KeyNotFound", "NoSuchWatch", "TooManyWatches", "BadFloor", "WatchBehind", "Lagged", "FileFault", "FileDamaged", "FileBusy",
+    "OtherBucket", "Closed",
     "TooLittleRoom", "OpenAlready", "NoSuchStart", "OlderView", "NoDescriptor",
 ]

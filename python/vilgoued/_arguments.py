@@ -2,6 +2,7 @@
 from __future__ import annotations
 
 import operator
+import os
 from typing import Optional, SupportsIndex, Union
 
 from ._library import Options
@@ -9,6 +10,7 @@ from .refusals import OptionsClash
 
 Name = Union[str, bytes]
 Data = Union[str, bytes, bytearray, memoryview]
+Path = Union[str, bytes, "os.PathLike[str]", "os.PathLike[bytes]"]
 
 
 def data_of(value: Data) -> bytes:
@@ -34,6 +36,18 @@ def number_of(number: SupportsIndex) -> int:
     if not 0 <= found < 1 << 64:
         raise OverflowError(f"{found} is not a number of 64 bits: give one from 0 to 18446744073709551615")
     return found
+
+
+def sync_of(sync: Union[str, SupportsIndex]) -> int:
+    """When what is accepted is brought onto the disk, as the library takes it."""
+    if isinstance(sync, str):
+        if sync not in ("each", "asked"):
+            raise ValueError(f"sync is {sync!r}: give 'each', 'asked', or how many writes there are from one sync to the next")
+        return 1 if sync == "each" else 0
+    number = number_of(sync)
+    if number == 0:
+        raise ValueError("sync is 0: give 'asked' for no sync but those that are asked for")
+    return number
 
 
 def clash(history: bool, updates: bool, since: Optional[SupportsIndex]) -> None:

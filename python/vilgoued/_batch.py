@@ -9,7 +9,7 @@ from ._arguments import Data, Name, data_of, name_of, number_of
 from ._closing import Held
 from ._library import Function, check, library
 from ._reads import Reads
-from .refusals import Closed, refusal
+from .refusals import Closed, FileFault, refusal
 
 
 class Batch(Held):
@@ -87,7 +87,7 @@ class Batch(Held):
             write = library().kv_shared_write_all
             code = write(self._bucket._at, self._at, ctypes.addressof(revision), ctypes.addressof(at))
             if code:
-                raise refusal(code, revision.value, None if code == Closed.code else at.value)
+                raise refusal(code, revision.value, None if code in (Closed.code, FileFault.code) else at.value)
             first = revision.value if size else revision.value + 1
             self.revisions = range(first, first + size)
             return self.revisions

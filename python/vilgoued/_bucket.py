@@ -2,9 +2,11 @@
 from __future__ import annotations
 
 import ctypes
-from typing import Any, List, Optional, SupportsIndex
+import os
+from types import TracebackType
+from typing import Any, List, Optional, SupportsIndex, Type, Union
 
-from ._arguments import Data, Name, data_of, name_of, number_of, options_of
+from ._arguments import Data, Name, Path, data_of, name_of, number_of, options_of, sync_of
 from ._batch import Batch
 from ._items import Entry
 from ._library import Function, Limits, check, give_back, library, room
@@ -18,7 +20,14 @@ class Bucket(Reads):
     """A bucket of this name, with no writes. Any thread may use it.
 
     `history` is how many entries of each key are kept, 1 to 64; the others are limits: the bytes of a value, the writes that
-    are stored, and the last revision."""
+    are stored, and the last revision.
+
+    With a `path` it outlives the process, by a file: what it had accepted is there again. `sync` says when what it accepts is on
+    the disk: `"each"` time, before the write returns; a number, before each of so many returns; `"asked"`, once `sync` or
+    `close` does."""
+
+    dropped: int
+    """How many bytes of a torn end, which a crash had left, were cut off the file; 0 without one."""
 
     def __init__(
         self,
@@ -28,6 +37,8 @@ class Bucket(Reads):
         value_limit: SupportsIndex = 1_048_576,
         write_limit: SupportsIndex = 1_000_000,
         revision_limit: SupportsIndex = 4_294_967_295,
+        path: Optional[Path] = None,
+        sync: Union[str, SupportsIndex] = "each",
     ) -> None:
         loaded = library()
         self._kv_put, self._kv_create, self._kv_update = loaded.kv_shared_put, loaded.kv_shared_create, loaded.kv_shared_update
@@ -37,8 +48,32 @@ class Bucket(Reads):
             loaded.kv_shared_snapshot, loaded.kv_shared_close,
         )
         limits = Limits(*map(number_of, (history, value_limit, write_limit, revision_limit)))
-        text = name_of(name)
-        check(loaded.kv_shared_open(self._at, text, len(text), ctypes.addressof(limits)))
+        text, every = name_of(name), sync_of(sync)
+        dropped, place = ctypes.c_uint64(), ctypes.c_uint64()
+        if path is None:
+            check(loaded.kv_shared_open(self._at, text, len(text), ctypes.addressof(limits)))
+        else:
+            file, (limits_at, dropped_at, place_at) = os.fsencode(path), map(ctypes.addressof, (limits, dropped, place))
+            code = loaded.kv_shared_open_file(
+                self._at, file, len(file), text, len(text), limits_at, every, dropped_at, place_at
+            )
+            check(code, place.value)
+        self.dropped = dropped.value
+
+    def close(self) -> None:
+        """Frees what is held. What is closed stays so. A file ends cleanly, with all on the disk: `FileFault` where it does not."""
+        check(self._kv_close(self._at))
+
+    def __exit__(
+        self, kind: Optional[Type[BaseException]], error: Optional[BaseException], trace: Optional[TracebackType]
+    ) -> None:
+        code = self._kv_close(self._at)
+        if error is None:
+            check(code)
+
+    def __del__(self) -> None:
+        if hasattr(self, "_kv_close"):
+            self._kv_close(self._at)
 
     def _write(self, function: Function, *arguments: Any) -> int:
         used = room()
@@ -85,6 +120,11 @@ class Bucket(Reads):
         """Gathers writes, and makes them in one step, or none of them: `with bucket.batch() as batch` makes them at the end of
         its block. A watch is handed them one by one, and no read sees some of them without the others."""
         return Batch(self)
+
+    def sync(self) -> None:
+        """Brings all that was accepted onto the disk. Where a call of the file fails, FileFault, and from then on each write and
+        each sync; reads and watches go on. Without a file there is nothing to bring."""
+        check(library().kv_shared_sync(self._at))
 
     def seal(self) -> None:
         """Ends the writes."""
@@ -136,5 +176,6 @@ class Bucket(Reads):
         check(library().kv_shared_finish(self._at))
 
     def close(self) -> None:
-        """Frees the bucket. Who follows comes to the end, and each later call is Closed. What is closed stays so."""
+        """Frees the bucket. Who follows comes to the end, and each later call is Closed. What is closed stays so. A file ends
+        cleanly, with all on the disk; where that fails nothing tells, and a `sync` before does."""
         super().close()

@@ -71,7 +71,10 @@ _READS: Dict[str, _Kinds] = {
 }
 _FUNCTIONS: Dict[str, _Kinds] = {
     "kv_shared_open": [_AT, *_BYTES, _AT],
+    "kv_shared_open_file": [_AT, *_BYTES, *_BYTES, _AT, _NUMBER, _AT, _AT],
+    "kv_shared_sync": [_AT],
     "kv_shared_finish": [_AT],
+    "kv_shared_close": [_AT],
     "kv_shared_put": [_AT, *_BYTES, *_BYTES, _AT],
     "kv_shared_create": [_AT, *_BYTES, *_BYTES, _AT],
     "kv_shared_update": [_AT, *_BYTES, *_BYTES, _NUMBER, _AT],
@@ -103,7 +106,7 @@ _FUNCTIONS: Dict[str, _Kinds] = {
     **{"kv_shared_" + name: kinds for name, kinds in _READS.items()},
     **{"kv_view_" + name: kinds for name, kinds in _READS.items()},
 }
-_CLOSES = ("kv_shared_close", "kv_follower_close", "kv_view_close", "kv_feed_close", "kv_batch_close")
+_CLOSES = ("kv_follower_close", "kv_view_close", "kv_feed_close", "kv_batch_close")
 
 
 def _places() -> Iterator[str]:

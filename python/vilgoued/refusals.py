@@ -22,6 +22,9 @@ __all__ = [
     "BadFloor",
     "WatchBehind",
     "Lagged",
+    "FileFault",
+    "FileDamaged",
+    "FileBusy",
     "OtherBucket",
     "Closed",
     "TooLittleRoom",
@@ -197,11 +200,41 @@ class Lagged(KvError):
         return f"what follows lags behind a compaction, whose floor is {self.floor}: open a new watch, which begins with what there is"
 
 
+class FileFault(KvError):
+    """A call of the bucket's file has failed. Nothing more is written; reads and watches go on."""
+
+    code = 22
+    _text = "the bucket's file has failed, and it takes no more writes: open it again, which tells what is in it"
+
+
+class FileDamaged(KvError):
+    """The file has other bytes than were written, or is none of a bucket. They are good up to the place `at`."""
+
+    code = 23
+
+    def __init__(self, at: int = 0) -> None:
+        super().__init__(at)
+        self.at = at
+
+    def __str__(self) -> str:
+        return f"the file is damaged, or none of a bucket: its bytes are good up to place {self.at}; take it from a copy"
+
+
+class FileBusy(KvError):
+    """Another opening has the file, in this process or another."""
+
+    code = 24
+    _text = "another opening has the file, in this process or another: close that one first"
+
+
 class OtherBucket(KvError):
-    """The snapshot is of another bucket than the feed."""
+    """The snapshot is of another bucket than the feed, or the file than the one that is opened."""
 
     code = 25
-    _text = "the snapshot is of another bucket than the feed: take one of the bucket that the feed began with"
+    _text = (
+        "the snapshot is of another bucket than the feed: take one of the bucket that the feed began with; "
+        "or the file is of a bucket with another name, history or limits: open it with those that it was made with"
+    )
 
 
 class Closed(KvError):
@@ -252,8 +285,8 @@ _CLASSES: Dict[int, Type[KvError]] = {
 
 
 def refusal(code: int, number: int, at: Optional[int] = None) -> KvError:
-    """The refusal of this code; the three that tell a number have this one. One of a batch has the place of its write."""
-    told = _CLASSES[code](number) if code in (11, 20, 21) else _CLASSES[code]()
+    """The refusal of this code; the four that tell a number have this one. One of a batch has the place of its write."""
+    told = _CLASSES[code](number) if code in (11, 20, 21, 23) else _CLASSES[code]()
     if at is not None:
         told.at = at
     return told

@@ -1,8 +1,9 @@
 //! A bucket.
 use crate::sys::{self, Shared};
-use crate::{BatchRefused, Entry, Error, Follower, Limits, Options, Reader, Snapshot, Status, Watch, Write};
+use crate::{BatchRefused, Durability, Entry, Error, Follower, Limits, Options, Reader, Snapshot, Status, Watch, Write};
 use std::fmt;
 use std::ops::Range;
+use std::path::Path;
 use std::sync::Arc;
 
 /// A bucket, which any number of threads use at once. It is freed where it is dropped or closed.
@@ -28,6 +29,35 @@ impl Bucket {
     /// Opens a bucket of this name with no writes. BadBucket, BadConfig.
     pub fn open(name: &str, limits: Limits) -> Result<Bucket, Error> {
         Ok(Bucket { shared: Shared::open(name, &limits)? })
+    }
+
+    /// Opens a bucket that outlives the process, by a file: what it had accepted is there again, but its watches. Where there is no
+    /// file it is made. Answers too how many bytes of a torn end were cut off, which a crash had left. FileBusy, FileDamaged,
+    /// OtherBucket, FileFault.
+    ///
+    /// ```
+    /// # use vilgoued::{Bucket, Durability, Error, Limits};
+    /// # let folder = std::env::temp_dir().join(format!("vilgoued-{}", std::process::id()));
+    /// # std::fs::create_dir_all(&folder).unwrap();
+    /// let path = folder.join("settings.kv");
+    /// let (bucket, _) = Bucket::open_file(&path, "settings", Limits::default(), Durability::Each)?;
+    /// bucket.put("app.port", "80")?;
+    /// drop(bucket);
+    /// let (bucket, dropped) = Bucket::open_file(&path, "settings", Limits::default(), Durability::Each)?;
+    /// assert_eq!(bucket.get("app.port")?.unwrap().value(), Some(&b"80"[..]));
+    /// assert_eq!(dropped, 0);
+    /// # std::fs::remove_dir_all(&folder).unwrap();
+    /// # Ok::<(), Error>(())
+    /// ```
+    pub fn open_file(path: impl AsRef<Path>, name: &str, limits: Limits, durability: Durability) -> Result<(Bucket, u64), Error> {
+        let (shared, dropped) = Shared::open_file(path.as_ref(), name, &limits, durability.number())?;
+        Ok((Bucket { shared }, dropped))
+    }
+
+    /// Brings all that was accepted onto the disk; without a file there is nothing to bring. FileFault, and from then on each write
+    /// and each sync: reads and watches go on.
+    pub fn sync(&self) -> Result<(), Error> {
+        self.shared.sync()
     }
 
     /// Gives the key the value, and answers the revision of the write. BadKey, ValueTooLarge, Sealed, JournalFull.

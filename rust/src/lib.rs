@@ -46,7 +46,7 @@ pub use batch::{BatchRefused, Write};
 pub use bucket::Bucket;
 pub use entry::{Entry, Item, Op, Status};
 pub use follower::{Follower, Stopper};
-pub use options::{Limits, Options, Start};
+pub use options::{Durability, Limits, Options, Start};
 pub use reads::{Reader, Snapshot};
 pub use refusals::Error;
 pub use watch::Watch;

@@ -32,6 +32,29 @@ impl Limits {
     }
 }
 
+/// When what a bucket with a file accepts is on the disk.
+#[derive(Clone, Copy, Debug, PartialEq, Eq, Default)]
+pub enum Durability {
+    /// When its call answers.
+    #[default]
+    Each,
+    /// When the call of each so many answers; a number of 0 is 1.
+    Every(u64),
+    /// Once [`Bucket::sync`](crate::Bucket::sync) is called, or the bucket is closed.
+    Asked,
+}
+
+impl Durability {
+    /// The library's number of it.
+    pub(crate) fn number(self) -> u64 {
+        match self {
+            Durability::Each => 1,
+            Durability::Every(writes) => writes.max(1),
+            Durability::Asked => 0,
+        }
+    }
+}
+
 /// What a watch begins with.
 #[derive(Clone, Copy, Debug, PartialEq, Eq, Default)]
 pub enum Start {

@@ -47,6 +47,17 @@ pub enum Error {
         /// The floor of that compaction.
         floor: u64,
     },
+    /// A call of the bucket's file has failed: nothing more is written, and reads go on.
+    FileFault,
+    /// The file has other bytes than were written, or is none of a bucket.
+    FileDamaged {
+        /// The place up to which its bytes are good.
+        at: u64,
+    },
+    /// Another opening has the file, in this process or another.
+    FileBusy,
+    /// The file is that of a bucket with another name or other limits.
+    OtherBucket,
     /// The bucket or the follower is closed, or the bucket was finished and all was handed out.
     Closed,
     /// The system gives no descriptor to wait on.
@@ -59,7 +70,7 @@ pub enum Error {
 }
 
 impl Error {
-    /// The refusal of a code of the library; three tell a number.
+    /// The refusal of a code of the library; four tell a number.
     #[cold]
     pub(crate) fn of(code: u64, number: u64) -> Error {
         match code {
@@ -79,6 +90,10 @@ impl Error {
             19 => Error::BadFloor,
             20 => Error::WatchBehind { watch: number },
             21 => Error::Lagged { floor: number },
+            22 => Error::FileFault,
+            23 => Error::FileDamaged { at: number },
+            24 => Error::FileBusy,
+            25 => Error::OtherBucket,
             32 => Error::Closed,
             64 => Error::NoDescriptor,
             code => Error::Unknown { code },
@@ -104,6 +119,10 @@ impl Error {
             Error::BadFloor => 19,
             Error::WatchBehind { .. } => 20,
             Error::Lagged { .. } => 21,
+            Error::FileFault => 22,
+            Error::FileDamaged { .. } => 23,
+            Error::FileBusy => 24,
+            Error::OtherBucket => 25,
             Error::Closed => 32,
             Error::NoDescriptor => 64,
             Error::Unknown { code } => code,
@@ -132,6 +151,12 @@ impl fmt::Display for Error {
                 write!(to, "the watch {watch} has still to be handed an entry at or below the floor")
             }
             Error::Lagged { floor } => write!(to, "what follows lags behind a compaction, whose floor is {floor}"),
+            Error::FileFault => to.write_str("the bucket's file has failed, and it takes no more writes"),
+            Error::FileDamaged { at } => {
+                write!(to, "the file is damaged, or none of a bucket: its bytes are good up to place {at}")
+            }
+            Error::FileBusy => to.write_str("another opening has the file"),
+            Error::OtherBucket => to.write_str("the file is of a bucket with another name or other limits"),
             Error::Closed => to.write_str("it is closed"),
             Error::NoDescriptor => to.write_str("the system gives no descriptor: too many files are open"),
             Error::Unknown { code } => write!(to, "the library refused it by the code {code}, which this package does not know"),

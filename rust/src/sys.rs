@@ -9,7 +9,9 @@ use std::marker::PhantomData;
 use std::mem::MaybeUninit;
 use std::ops::Range;
 use std::os::raw::{c_int, c_void};
+use std::os::unix::ffi::OsStrExt;
 use std::os::unix::io::{BorrowedFd, RawFd};
+use std::path::Path;
 use std::ptr;
 use std::slice;
 use std::sync::{Arc, Mutex, MutexGuard};
@@ -128,8 +130,20 @@ mod c {
 
     extern "C" {
         pub fn kv_shared_open(at: *mut Shared, name: *const u8, name_size: usize, limits: *const Limits) -> u64;
+        pub fn kv_shared_open_file(
+            at: *mut Shared,
+            path: *const u8,
+            path_size: usize,
+            name: *const u8,
+            name_size: usize,
+            limits: *const Limits,
+            sync: u64,
+            dropped: *mut u64,
+            place: *mut u64,
+        ) -> u64;
+        pub fn kv_shared_sync(at: *mut Shared) -> u64;
         pub fn kv_shared_finish(at: *mut Shared) -> u64;
-        pub fn kv_shared_close(at: *mut Shared);
+        pub fn kv_shared_close(at: *mut Shared) -> u64;
         pub fn kv_shared_put(
             at: *mut Shared,
             key: *const u8,
@@ -414,14 +428,48 @@ unsafe impl Send for Shared {}
 // SAFETY: as above.
 unsafe impl Sync for Shared {}
 
+fn limits_of(limits: &Limits) -> c::Limits {
+    let Limits { history, value_limit, write_limit, revision_limit } = *limits;
+    c::Limits { history, value_limit, write_limit, revision_limit }
+}
+
 impl Shared {
+    fn closed() -> Arc<Shared> {
+        Arc::new(Shared(UnsafeCell::new(c::Shared { state: 0, at: ptr::null_mut() })))
+    }
+
     pub fn open(name: &str, limits: &Limits) -> Result<Arc<Shared>, Error> {
-        let Limits { history, value_limit, write_limit, revision_limit } = *limits;
-        let limits = c::Limits { history, value_limit, write_limit, revision_limit };
-        let shared = Arc::new(Shared(UnsafeCell::new(c::Shared { state: 0, at: ptr::null_mut() })));
+        let (shared, limits) = (Shared::closed(), limits_of(limits));
         // SAFETY: the handle is closed, in its place, and nobody else has it yet; the others are borrows that last for the call.
         check(unsafe { c::kv_shared_open(shared.at(), name.as_ptr(), name.len(), &limits) }, 0)?;
         Ok(shared)
+    }
+
+    /// The bucket of a file, and how many bytes of it were dropped.
+    pub fn open_file(path: &Path, name: &str, limits: &Limits, sync: u64) -> Result<(Arc<Shared>, u64), Error> {
+        let (shared, limits, path) = (Shared::closed(), limits_of(limits), path.as_os_str().as_bytes());
+        let (mut dropped, mut place) = (0, 0);
+        // SAFETY: as in `open`, and the numbers are ours.
+        let code = unsafe {
+            c::kv_shared_open_file(
+                shared.at(),
+                path.as_ptr(),
+                path.len(),
+                name.as_ptr(),
+                name.len(),
+                &limits,
+                sync,
+                &mut dropped,
+                &mut place,
+            )
+        };
+        check(code, place)?;
+        Ok((shared, dropped))
+    }
+
+    pub fn sync(&self) -> Result<(), Error> {
+        // SAFETY: the handle may be used by any thread.
+        check(unsafe { c::kv_shared_sync(self.at()) }, 0).map(drop)
     }
 
     #[inline]
@@ -514,7 +562,7 @@ impl Shared {
 
     pub fn close(&self) {
         // SAFETY: the handle may be closed by any thread, also while others use it, and more than once; its memory stays.
-        unsafe { c::kv_shared_close(self.at()) }
+        unsafe { c::kv_shared_close(self.at()) };
     }
 
     pub fn watch(&self, filters: &str, options: &Options) -> Result<u64, Error> {

@@ -15,9 +15,15 @@ SHARED = ["-L" + libraries, "-lvilgoued", "-Wl,-rpath," + libraries]
 # The shell, without the one file that is no part of a program: it gives each opening a number of its own.
 SHELL = [os.path.join(top, "c", name) for name in ("shared.c", "watcher.c")]
 OPENING = os.path.join(top, "c", "opening.c")
+# That of files calls what is proved by names that the shared library has for itself.
+FILES = os.path.join(top, "c", "files.c")
 STRICT = ["-pedantic", "-Wall", "-Wextra", "-Werror"]
 CHECKED = ["-g", "-fsanitize=address,undefined", "-fno-sanitize-recover=all"]
-WRAPPED = ["-Wl,--wrap=malloc", "-Wl,--wrap=realloc"]
+# The calls of the system that a program has for itself.
+WRAPPED = {
+    "sweep": ("malloc", "realloc"), "shared_sweep": ("malloc", "realloc"), "files": ("flock",),
+    "failing": ("open", "flock", "fstat", "stat", "pread", "pwrite", "ftruncate", "fsync", "fdatasync", "getentropy"),
+}
 
 
 def ran(*command: str, **more: str) -> str:
@@ -40,7 +46,7 @@ class ProgramTest(unittest.TestCase):
     def built(self, name: str, *flags: str, beside: Sequence[str] = STATIC) -> str:
         """Makes a program of this folder beside a library, the static one where none is named."""
         program = os.path.join(self.folder, name)
-        wrapped = WRAPPED if name.endswith("sweep") else []
+        wrapped = ["-Wl,--wrap=" + call for call in WRAPPED.get(name, ())]
         ran(C, "-Wall", "-Wextra", "-Werror", "-I" + INCLUDE, os.path.join(here, name + ".c"), *flags, *wrapped,
             *beside, "-o", program, "-pthread")
         return program

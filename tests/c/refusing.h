@@ -40,6 +40,7 @@ void *__wrap_realloc(void *block, size_t size) {
 static inline void sweep(void (*session)(void)) {
     long total, refused = 0;
     left = -1;
+    asked = 0;
     session();
     total = asked;
     for (long k = 0; k < total; k++) {

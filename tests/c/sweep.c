@@ -2,6 +2,7 @@
  * KV_OUT_OF_MEMORY, and made again it succeeds; all results are the same. To be linked with --wrap=malloc,realloc. */
 #include "vilgoued.h"
 #include "refusing.h"
+#include <unistd.h>
 
 static void session(void) {
     static const kv_limits limits = {3, 1048576, 1000000, 4294967295};
@@ -102,8 +103,49 @@ static void overwrite(void) {
     kv_close(&b);
 }
 
-int main(void) {
+static uint64_t dropped, at;
+
+static uint64_t open_file(kv_bucket *b) {
+    static const kv_limits limits = {3, 1048576, 1000000, 4294967295};
+    return kv_open_file(b, B("sweep.kv"), B("settings"), &limits, KV_SYNC_ASKED, &dropped, &at);
+}
+
+/* A refused opening has not touched the file: its torn end is told by the one that succeeds. What a refused write would have
+ * written is not in it. */
+static void session_with_file(void) {
+    kv_bucket b = {0};
+    kv_batch batch = {0};
+    uint64_t revision;
+    uint8_t value[64];
+    size_t size, place;
+    FILE *file;
+    unlink("sweep.kv");
+    TRY(open_file(&b));
+    WANT(dropped == 0);
+    for (uint64_t i = 1; i <= 10; i++) {
+        TRY(kv_put(&b, B("app.port"), B("a value of more than 24 bytes"), &revision));
+        WANT(revision == i);
+    }
+    TRY(kv_batch_delete(&batch, B("app.port"), true, 10));
+    TRY(kv_batch_put(&batch, B("app.host"), B("localhost")));
+    TRY(kv_batch_write(&b, &batch, &revision, &place));
+    TRY(kv_compact(&b, 11, &revision));
+    TRY(kv_sync(&b));
+    kv_close(&b);
+    file = fopen("sweep.kv", "ab");
+    WANT(file && fputs("torn", file) != EOF && fclose(file) == 0);
+    TRY(open_file(&b));
+    WANT(dropped == 4);
+    TRY(kv_get(&b, B("app.host"), value, sizeof value, &size, &revision));
+    WANT(size == 9 && revision == 12);
+    TRY(kv_seal(&b));
+    kv_close(&b);
+}
+
+int main(int count, char **words) {
+    WANT(count < 2 || chdir(words[1]) == 0);
     sweep(session);
+    sweep(session_with_file);
     overwrite();
     return 0;
 }

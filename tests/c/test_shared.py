@@ -3,7 +3,7 @@ readers and followers at once; sleeping, waking and closing; each request for me
 valgrind where they are installed. What calls take is printed."""
 import os, shutil, unittest
 
-from tests.c.compiling import C, CHECKED, CXX, INCLUDE, OPENING, SHARED, SHELL, STATIC, STRICT, ProgramTest, here, ran
+from tests.c.compiling import C, CHECKED, CXX, FILES, INCLUDE, OPENING, SHARED, SHELL, STATIC, STRICT, ProgramTest, here, ran
 from tests.pages.examples import blocks, lines_of
 
 # What is proved is not built with the sanitizer of threads: that sees the handles which each call uses, and in the shared library
@@ -22,7 +22,7 @@ def words(name: str, looking_on: str) -> list[str]:
 class Shell(ProgramTest):
     def test_compilers_have_nothing_to_say(self) -> None:
         for compiler in filter(shutil.which, sorted({C, "gcc", "clang"})):
-            for source in (*SHELL, OPENING):
+            for source in (*SHELL, OPENING, FILES):
                 with self.subTest(compiler, source=source):
                     ran(compiler, "-std=c11", "-O2", "-pthread", *STRICT, "-I" + INCLUDE, "-c", source, "-o", os.path.join(self.folder, "it.o"))
 

@@ -7,6 +7,8 @@
 #define TOUCHED(handle) (*(volatile bool *)&(handle)->is_open = (handle)->is_open, (handle))
 
 #define kv_open(b, ...) kv_open(TOUCHED(b), __VA_ARGS__)
+#define kv_open_file(b, ...) kv_open_file(TOUCHED(b), __VA_ARGS__)
+#define kv_sync(b) kv_sync(TOUCHED(b))
 #define kv_close(b) kv_close(TOUCHED(b))
 #define kv_put(b, ...) kv_put(TOUCHED(b), __VA_ARGS__)
 #define kv_create(b, ...) kv_create(TOUCHED(b), __VA_ARGS__)

@@ -475,11 +475,13 @@ static void names(void) {
     WANT(named(KV_NO_SUCH_WATCH, "NoSuchWatch") && named(KV_TOO_MANY_WATCHES, "TooManyWatches") && named(15, "NoReader"));
     WANT(named(16, "BadCommand") && named(17, "ReadFault") && named(18, "WriteFault") && named(KV_BAD_FLOOR, "BadFloor"));
     WANT(named(KV_WATCH_BEHIND, "WatchBehind") && named(KV_LAGGED, "Lagged") && named(KV_CLOSED, "Closed"));
+    WANT(named(KV_FILE_FAULT, "FileFault") && named(KV_FILE_DAMAGED, "FileDamaged"));
+    WANT(named(KV_FILE_BUSY, "FileBusy") && named(KV_OTHER_BUCKET, "OtherBucket"));
     WANT(named(KV_TOO_LITTLE_ROOM, "TooLittleRoom") && named(KV_OPEN_ALREADY, "OpenAlready"));
     WANT(named(KV_NO_SUCH_START, "NoSuchStart") && named(KV_OLDER_VIEW, "OlderView") && named(KV_NO_SUCH_CODE, "NoSuchCode"));
     WANT(kv_code_name(KV_BAD_KEY, value, 5, &size) == KV_TOO_LITTLE_ROOM && size == 6);
     WANT(kv_code_name(KV_OK, value, sizeof value, &size) == KV_NO_SUCH_CODE);
-    WANT(kv_code_name(22, value, sizeof value, &size) == KV_NO_SUCH_CODE);
+    WANT(kv_code_name(26, value, sizeof value, &size) == KV_NO_SUCH_CODE);
     WANT(kv_code_name(UINT64_MAX, value, sizeof value, &size) == KV_NO_SUCH_CODE);
 }
 
@@ -556,7 +558,7 @@ static void reads_are_refused(kv_bucket *b, kv_view *view) {
     WANT(REFUSED(kv_view_get_at(view, B("a"), 9, value, sizeof value, &told.size, &told.number), KV_KEY_NOT_FOUND));
     WANT(REFUSED(kv_view_history(view, B("n o"), 0, value, sizeof value, &item, &told.count), KV_BAD_KEY));
     WANT(REFUSED(kv_view_keys(view, B("n o"), value, sizeof value, &told.size, &told.count), KV_BAD_FILTER));
-    WANT(REFUSED(kv_code_name(22, value, sizeof value, &told.size), KV_NO_SUCH_CODE));
+    WANT(REFUSED(kv_code_name(26, value, sizeof value, &told.size), KV_NO_SUCH_CODE));
 }
 
 static void writes_are_refused(kv_bucket *b) {

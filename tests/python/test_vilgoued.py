@@ -293,7 +293,7 @@ class Refusals(unittest.TestCase):
 
         for code, refusal in vilgoued.refusals._CLASSES.items():
             self.assertEqual(name_of(code), 37 if refusal is vilgoued.NoDescriptor else refusal.__name__)
-        self.assertEqual([name_of(code) for code in (0, 22, 31, 38, (1 << 64) - 1)], [37] * 5)
+        self.assertEqual([name_of(code) for code in (0, 26, 31, 38, (1 << 64) - 1)], [37] * 5)
 
     def test_they_say_what_is_wrong(self) -> None:
         with fresh_bucket() as bucket:

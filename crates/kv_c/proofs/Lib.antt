@@ -6,5 +6,8 @@ pub mod Feeding
 pub mod Named
 pub mod Refused
 pub mod Refusing
+pub mod Reopened
+pub mod Settled
 pub mod Taken
+pub mod Waited
 pub mod Whoever

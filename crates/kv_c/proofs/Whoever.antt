@@ -3,9 +3,10 @@ use Rattle.std.proofs.Common.{◌≡◌, ℕ, ◌+◌, List, [], ◌∷◌, ◌+
 use Rattle.std.specs.List.{slice_get}
 use Rattle.std.proofs.lemmas.List.{map-append}
 use Rattle.kv_c.specs.Calling.{StandsAt}
-use Rattle.kv_c.specs.Rows.{AreDone, Does, Done, exchanges_of, told, written, step, batch}
+use Rattle.kv_c.specs.Rows.{AreDone, Does, Done, exchanges_of, told, written, step, batch, failed}
 use Rattle.kv_c.specs.declared.content.Content.{Content}
-use Rattle.kv_c.specs.declared.content.Content.TheVariants.{Bucket, View, Feed, Batch}
+use Rattle.kv_c.specs.declared.filed.Filed.{Filed}
+use Rattle.kv_c.specs.declared.content.Content.TheVariants.{Bucket, View, Feed, Batch, Made}
 use Rattle.kv_model.specs.Acts.{Wrote, Write, writes_of}
 use Rattle.kv_model.specs.Answers.{Answer, Revision}
 use Rattle.kv_model.specs.Batches.{accept_all, first_revision}
@@ -56,36 +57,48 @@ from_first s (r ∷ rs) ws first h at =
 
 -- ---- one call
 
-batch_ran : (requests : List Request) (first : ℕ) (old : Bucketed) (m : ℕ) (next : Option Content) (state : State) → Does (batch requests first) (Some (Bucket old m)) next → Represents state old → Ran state (written requests first) next
-batch_ran requests first old m None state does r = absurd does
-batch_ran requests first old m (Some (View v o)) state does r = absurd does
-batch_ran requests first old m (Some (Feed f o)) state does r = absurd does
-batch_ran requests first old m (Some (Batch whats)) state does r = absurd does
-batch_ran requests first old m (Some (Bucket new n)) state does r =
+batch_ran : (requests : List Request) (first : ℕ) (old : Bucketed) (f : Option Filed) (m : ℕ) (next : Option Content) (state : State) → Does (batch requests first) (Some (Bucket old f m)) next → Represents state old → Ran state (written requests first) next
+batch_ran requests first old f m None state does r = absurd does
+batch_ran requests first old f m (Some (View v o)) state does r = absurd does
+batch_ran requests first old f m (Some (Feed w o)) state does r = absurd does
+batch_ran requests first old f m (Some (Batch whats)) state does r = absurd does
+batch_ran requests first old f m (Some (Made w n)) state does r = absurd does
+batch_ran requests first old f m (Some (Bucket new g n)) state does r =
     let made = does.1 state r in
     let are = calls_written requests first in (
       from_first state requests made.0 first made.1.0 made.1.1.0 ∙ ap (transcript state) (sym are),
       subst (λ (s : State). Represents s new) (sym (ap (run state) are ∙ batch_runs state requests made.0 made.1.0)) made.1.1.1,
     )
 
-step_ran : (exchange : Exchange) (old : Bucketed) (m : ℕ) (next : Option Content) (state : State) → Does (step exchange) (Some (Bucket old m)) next → Represents state old → Ran state (exchange ∷ []) next
-step_ran exchange old m None state does r = absurd does
-step_ran exchange old m (Some (View v o)) state does r = absurd does
-step_ran exchange old m (Some (Feed f o)) state does r = absurd does
-step_ran exchange old m (Some (Batch whats)) state does r = absurd does
-step_ran exchange old m (Some (Bucket new n)) state does r =
+step_ran : (exchange : Exchange) (old : Bucketed) (f : Option Filed) (m : ℕ) (next : Option Content) (state : State) → Does (step exchange) (Some (Bucket old f m)) next → Represents state old → Ran state (exchange ∷ []) next
+step_ran exchange old f m None state does r = absurd does
+step_ran exchange old f m (Some (View v o)) state does r = absurd does
+step_ran exchange old f m (Some (Feed w o)) state does r = absurd does
+step_ran exchange old f m (Some (Batch whats)) state does r = absurd does
+step_ran exchange old f m (Some (Made w n)) state does r = absurd does
+step_ran exchange old f m (Some (Bucket new g n)) state does r =
     let one = does.1 state r in (ap (λ (a : Answer). record { call = exchange.call; answer = a } ∷ []) one.0, one.1)
 
-in_bucket : (done : Done) (old : Bucketed) (m : ℕ) (next : Option Content) (state : State) → Does done (Some (Bucket old m)) next → Represents state old → Ran state (exchanges_of done) next
-in_bucket (step exchange) old m next state does r = step_ran exchange old m next state does r
-in_bucket (batch requests first) old m next state does r = batch_ran requests first old m next state does r
+failed_ran : (old : Bucketed) (f : Option Filed) (m : ℕ) (next : Option Content) (state : State) → Does failed (Some (Bucket old f m)) next → Represents state old → Ran state [] next
+failed_ran old f m None state does r = absurd does
+failed_ran old f m (Some (View v o)) state does r = absurd does
+failed_ran old f m (Some (Feed w o)) state does r = absurd does
+failed_ran old f m (Some (Batch whats)) state does r = absurd does
+failed_ran old f m (Some (Made w n)) state does r = absurd does
+failed_ran old f m (Some (Bucket new g n)) state does r = (refl, subst (Represents state) (sym does.1) r)
+
+in_bucket : (done : Done) (old : Bucketed) (f : Option Filed) (m : ℕ) (next : Option Content) (state : State) → Does done (Some (Bucket old f m)) next → Represents state old → Ran state (exchanges_of done) next
+in_bucket (step exchange) old f m next state does r = step_ran exchange old f m next state does r
+in_bucket (batch requests first) old f m next state does r = batch_ran requests first old f m next state does r
+in_bucket failed old f m next state does r = failed_ran old f m next state does r
 
 one_ran : (done : Done) (old next : Option Content) (state : State) → Does done old next → StandsAt state old → Ran state (exchanges_of done) next
 one_ran done None next state does stands = absurd stands
 one_ran done (Some (View v o)) next state does stands = absurd stands
 one_ran done (Some (Feed f o)) next state does stands = absurd stands
 one_ran done (Some (Batch whats)) next state does stands = absurd stands
-one_ran done (Some (Bucket old m)) next state does stands = in_bucket done old m next state does stands
+one_ran done (Some (Made w n)) next state does stands = absurd stands
+one_ran done (Some (Bucket old f m)) next state does stands = in_bucket done old f m next state does stands
 
 -- ---- calls in a row
 
@@ -120,6 +133,7 @@ calls_tell_held None new done state number watch are stands is_open = absurd sta
 calls_tell_held (Some (View v o)) new done state number watch are stands is_open = absurd stands
 calls_tell_held (Some (Feed f o)) new done state number watch are stands is_open = absurd stands
 calls_tell_held (Some (Batch whats)) new done state number watch are stands is_open = absurd stands
-calls_tell_held (Some (Bucket old m)) new done state number watch are stands is_open =
-    subst (λ (es : List Exchange). Tells state es number watch) (sym (all_ran done (Some (Bucket old m)) new state are stands).0)
+calls_tell_held (Some (Made w n)) new done state number watch are stands is_open = absurd stands
+calls_tell_held (Some (Bucket old f m)) new done state number watch are stands is_open =
+    subst (λ (es : List Exchange). Tells state es number watch) (sym (all_ran done (Some (Bucket old f m)) new state are stands).0)
     (run_tells state old watch stands number (calls_of (told done)) is_open)

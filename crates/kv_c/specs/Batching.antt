@@ -2,7 +2,7 @@
 use Rattle.std.specs.Prelude.{◌≡◌, ℕ, List, [], ◌∷◌, ◌++◌, Option, Some, None, Result, Ok, Err, if◌then◌else◌, length, map, nat_lt}
 use Rattle.kv_c.specs.Codes.{with_key}
 use Rattle.kv_c.specs.declared.content.Content.{Content}
-use Rattle.kv_c.specs.declared.content.Content.TheVariants.{Bucket, View, Feed, Batch}
+use Rattle.kv_c.specs.declared.content.Content.TheVariants.{Bucket, View, Feed, Batch, Made}
 use Rattle.kv_keys.specs.Refusals.{code_of}
 use Rattle.kv_keys.specs.declared.error.KvError.{KvError}
 use Rattle.kv_keys.specs.declared.error.KvError.TheVariants.{ValueTooLarge, WrongLastRevision}
@@ -17,10 +17,11 @@ use Rattle.kv_single.specs.Held.{Bucketed}
 -- what is gathered in a handle: of a closed one nothing, and one on something else gathers nothing
 abbrev pub gathered : Option Content → Option (List Asked)
 gathered None = Some []
-gathered (Some (Bucket b opening)) = None
+gathered (Some (Bucket b file opening)) = None
 gathered (Some (View v opening)) = None
 gathered (Some (Feed f opening)) = None
 gathered (Some (Batch whats)) = Some whats
+gathered (Some (Made made opening)) = None
 
 -- a batch in which these are gathered
 abbrev pub batch_of : List Asked → Option Content
@@ -51,13 +52,13 @@ AreWrites old whats first new = (requests : List Request) × (map asked requests
 
 -- the same, of what two handles hold before, and that of the bucket after
 abbrev pub AcceptsAll : Option Content → Option Content → ℕ → Option Content → Type 0
-AcceptsAll (Some (Batch whats)) (Some (Bucket old m)) first (Some (Bucket new n)) = (n ≡ m) × AreWrites old whats first new
-AcceptsAll None (Some (Bucket old m)) first (Some (Bucket new n)) = (n ≡ m) × AreWrites old [] first new
+AcceptsAll (Some (Batch whats)) (Some (Bucket old f m)) first (Some (Bucket new g n)) = (n ≡ m) × AreWrites old whats first new
+AcceptsAll None (Some (Bucket old f m)) first (Some (Bucket new g n)) = (n ≡ m) × AreWrites old [] first new
 AcceptsAll batch old first new = ⊥
 
 -- these requests are accepted, the first at this revision, of what a handle holds before and after
 abbrev pub Batches : List Request → Option Content → ℕ → Option Content → Type 0
-Batches requests (Some (Bucket old m)) first (Some (Bucket new n)) = (n ≡ m) × IsBatch old requests first new
+Batches requests (Some (Bucket old f m)) first (Some (Bucket new g n)) = (n ≡ m) × IsBatch old requests first new
 Batches requests old first new = ⊥
 
 -- one of these is refused, that of this place, with this code; with 11 the key's last revision is told

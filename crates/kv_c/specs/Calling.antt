@@ -9,7 +9,9 @@ use Rattle.kv_c.specs.Handing.{IsEntry}
 use Rattle.kv_c.specs.Feeding.{Fed, HandsNext, HasHanded, IsRefreshed, Opens, lags, next_of}
 use Rattle.kv_single.specs.Held.{Bucketed, Represents}
 use Rattle.kv_c.specs.declared.content.Content.{Content}
-use Rattle.kv_c.specs.declared.content.Content.TheVariants.{Bucket, View, Feed, Batch}
+use Rattle.kv_c.specs.declared.content.Content.TheVariants.{Bucket, View, Feed, Batch, Made}
+use Rattle.kv_file.specs.declared.appender.Sync.{Sync}
+use Rattle.kv_file.specs.declared.appender.Sync.TheVariants as syncs
 use Rattle.kv_keys.specs.Grammar.{is_key, parts}
 use Rattle.kv_keys.specs.Matching.{any_matches}
 use Rattle.kv_keys.specs.declared.error.KvError.{KvError}
@@ -32,41 +34,46 @@ use Rattle.kv_model.specs.declared.options.Start.TheVariants.{Latest, History, U
 
 abbrev pub holds_bucket : Option Content → Bool
 holds_bucket None = false
-holds_bucket (Some (Bucket b opening)) = true
+holds_bucket (Some (Bucket b file opening)) = true
 holds_bucket (Some (View v opening)) = false
 holds_bucket (Some (Feed f opening)) = false
 holds_bucket (Some (Batch whats)) = false
+holds_bucket (Some (Made made opening)) = false
 
 abbrev pub holds_feed : Option Content → Bool
 holds_feed None = false
-holds_feed (Some (Bucket b opening)) = false
+holds_feed (Some (Bucket b file opening)) = false
 holds_feed (Some (View v opening)) = false
 holds_feed (Some (Feed f opening)) = true
 holds_feed (Some (Batch whats)) = false
+holds_feed (Some (Made made opening)) = false
 
 -- what is read through a handle: the version of a bucket, or a view
 abbrev pub version_in : Option Content → Option Stored
 version_in None = None
-version_in (Some (Bucket b opening)) = Some b.version
+version_in (Some (Bucket b file opening)) = Some b.version
 version_in (Some (View v opening)) = Some v
 version_in (Some (Feed f opening)) = None
 version_in (Some (Batch whats)) = None
+version_in (Some (Made made opening)) = None
 
 -- the number under which the bucket was opened that a handle holds, or has its view or feed from
 abbrev pub opening_of : Option Content → Option ℕ
 opening_of None = None
-opening_of (Some (Bucket b opening)) = Some opening
+opening_of (Some (Bucket b file opening)) = Some opening
 opening_of (Some (View v opening)) = Some opening
 opening_of (Some (Feed f opening)) = Some opening
 opening_of (Some (Batch whats)) = None
+opening_of (Some (Made made opening)) = Some opening
 
 -- a handle is open, on a bucket that represents the state
 abbrev pub StandsAt : State → Option Content → Type 0
 StandsAt state None = ⊥
-StandsAt state (Some (Bucket b opening)) = Represents state b
+StandsAt state (Some (Bucket b file opening)) = Represents state b
 StandsAt state (Some (View v opening)) = ⊥
 StandsAt state (Some (Feed f opening)) = ⊥
 StandsAt state (Some (Batch whats)) = ⊥
+StandsAt state (Some (Made made opening)) = ⊥
 
 -- a version stands for these acts under this configuration
 abbrev pub Reads : Configuration → List Act → Option Stored → Type 0
@@ -84,13 +91,18 @@ IsWrite old what revision new = (request : Request) × (asked request ≡ what) 
 
 -- the same, of what a handle holds before and after
 abbrev pub Accepts : Asked → Option Content → ℕ → Option Content → Type 0
-Accepts what (Some (Bucket old m)) revision (Some (Bucket new n)) = (n ≡ m) × IsWrite old what revision new
+Accepts what (Some (Bucket old f m)) revision (Some (Bucket new g n)) = (n ≡ m) × IsWrite old what revision new
 Accepts what old revision new = ⊥
 
 -- the buckets that a handle holds before and after are one step of the model apart
 abbrev pub Steps : Call → Answer → Option Content → Option Content → Type 0
-Steps call answer (Some (Bucket old m)) (Some (Bucket new n)) = (n ≡ m) × IsStep old call answer new
+Steps call answer (Some (Bucket old f m)) (Some (Bucket new g n)) = (n ≡ m) × IsStep old call answer new
 Steps call answer old new = ⊥
+
+-- the bucket that a handle holds is as it was
+abbrev pub StaysAs : Option Content → Option Content → Type 0
+StaysAs (Some (Bucket old f m)) (Some (Bucket new g n)) = (n ≡ m) × (new ≡ old)
+StaysAs old new = ⊥
 
 -- the highest floor for which a compaction is not refused, 0 where there is none
 abbrev pub IsReach : State → ℕ → Type 0
@@ -135,18 +147,20 @@ Hands old item keys values new = ⊥
 -- a handle is open, on a feed that has handed out n items
 abbrev pub FeedsBy : List Act → List Act → ℕ → Option Content → Type 0
 FeedsBy began acts n None = ⊥
-FeedsBy began acts n (Some (Bucket b opening)) = ⊥
+FeedsBy began acts n (Some (Bucket b file opening)) = ⊥
 FeedsBy began acts n (Some (View v opening)) = ⊥
 FeedsBy began acts n (Some (Feed f opening)) = HasHanded began acts n f
 FeedsBy began acts n (Some (Batch whats)) = ⊥
+FeedsBy began acts n (Some (Made made opening)) = ⊥
 
 -- and this is the item that comes next
 abbrev pub comes_next : List Act → List Act → ℕ → Option Content → Option Given
 comes_next began acts n None = None
-comes_next began acts n (Some (Bucket b opening)) = None
+comes_next began acts n (Some (Bucket b file opening)) = None
 comes_next began acts n (Some (View v opening)) = None
 comes_next began acts n (Some (Feed f opening)) = next_of began acts n f
 comes_next began acts n (Some (Batch whats)) = None
+comes_next began acts n (Some (Made made opening)) = None
 
 -- a request as it was read, or why there is none
 abbrev pub IsAsked : Asked → Result Request KvError → Type 0
@@ -189,6 +203,11 @@ configured name limits = record {
   write_limit = limits.write_limit;
   revision_limit = limits.revision_limit;
 }
+
+-- when what is accepted is brought onto the disk, as C asks for it: 0 where `kv_sync` is called, 1 each time, else every so
+-- many times
+abbrev pub sync_asked : ℕ → Sync
+sync_asked n = if n == 0 then syncs.Asked else (if n == 1 then syncs.Each else syncs.Every n)
 
 -- the revision that a delete or a purge is to find, if C gives one
 abbrev pub if_given : Bool → ℕ → Option ℕ

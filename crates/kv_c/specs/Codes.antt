@@ -1,7 +1,9 @@
 -- The number that a call answers: 0, or that of its refusal.
-use Rattle.std.specs.Prelude.{◌≡◌, ℕ, Bool, true, ◌&&◌, ◌==◌, List, Option, Some, None, Result, Ok, Err, [], ◌∷◌, ◌++◌, codes, length, nat_le, nat_lt, slice_get, take, if◌then◌else◌}
+use Rattle.std.specs.Prelude.{◌≡◌, ◌⊎◌, ⊤, ◌≤◌, ℕ, Bool, true, ◌&&◌, ◌==◌, List, Option, Some, None, Result, Ok, Err, [], ◌∷◌, ◌++◌, codes, length, nat_le, nat_lt, slice_get, take, if◌then◌else◌}
 use Rattle.std.specs.List.{flat_map}
 use Rattle.std.specs.Option.{ok_or}
+use Rattle.kv_durable.specs.declared.error.DurableError.{DurableError}
+use Rattle.kv_durable.specs.declared.error.DurableError.TheVariants as durables
 use Rattle.kv_keys.specs.Grammar.{is_key, are_filters, parts}
 use Rattle.kv_keys.specs.Refusals.{code_of}
 use Rattle.kv_keys.specs.declared.error.KvError.{KvError}
@@ -21,7 +23,10 @@ code_by {X} code (Err e) = code_of e
 -- the names of C's own codes
 abbrev pub own_name : ℕ → Option (List ℕ)
 own_name code =
-    if code == 25 then Some (codes "OtherBucket")
+    if code == 22 then Some (codes "FileFault")
+    else if code == 23 then Some (codes "FileDamaged")
+    else if code == 24 then Some (codes "FileBusy")
+    else if code == 25 then Some (codes "OtherBucket")
     else if code == 32 then Some (codes "Closed")
     else if code == 33 then Some (codes "TooLittleRoom")
     else if code == 34 then Some (codes "OpenAlready")
@@ -64,6 +69,22 @@ with_filters {X} text outcome = if are_filters (parts text) then outcome else Er
 -- the outcome of a write that is asked for
 unfoldable pub outcome : Asked → State → Result Write KvError
 outcome what state = with_key (key_of what) (accept state.config what state.acts)
+
+-- that of a write to a bucket whose file has failed
+abbrev pub stopped_code : Asked → ℕ
+stopped_code what = if is_key (key_of what) then 22 else 4
+
+-- it is a refusal by the file, and not by the rules or for want of memory
+abbrev pub IsOfFile : DurableError → Type 0
+IsOfFile (durables.Refused e) = ⊥
+IsOfFile durables.HasCheckpoint = ⊥
+IsOfFile e = ⊤
+
+-- that of the opening of a file under a configuration: of its refusal, where it is refused; else that it waits for the shell, or
+-- one of those of files
+abbrev pub IsOpeningCode : {X : Type 0} → ℕ → Result X KvError → Type 0
+IsOpeningCode {X} code (Err e) = code ≡ code_of e
+IsOpeningCode {X} code (Ok x) = (code ≡ 38) ⊎ ((22 ≤ code) × (code ≤ 25))
 
 -- that of a read of the value of a key, where this is found
 abbrev pub read_code : List ℕ → List ℕ → Option Write → ℕ

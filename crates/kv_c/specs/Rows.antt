@@ -1,18 +1,19 @@
 -- Calls of C in a row, and what each of them tells.
 use Rattle.std.specs.Prelude.{◌≡◌, ℕ, ◌+◌, List, [], ◌∷◌, ◌++◌, Option}
 use Rattle.kv_c.specs.Batching.{Batches}
-use Rattle.kv_c.specs.Calling.{Steps}
+use Rattle.kv_c.specs.Calling.{StaysAs, Steps}
 use Rattle.kv_c.specs.declared.content.Content.{Content}
 use Rattle.kv_model.specs.Answers.{Revision}
 use Rattle.kv_model.specs.Runs.{Exchange}
 use Rattle.kv_model.specs.declared.call.Call.TheVariants as calls
 use Rattle.kv_model.specs.declared.request.Request.{Request}
 
--- what a call did that answered 0: one step of the model, with its answer; or a batch of these requests, of which the
--- first got this revision
+-- what a call did: where it answered 0 one step of the model, with its answer, or a batch of these requests, of which the
+-- first got this revision; where it was given up none, as the bucket's file has failed
 pub data Done : Type 0 where
   step : (exchange : Exchange) → Done
   batch : (requests : List Request) → (first : ℕ) → Done
+  failed : Done
 
 -- a batch is a call for each of its requests, and their revisions go on from the first
 abbrev pub written : List Request → ℕ → List Exchange
@@ -23,6 +24,7 @@ written (request ∷ requests) first =
 abbrev pub exchanges_of : Done → List Exchange
 exchanges_of (step exchange) = exchange ∷ []
 exchanges_of (batch requests first) = written requests first
+exchanges_of failed = []
 
 -- the exchanges of calls in a row
 abbrev pub told : List Done → List Exchange
@@ -33,6 +35,7 @@ told (done ∷ more) = exchanges_of done ++ told more
 abbrev pub Does : Done → Option Content → Option Content → Type 0
 Does (step exchange) old new = Steps exchange.call exchange.answer old new
 Does (batch requests first) old new = Batches requests old first new
+Does failed old new = StaysAs old new
 
 -- the same of calls in a row
 abbrev pub AreDone : Option Content → List Done → Option Content → Type 0

@@ -30,14 +30,23 @@ impl Model for Batch {
 }
 
 impl Batch {
+    /// No request.
+    pub(crate) fn empty(alloc: Global) -> Batch
+        ensures { result ≡ [] }
+    {
+        Batch {
+            requests: Vec::new(alloc),
+        }
+    }
+
     /// One request.
     pub(crate) fn of(alloc: Global, request: Request) -> Result<Batch, KvError>
         ensures ok { IfOk result (λ batch. batch ≡ asked request ∷ []) }
         ensures err { IfErr result (λ e. e ≡ OutOfMemory) }
     {
-        let mut requests = Vec::new(alloc);
-        requests.push(request)?;
-        Ok(Batch { requests })
+        let mut batch = Batch::empty(alloc);
+        batch.add(request)?;
+        Ok(batch)
     }
 
     /// One request more.

@@ -3,10 +3,16 @@
 ghost use Rattle.std.specs.Prelude.{◌≡◌, MatchResult};
 ghost use Rattle.std.specs.Option.{option_copied};
 ghost use Rattle.kv_c.specs.Codes.{own_name};
+ghost use Rattle.kv_durable.specs.Refusals.{durable_code};
+ghost use Rattle.kv_durable.specs.declared.error.DurableError.TheVariants.{FileDamaged};
 ghost use Rattle.kv_keys.specs.Refusals.{code_of};
 ghost use Rattle.kv_keys.specs.declared.error.KvError.TheVariants.{Lagged, WatchBehind, WrongLastRevision};
 
+use kv_durable::DurableError;
 use kv_single::KvError;
+
+/// Nothing more is added to the file of the bucket.
+pub(crate) const FILE_FAULT: u64 = 22;
 
 /// The view is of another bucket than the feed.
 pub(crate) const OTHER_BUCKET: u64 = 25;
@@ -29,11 +35,17 @@ pub(crate) const OLDER_VIEW: u64 = 36;
 /// No refusal has this code.
 pub(crate) const NO_SUCH_CODE: u64 = 37;
 
+/// The call is made, and waits for the shell, which alone is told this.
+pub(crate) const MADE: u64 = 38;
+
 /// The name of one of C's own codes.
 pub(crate) fn own_name(code: u64) -> Option<&'static str>
     ensures { option_copied result ≡ own_name code }
 {
     match code {
+        22 => Some("FileFault"),
+        23 => Some("FileDamaged"),
+        24 => Some("FileBusy"),
         25 => Some("OtherBucket"),
         32 => Some("Closed"),
         33 => Some("TooLittleRoom"),
@@ -77,6 +89,18 @@ pub(crate) fn refuse_refresh(refusal: KvError, floor: &mut u64) -> u64
 {
     if let KvError::Lagged { floor: told } = refusal {
         *floor = told;
+    }
+    refusal.code()
+}
+
+/// The code of the refusal of an opening. The place up to which a damaged file is good is handed out.
+pub(crate) fn refuse_opening(refusal: DurableError, at: &mut u64) -> u64
+    ensures code { result ≡ durable_code refusal }
+    ensures place { result ≡ 23 → refusal ≡ FileDamaged at.new }
+    ensures untold { ¬ (result ≡ 23) → at.new ≡ at.old }
+{
+    if let DurableError::FileDamaged { at: told } = refusal {
+        *at = told;
     }
     refusal.code()
 }

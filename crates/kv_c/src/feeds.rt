@@ -28,9 +28,9 @@ fn numbered(content: &Content) -> Option<(&Version, u64)>
     ensures none { IfNone result (version_in (Some content.now) ≡ None) }
 {
     match content {
-        Content::Bucket(bucket, opening) => Some((bucket.version(), *opening)),
+        Content::Bucket(bucket, _, opening) => Some((bucket.version(), *opening)),
         Content::View(version, opening) => Some((version, *opening)),
-        Content::Feed(..) | Content::Batch(_) => None,
+        Content::Feed(..) | Content::Batch(_) | Content::Made(..) => None,
     }
 }
 
@@ -218,7 +218,7 @@ fn refresh_in(content: &mut Content, version: &Version, opening: u64, floor: &mu
 {
     match content {
         Content::Feed(feed, own) => refresh_numbered(feed, *own, version, opening, floor),
-        Content::Bucket(..) | Content::View(..) | Content::Batch(_) => CLOSED,
+        Content::Bucket(..) | Content::View(..) | Content::Batch(_) | Content::Made(..) => CLOSED,
     }
 }
 
@@ -298,7 +298,7 @@ fn take_in(content: &mut Content, keys: &mut [u8], values: &mut [u8], item: &mut
 {
     match content {
         Content::Feed(feed, _) => feed.take(keys, values, item),
-        Content::Bucket(..) | Content::View(..) | Content::Batch(_) => CLOSED,
+        Content::Bucket(..) | Content::View(..) | Content::Batch(_) | Content::Made(..) => CLOSED,
     }
 }
 

@@ -1,20 +1,24 @@
 //! The functions that C calls to gather requests, and to make them in one step.
 
-ghost use Rattle.std.specs.Prelude.{◌≡◌, List, Err, None, Ok, Some, IfErr, IfOk, IsFalse, IsTrue, is_some, length, map};
+ghost use Rattle.std.specs.Prelude.{◌≡◌, ◌∷◌, [], true, List, Err, None, Ok, Some, IfErr, IfOk, IsFalse, IsTrue, is_some, length, map};
 ghost use Rattle.kv_c.specs.Batching.{AcceptsAll, AreWrites, Gathers, IsRefusedWith, batch_of, count_of, gatherable, gathered};
 ghost use Rattle.kv_c.specs.Calling.{IsAsked, StandsAt, holds_bucket, if_given};
 ghost use Rattle.kv_c.specs.Codes.{accepted, code_by};
-ghost use Rattle.kv_keys.specs.declared.error.KvError.TheVariants.{OutOfMemory};
+ghost use Rattle.kv_c.specs.Making.{Makes, MakesBatch, MakesGathered, is_filed, stopped_in};
+ghost use Rattle.kv_keys.specs.Refusals.{code_of};
+ghost use Rattle.kv_keys.specs.declared.error.KvError.TheVariants.{OutOfMemory, WrongLastRevision};
 ghost use Rattle.kv_model.specs.Requests.{Asked, asked, create, delete, purge, put, update};
 ghost use Rattle.kv_model.specs.State.{State};
 ghost use Rattle.kv_single.specs.Held.{Represents};
 
 use crate::asking;
 use crate::batch::Batch;
-use crate::codes::{CLOSED, refuse_write};
+use crate::codes::{CLOSED, FILE_FAULT, MADE, refuse_write};
 use crate::content::Content;
 use crate::handle::Handle;
-use kv_single::{Bucket, KvError, Request};
+use crate::ready::ready_batch;
+use kv_durable::BatchError;
+use kv_single::{BatchRefused, Bucket, KvError, Request};
 use std::alloc::Global;
 
 /// The most bytes that a value has in any bucket.
@@ -60,7 +64,7 @@ fn gather_in(content: &mut Content, request: Result<Request, KvError>) -> u64
 {
     match content {
         Content::Batch(batch) => add(batch, request),
-        Content::Bucket(..) | Content::View(..) | Content::Feed(..) => CLOSED,
+        Content::Bucket(..) | Content::View(..) | Content::Feed(..) | Content::Made(..) => CLOSED,
     }
 }
 
@@ -225,8 +229,21 @@ pub extern "C" fn kv_batch_size(alloc: Global, batch: &mut Handle, size: &mut us
     done
 }
 
-// Makes all these requests, and hands out the revision of the first; or hands out the place of the one that is refused,
+// The code of the refusal of a batch. The place of the request that is refused is handed out, and its key's last revision, if
+// the refusal tells that.
+fn refuse_batch(refused: BatchRefused, revision: &mut u64, at: &mut usize) -> u64
+    ensures code { result ≡ code_of refused.error }
+    ensures at { at.new ≡ refused.at }
+    ensures last { result ≡ 11 → refused.error ≡ WrongLastRevision revision.new }
+    ensures untold { ¬ (result ≡ 11) → revision.new ≡ revision.old }
+{
+    *at = refused.at;
+    refuse_write(refused.error, revision)
+}
+
+// Does all that is asked, and hands out the revision of the first write; or hands out the place of the one that is refused,
 // and where its key's last revision is another one, that.
+#[tactic(auto, using(crate::proofs::Refusing::no_fault, crate::proofs::Refusing::not_made))]
 fn write_all(bucket: &mut Bucket, requests: &[Request], revision: &mut u64, at: &mut usize) -> u64
     ensures accepted { result ≡ 0 → AreWrites bucket.old (map asked requests.now) revision.new bucket.new }
     ensures why { ¬ (result ≡ 0) → (state : State) → Represents state bucket.old →
@@ -235,20 +252,101 @@ fn write_all(bucket: &mut Bucket, requests: &[Request], revision: &mut u64, at: 
     ensures at { result ≡ 0 → at.new ≡ at.old }
     ensures refused { ¬ (result ≡ 0) → bucket.new ≡ bucket.old }
     ensures open { ¬ (result ≡ 32) }
+    ensures never { (¬ (result ≡ 22)) × (¬ (result ≡ 38)) }
 {
     match bucket.write_all(requests) {
         Ok(first) => {
             *revision = first;
             0
         }
-        Err(refused) => {
-            *at = refused.at;
-            refuse_write(refused.error, revision)
+        Err(refused) => refuse_batch(refused, revision, at),
+    }
+}
+
+// The same of a bucket with a file, of a first request and the rest: the batch is made, and waits for the shell.
+#[tactic(auto, using(crate::proofs::Refusing::no_fault, crate::proofs::Refusing::not_made))]
+fn make_some(
+    alloc: Global,
+    content: &mut Content,
+    requests: &[Request],
+    first: &Request,
+    rest: &[Request],
+    revision: &mut u64,
+    at: &mut usize,
+) -> u64
+    requires split { requests.now ≡ first.now ∷ rest.now }
+    requires filed { IsTrue (is_filed content.old) }
+    ensures made { result ≡ 38 → Makes (MakesBatch requests.now) (Some content.old) (Some content.new) }
+    ensures why { ¬ (result ≡ 22) → ¬ (result ≡ 38) → (state : State) → StandsAt state (Some content.old) →
+        IsRefusedWith state (Some (map asked requests.now)) result at.new revision.new }
+    ensures untold { ¬ (result ≡ 11) → revision.new ≡ revision.old }
+    ensures at { result ≡ 38 → at.new ≡ at.old }
+    ensures refused { ¬ (result ≡ 38) → content.new ≡ content.old }
+    ensures fault { result ≡ 22 → (stopped_in (Some content.old) ≡ true) × (at.new ≡ at.old) }
+    ensures stopped { stopped_in (Some content.old) ≡ true → result ≡ 22 }
+    ensures never { (¬ (result ≡ 0)) × (¬ (result ≡ 32)) }
+{
+    let Some((bucket, filed)) = content.with_file() else {
+        return CLOSED;
+    };
+    match ready_batch(bucket, filed, requests, first, rest) {
+        Ok(ready) => {
+            content.make(alloc, ready);
+            MADE
         }
+        Err(BatchError::Refused(refused)) => refuse_batch(refused, revision, at),
+        Err(BatchError::FileFault) => FILE_FAULT,
+    }
+}
+
+// Of no request nothing is made.
+fn write_none(content: &mut Content, revision: &mut u64, at: &mut usize) -> u64
+    requires { IsTrue (is_filed content.old) }
+    ensures accepted { result ≡ 0 → AcceptsAll (batch_of []) (Some content.old) revision.new (Some content.new) }
+    ensures why { ¬ (result ≡ 0) → (state : State) → StandsAt state (Some content.old) →
+        IsRefusedWith state (Some []) result at.new revision.new }
+    ensures untold { ¬ (result ≡ 0) → ¬ (result ≡ 11) → revision.new ≡ revision.old }
+    ensures at { result ≡ 0 → at.new ≡ at.old }
+    ensures refused { ¬ (result ≡ 0) → content.new ≡ content.old }
+    ensures never { (¬ (result ≡ 22)) × (¬ (result ≡ 32)) × (¬ (result ≡ 38)) }
+{
+    match content {
+        Content::Bucket(bucket, Some(_), _) => write_all(bucket, &[], revision, at),
+        _ => CLOSED,
+    }
+}
+
+// The same; of no request nothing is made, also where the file has failed.
+fn make_all(
+    alloc: Global,
+    content: &mut Content,
+    requests: &[Request],
+    revision: &mut u64,
+    at: &mut usize,
+) -> u64
+    requires { IsTrue (is_filed content.old) }
+    ensures accepted { result ≡ 0 →
+        AcceptsAll (batch_of (map asked requests.now)) (Some content.old) revision.new (Some content.new) }
+    ensures made { result ≡ 38 → Makes (MakesBatch requests.now) (Some content.old) (Some content.new) }
+    ensures why { ¬ (result ≡ 0) → ¬ (result ≡ 22) → ¬ (result ≡ 38) → (state : State) →
+        StandsAt state (Some content.old) →
+        IsRefusedWith state (Some (map asked requests.now)) result at.new revision.new }
+    ensures untold { ¬ (result ≡ 0) → ¬ (result ≡ 11) → revision.new ≡ revision.old }
+    ensures at { result ≡ 0 → at.new ≡ at.old }
+    ensures at_made { result ≡ 38 → at.new ≡ at.old }
+    ensures refused { ¬ (result ≡ 0) → ¬ (result ≡ 38) → content.new ≡ content.old }
+    ensures fault { result ≡ 22 → (stopped_in (Some content.old) ≡ true) × (at.new ≡ at.old) }
+    ensures stopped { stopped_in (Some content.old) ≡ true → (requests.now ≡ [] → ⊥) → result ≡ 22 }
+    ensures open { ¬ (result ≡ 32) }
+{
+    match requests.split_first() {
+        Some((first, rest)) => make_some(alloc, content, requests, first, rest, revision, at),
+        None => write_none(content, revision, at),
     }
 }
 
 fn write_all_in(
+    alloc: Global,
     content: &mut Content,
     requests: &[Request],
     revision: &mut u64,
@@ -256,17 +354,23 @@ fn write_all_in(
 ) -> u64
     ensures accepted { result ≡ 0 →
         AcceptsAll (batch_of (map asked requests.now)) (Some content.old) revision.new (Some content.new) }
-    ensures why { ¬ (result ≡ 0) → (state : State) → StandsAt state (Some content.old) →
+    ensures made { result ≡ 38 → Makes (MakesBatch requests.now) (Some content.old) (Some content.new) }
+    ensures why { ¬ (result ≡ 0) → ¬ (result ≡ 22) → ¬ (result ≡ 38) → (state : State) →
+        StandsAt state (Some content.old) →
         IsRefusedWith state (Some (map asked requests.now)) result at.new revision.new }
     ensures untold { ¬ (result ≡ 0) → ¬ (result ≡ 11) → revision.new ≡ revision.old }
     ensures at { result ≡ 0 → at.new ≡ at.old }
-    ensures refused { ¬ (result ≡ 0) → content.new ≡ content.old }
+    ensures at_made { result ≡ 38 → at.new ≡ at.old }
+    ensures refused { ¬ (result ≡ 0) → ¬ (result ≡ 38) → content.new ≡ content.old }
+    ensures fault { result ≡ 22 → (stopped_in (Some content.old) ≡ true) × (at.new ≡ at.old) }
+    ensures stopped { stopped_in (Some content.old) ≡ true → (requests.now ≡ [] → ⊥) → result ≡ 22 }
     ensures closed { IsFalse (holds_bucket (Some content.old)) → result ≡ 32 }
     ensures closed_untold { result ≡ 32 → at.new ≡ at.old }
 {
     match content {
-        Content::Bucket(bucket, _) => write_all(bucket, requests, revision, at),
-        Content::View(..) | Content::Feed(..) | Content::Batch(_) => CLOSED,
+        Content::Bucket(bucket, None, _) => write_all(bucket, requests, revision, at),
+        Content::Bucket(_, Some(_), _) => make_all(alloc, content, requests, revision, at),
+        Content::View(..) | Content::Feed(..) | Content::Batch(_) | Content::Made(..) => CLOSED,
     }
 }
 
@@ -279,18 +383,23 @@ fn write_all_to(
 ) -> u64
     ensures accepted { result ≡ 0 →
         AcceptsAll (batch_of (map asked requests.now)) handle.old.slot.held revision.new handle.new.slot.held }
-    ensures why { ¬ (result ≡ 0) → (state : State) → StandsAt state handle.old.slot.held →
+    ensures made { result ≡ 38 → Makes (MakesBatch requests.now) handle.old.slot.held handle.new.slot.held }
+    ensures why { ¬ (result ≡ 0) → ¬ (result ≡ 22) → ¬ (result ≡ 38) → (state : State) →
+        StandsAt state handle.old.slot.held →
         IsRefusedWith state (Some (map asked requests.now)) result at.new revision.new }
     ensures untold { ¬ (result ≡ 0) → ¬ (result ≡ 11) → revision.new ≡ revision.old }
     ensures at { result ≡ 0 → at.new ≡ at.old }
-    ensures refused { ¬ (result ≡ 0) → handle.new.slot.held ≡ handle.old.slot.held }
+    ensures at_made { result ≡ 38 → at.new ≡ at.old }
+    ensures refused { ¬ (result ≡ 0) → ¬ (result ≡ 38) → handle.new.slot.held ≡ handle.old.slot.held }
+    ensures fault { result ≡ 22 → (stopped_in handle.old.slot.held ≡ true) × (at.new ≡ at.old) }
+    ensures stopped { stopped_in handle.old.slot.held ≡ true → (requests.now ≡ [] → ⊥) → result ≡ 22 }
     ensures closed { IsFalse (holds_bucket handle.old.slot.held) → result ≡ 32 }
     ensures closed_untold { result ≡ 32 → at.new ≡ at.old }
 {
     let Some(mut content) = handle.take(alloc) else {
         return CLOSED;
     };
-    let done = write_all_in(&mut content, requests, revision, at);
+    let done = write_all_in(alloc, &mut content, requests, revision, at);
     handle.put(content);
     done
 }
@@ -298,9 +407,9 @@ fn write_all_to(
 /// Makes all that is gathered in one step, or nothing of it: each write is judged behind those before it. The revision
 /// of the first is handed out, or the last one so far where nothing is gathered, and then the batch is empty. Where a
 /// write is refused its place is handed out, from 0, and where its key's last revision is another one, that; the bucket
-/// and the batch are as they were.
+/// and the batch are as they were. Where the call is made on a bucket with a file, the batch is as it was too.
 #[unsafe(no_mangle)]
-pub extern "C" fn kv_batch_write(
+pub extern "C" fn kv_make_batch(
     alloc: Global,
     handle: &mut Handle,
     batch: &mut Handle,
@@ -309,13 +418,19 @@ pub extern "C" fn kv_batch_write(
 ) -> u64
     ensures accepted { result ≡ 0 →
         AcceptsAll batch.old.slot.held handle.old.slot.held revision.new handle.new.slot.held }
+    ensures made { result ≡ 38 → MakesGathered (gathered batch.old.slot.held) handle.old.slot.held handle.new.slot.held }
     ensures emptied { result ≡ 0 → batch.new.slot.held ≡ None }
-    ensures why { ¬ (result ≡ 0) → (state : State) → StandsAt state handle.old.slot.held →
+    ensures why { ¬ (result ≡ 0) → ¬ (result ≡ 22) → ¬ (result ≡ 38) → (state : State) →
+        StandsAt state handle.old.slot.held →
         IsRefusedWith state (gathered batch.old.slot.held) result at.new revision.new }
     ensures untold { ¬ (result ≡ 0) → ¬ (result ≡ 11) → revision.new ≡ revision.old }
     ensures at { result ≡ 0 → at.new ≡ at.old }
-    ensures refused { ¬ (result ≡ 0) → handle.new.slot.held ≡ handle.old.slot.held }
+    ensures at_made { result ≡ 38 → at.new ≡ at.old }
+    ensures refused { ¬ (result ≡ 0) → ¬ (result ≡ 38) → handle.new.slot.held ≡ handle.old.slot.held }
     ensures kept { ¬ (result ≡ 0) → batch.new.slot.held ≡ batch.old.slot.held }
+    ensures fault { result ≡ 22 → (stopped_in handle.old.slot.held ≡ true) × (at.new ≡ at.old) }
+    ensures stopped { stopped_in handle.old.slot.held ≡ true → (whats : List Asked) →
+        gathered batch.old.slot.held ≡ Some whats → (whats ≡ [] → ⊥) → result ≡ 22 }
     ensures closed { IsFalse (holds_bucket handle.old.slot.held) → result ≡ 32 }
     ensures no_batch { IsFalse (is_some (gathered batch.old.slot.held)) → result ≡ 32 }
     ensures closed_untold { result ≡ 32 → at.new ≡ at.old }

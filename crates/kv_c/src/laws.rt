@@ -1,19 +1,23 @@
 //! Laws of the calls that C makes on a bucket, in whatever order.
 
 ghost use Rattle.std.specs.Prelude.{◌≡◌, ℕ, Err, List, Option, Some, true};
-ghost use Rattle.kv_c.specs.Batching.{gatherable};
-ghost use Rattle.kv_c.specs.Calling.{StandsAt};
+ghost use Rattle.kv_c.specs.Batching.{AcceptsAll, batch_of, gatherable};
+ghost use Rattle.kv_c.specs.Calling.{Accepts, StandsAt, StaysAs, Steps};
 ghost use Rattle.kv_c.specs.Codes.{outcome};
+ghost use Rattle.kv_c.specs.Making.{GivesUp, Makes, MakesAct, MakesAsked, MakesGathered, Settles, stopped_in};
 ghost use Rattle.kv_c.specs.Rows.{AreDone, Done, told};
 ghost use Rattle.kv_c.specs.declared.content.Content.{Content};
 ghost use Rattle.kv_keys.specs.declared.error.KvError.{KvError as AnError};
+ghost use Rattle.kv_model.specs.Acts.{Act};
+ghost use Rattle.kv_model.specs.Answers.{Answer};
 ghost use Rattle.kv_model.specs.Configuration.{has_legal_numbers};
 ghost use Rattle.kv_model.specs.Requests.{Asked};
 ghost use Rattle.kv_model.specs.State.{State, Watch, open_at};
 ghost use Rattle.kv_model.specs.Told.{Tells, TellsEachWatch};
+ghost use Rattle.kv_model.specs.declared.call.Call.{Call};
 
-/// The watch theorem for C. Each call that answers 0 is one step of the model, but for a batch, which is one for each of
-/// its writes; and each other call leaves the bucket as it was. So each watch that the calls opened, and each that was
+/// The watch theorem for C. Each call that answers 0, or is made and settled, is one step of the model, but for a batch, which
+/// is one for each of its writes; and each other call, also one that is given up, leaves the bucket as it was. So each watch that the calls opened, and each that was
 /// open before them, is handed, in order, the next items of what it is given, all of them where a take finds none, and
 /// none after its stop.
 pub fn tells_whoever_calls()
@@ -28,4 +32,24 @@ pub fn tells_whoever_calls()
 pub fn refuses_what_is_not_gathered()
     ensures { (what : Asked) (e : AnError) (state : State) → gatherable what ≡ Err e →
         has_legal_numbers state.config ≡ true → outcome what state ≡ Err e }
+{}
+
+/// A call on a bucket with a file that is made and settled is what it is on a bucket in memory.
+pub fn made_and_settled_it_is_done()
+    ensures write { (what : Asked) (old mid new : Option Content) (told : ℕ) → Makes (MakesAsked what) old mid →
+        Settles mid told new → Accepts what old told new }
+    ensures batch { (whats : List Asked) (old mid new : Option Content) (told : ℕ) →
+        MakesGathered (Some whats) old mid → Settles mid told new → AcceptsAll (batch_of whats) old told new }
+    ensures act { (call : Call) (answer : Answer) (act : Act) (old mid new : Option Content) (told : ℕ) →
+        Makes (MakesAct call answer act) old mid → Settles mid told new → Steps call answer old new }
+{}
+
+/// One that is made and given up leaves the bucket as it was, with its watches, and nothing more is added to its file.
+pub fn made_and_given_up_it_is_undone()
+    ensures write { (what : Asked) (old mid new : Option Content) → Makes (MakesAsked what) old mid → GivesUp mid new →
+        StaysAs old new × (stopped_in new ≡ true) }
+    ensures batch { (whats : List Asked) (old mid new : Option Content) → MakesGathered (Some whats) old mid →
+        GivesUp mid new → StaysAs old new × (stopped_in new ≡ true) }
+    ensures act { (call : Call) (answer : Answer) (act : Act) (old mid new : Option Content) →
+        Makes (MakesAct call answer act) old mid → GivesUp mid new → StaysAs old new × (stopped_in new ≡ true) }
 {}

@@ -25,7 +25,7 @@ fn open(alloc: Global, name: &[u8], limits: &Limits, opening: u64) -> Result<Box
 {
     let config = config_of(alloc, name, limits)?;
     let bucket = Bucket::open(alloc, &config)?;
-    Ok(Box::new(alloc, Content::Bucket(bucket, opening))?)
+    Ok(Box::new(alloc, Content::Bucket(bucket, None, opening))?)
 }
 
 /// Opens a bucket with no writes, under a number: those of two openings are to differ.
@@ -56,9 +56,9 @@ pub extern "C" fn kv_open_as(
     }
 }
 
-/// Frees the bucket, and closes the handle. A closed handle stays so.
+/// Frees the bucket, and closes the handle. A closed handle stays so. Its file is left as it is.
 #[unsafe(no_mangle)]
-pub extern "C" fn kv_close(alloc: Global, handle: &mut Handle)
+pub extern "C" fn kv_free(alloc: Global, handle: &mut Handle)
     ensures { handle.new.slot.held ≡ None }
 {
     drop(handle.take(alloc));

@@ -258,11 +258,11 @@ fn status_of_bucket(content: &Content, numbers: &mut Numbers) -> u64
     ensures closed { IsFalse (holds_bucket (Some content.now)) → result ≡ 32 }
 {
     match content {
-        Content::Bucket(bucket, _) => {
+        Content::Bucket(bucket, _, _) => {
             *numbers = numbers_of(bucket.version(), bucket.watches());
             0
         }
-        Content::View(..) | Content::Feed(..) | Content::Batch(_) => CLOSED,
+        Content::View(..) | Content::Feed(..) | Content::Batch(_) | Content::Made(..) => CLOSED,
     }
 }
 

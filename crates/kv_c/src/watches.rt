@@ -58,11 +58,11 @@ fn watch(
     ensures closed { IsFalse (holds_bucket (Some content.old)) → result ≡ 32 }
 {
     match content {
-        Content::Bucket(bucket, _) => match options_of(wanted) {
+        Content::Bucket(bucket, _, _) => match options_of(wanted) {
             Some(options) => opened(alloc, bucket, filters, options, number),
             None => NO_SUCH_START,
         },
-        Content::View(..) | Content::Feed(..) | Content::Batch(_) => CLOSED,
+        Content::View(..) | Content::Feed(..) | Content::Batch(_) | Content::Made(..) => CLOSED,
     }
 }
 
@@ -144,8 +144,8 @@ fn take(
     ensures closed { IsFalse (holds_bucket (Some content.old)) → result ≡ 32 }
 {
     match content {
-        Content::Bucket(bucket, _) => take_from(bucket, number, keys, values, item),
-        Content::View(..) | Content::Feed(..) | Content::Batch(_) => CLOSED,
+        Content::Bucket(bucket, _, _) => take_from(bucket, number, keys, values, item),
+        Content::View(..) | Content::Feed(..) | Content::Batch(_) | Content::Made(..) => CLOSED,
     }
 }
 
@@ -200,8 +200,8 @@ fn stop(content: &mut Content, number: u64, handed: &mut u64) -> u64
     ensures closed { IsFalse (holds_bucket (Some content.old)) → result ≡ 32 }
 {
     match content {
-        Content::Bucket(bucket, _) => hand_out(stop_in(bucket, number), handed),
-        Content::View(..) | Content::Feed(..) | Content::Batch(_) => CLOSED,
+        Content::Bucket(bucket, _, _) => hand_out(stop_in(bucket, number), handed),
+        Content::View(..) | Content::Feed(..) | Content::Batch(_) | Content::Made(..) => CLOSED,
     }
 }
 

@@ -18,7 +18,7 @@ ghost use Rattle.kv_durable.specs.Files.{Reads, file_of};
 ghost use Rattle.kv_durable.specs.Journals.{CanFollow, Keeps};
 ghost use Rattle.kv_durable.specs.Openings.{HasRead, IsFound, IsFoundIn, IsNew, IsReopenedOn, LeavesBytes};
 ghost use Rattle.kv_durable.specs.Refusals.{IsDamaged};
-ghost use Rattle.kv_durable.specs.declared.error.DurableError.TheVariants.{FileBusy, FileFault, OtherBucket, Refused};
+ghost use Rattle.kv_durable.specs.declared.error.DurableError.TheVariants.{FileBusy, FileFault, HasCheckpoint, OtherBucket, Refused};
 
 use crate::config::OwnConfig;
 use crate::durable::{Durable, NotDone};
@@ -156,7 +156,7 @@ fn go_on_in<F: JournalFile>(
     ensures handed { OnErr result (F.usable file.old ≡ true → (kept loose : List ℕ) → F.has file.old kept loose →
         (k : List ℕ) × (l : List ℕ) × (k ++ l ≡ kept ++ loose) × F.has file.new k l) }
     ensures fault { IsErrOf result FileFault → F.usable file.old ≡ true → F.faults file.old < F.faults file.new }
-    ensures not_busy { IfErr result (λ e. e ≢ FileBusy) }
+    ensures never { IfErr result (λ e. (e ≢ FileBusy) × (e ≢ HasCheckpoint)) }
 {
     let own = OwnConfig::copy_of(alloc, config)?;
     let recovered = recover(alloc, config, bytes)?;
@@ -206,7 +206,7 @@ fn found_in<F: JournalFile>(
     ensures handed { OnErr result (F.usable file.old ≡ true → (kept loose : List ℕ) → F.has file.old kept loose →
         LeavesBytes F.has config.now seed kept loose file.new) }
     ensures fault { IsErrOf result FileFault → F.usable file.old ≡ true → F.faults file.old < F.faults file.new }
-    ensures not_busy { IfErr result (λ e. e ≢ FileBusy) }
+    ensures never { IfErr result (λ e. (e ≢ FileBusy) × (e ≢ HasCheckpoint)) }
 {
     config.check()?;
     let bytes = read_all(alloc, file)?;
@@ -289,7 +289,7 @@ impl<F: JournalFile> Durable<F> {
         ensures handed { IfErr result (λ r. F.usable file ≡ true → (kept loose : List ℕ) → F.has file kept loose →
             LeavesBytes F.has config.now seed kept loose r.file) }
         ensures fault { IfErr result (λ r. r.error ≡ FileFault → F.usable file ≡ true → F.faults file < F.faults r.file) }
-        ensures not_busy { IfErr result (λ r. r.error ≢ FileBusy) }
+        ensures never { IfErr result (λ r. (r.error ≢ FileBusy) × (r.error ≢ HasCheckpoint)) }
     {
         let mut file = file;
         match found_in(alloc, config, &mut file, seed) {

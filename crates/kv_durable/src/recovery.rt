@@ -16,7 +16,7 @@ ghost use Rattle.kv_durable.specs.Bases.{Base};
 ghost use Rattle.kv_durable.specs.Files.{Reads, file_of};
 ghost use Rattle.kv_durable.specs.Openings.{IsRecovered};
 ghost use Rattle.kv_durable.specs.Refusals.{IsDamaged};
-ghost use Rattle.kv_durable.specs.declared.error.DurableError.TheVariants.{FileBusy, FileFault, OtherBucket, Refused};
+ghost use Rattle.kv_durable.specs.declared.error.DurableError.TheVariants.{FileBusy, FileFault, HasCheckpoint, OtherBucket, Refused};
 
 use crate::error::DurableError;
 use crate::start::started_of;
@@ -52,7 +52,7 @@ fn begun_of(alloc: Global, bytes: &[u8], config: &Config) -> Result<Begun, Durab
         × BeginsWith bytes.now seed payload rest × (payload ≢ configuration_payload config.now) }
     ensures damaged { IfErr result (λ e. IsDamaged e → (seed : ℕ) (payload rest : List ℕ) →
         BeginsWith bytes.now seed payload rest → ⊥) }
-    ensures err { IfErr result (λ e. (e ≢ FileFault) × (e ≢ FileBusy) × ((x : AnError) → e ≡ Refused x → x ≡ OutOfMemory)) }
+    ensures err { IfErr result (λ e. (e ≢ FileFault) × (e ≢ FileBusy) × (e ≢ HasCheckpoint) × ((x : AnError) → e ≡ Refused x → x ≡ OutOfMemory)) }
 {
     match begin(alloc, bytes, config) {
         Ok(begun) => Ok(begun),
@@ -87,7 +87,7 @@ fn replayed_of(
     ensures damaged { IfErr result (λ e. IsDamaged e → (before : List Act) (entries : List Entry) (rest : List ℕ) →
         StandsFor before version → AreLawful version.config before entries →
         Splits framing.now.seed at bytes.now (payloads_of entries) rest → ⊥) }
-    ensures err { IfErr result (λ e. (e ≢ FileFault) × (e ≢ FileBusy) × (e ≢ OtherBucket) × ((x : AnError) → e ≡ Refused x → x ≡ OutOfMemory)) }
+    ensures err { IfErr result (λ e. (e ≢ FileFault) × (e ≢ FileBusy) × (e ≢ HasCheckpoint) × (e ≢ OtherBucket) × ((x : AnError) → e ≡ Refused x → x ≡ OutOfMemory)) }
 {
     match replay(alloc, version, framing, at, bytes) {
         Ok(replayed) => Ok(replayed),
@@ -115,7 +115,7 @@ pub fn recover(alloc: Global, config: &Config, bytes: &[u8]) -> Result<Recovered
     ensures other { IsErrOf result OtherBucket → (seed : ℕ) × (payload : List ℕ) × (rest : List ℕ)
         × BeginsWith bytes.now seed payload rest × (payload ≢ configuration_payload config.now) }
     ensures refused { IfErr result (λ e. (x : AnError) → e ≡ Refused x → Refuses x (configure config.now)) }
-    ensures no_fault { IfErr result (λ e. (e ≢ FileFault) × (e ≢ FileBusy)) }
+    ensures no_fault { IfErr result (λ e. (e ≢ FileFault) × (e ≢ FileBusy) × (e ≢ HasCheckpoint)) }
 {
     let empty = Version::empty(alloc, config)?;
     let begun = begun_of(alloc, bytes, config)?;

@@ -11,7 +11,7 @@ ghost use Rattle.kv_model.specs.Acts.{Act};
 ghost use Rattle.kv_store.specs.Standing.{StandsFor};
 ghost use Rattle.kv_durable.specs.Refusals.{IsDamaged};
 ghost use Rattle.kv_durable.specs.Starts.{IsStarted};
-ghost use Rattle.kv_durable.specs.declared.error.DurableError.TheVariants.{FileBusy, FileFault, OtherBucket, Refused};
+ghost use Rattle.kv_durable.specs.declared.error.DurableError.TheVariants.{FileBusy, FileFault, HasCheckpoint, OtherBucket, Refused};
 
 use crate::error::DurableError;
 use kv_journal::{Begun, ReplayError, begins_checkpoint, restore};
@@ -46,7 +46,7 @@ fn restored_of(
     ensures damaged { IfErr result (λ e. IsDamaged e → (acts : List Act) (rest : List ℕ) → IsLawful config.now acts →
         ArePayloads (checkpoint_payloads (checkpoint_of config.now acts)) →
         bytes.now ≡ frames begun.now.framing.seed begun.now.place (checkpoint_payloads (checkpoint_of config.now acts)) ++ rest → ⊥) }
-    ensures err { IfErr result (λ e. (e ≢ FileFault) × (e ≢ FileBusy) × (e ≢ OtherBucket) × ((x : AnError) → e ≡ Refused x → x ≡ OutOfMemory)) }
+    ensures err { IfErr result (λ e. (e ≢ FileFault) × (e ≢ FileBusy) × (e ≢ HasCheckpoint) × (e ≢ OtherBucket) × ((x : AnError) → e ≡ Refused x → x ≡ OutOfMemory)) }
 {
     match restore(alloc, empty, config, &begun.framing, begun.place, bytes) {
         Ok(restored) => Ok(Started {
@@ -77,7 +77,7 @@ pub(crate) fn started_of(
         bytes.now ≡ frames begun.now.framing.seed begun.now.place (checkpoint_payloads (checkpoint_of config.now acts)) ++ rest → ⊥) }
     ensures no_entries { IfErr result (λ e. IsDamaged e → (entries : List Entry) (rest : List ℕ) →
         Splits begun.now.framing.seed begun.now.place bytes.now (payloads_of entries) rest → ⊥) }
-    ensures err { IfErr result (λ e. (e ≢ FileFault) × (e ≢ FileBusy) × (e ≢ OtherBucket) × ((x : AnError) → e ≡ Refused x → x ≡ OutOfMemory)) }
+    ensures err { IfErr result (λ e. (e ≢ FileFault) × (e ≢ FileBusy) × (e ≢ HasCheckpoint) × (e ≢ OtherBucket) × ((x : AnError) → e ≡ Refused x → x ≡ OutOfMemory)) }
 {
     if begins_checkpoint(&begun.framing, begun.place, bytes) {
         return restored_of(alloc, empty, config, begun, bytes);

@@ -1,0 +1,66 @@
+package vilgoued
+
+import (
+	"errors"
+	"os"
+	"path/filepath"
+	"testing"
+)
+
+func TestABucketWithAFileComesAgain(t *testing.T) {
+	config := KeyValueConfig{Bucket: "settings", Path: filepath.Join(t.TempDir(), "settings.kv")}
+	for _, every := range []int{0, 3, -1} {
+		config.SyncEvery = every
+		bucket, err := CreateKeyValue(&config)
+		if err != nil {
+			t.Fatal(err)
+		}
+		if _, err := CreateKeyValue(&config); !errors.Is(err, ErrFileBusy) {
+			t.Fatalf("a second opening: %v", err)
+		}
+		if _, err := bucket.PutString("app.port", "80"); err != nil {
+			t.Fatal(err)
+		}
+		if err := bucket.Sync(); err != nil {
+			t.Fatal(err)
+		}
+		bucket.Close()
+	}
+	file, err := os.OpenFile(config.Path, os.O_WRONLY|os.O_APPEND, 0)
+	if err != nil {
+		t.Fatal(err)
+	}
+	if _, err := file.WriteString("torn"); err != nil {
+		t.Fatal(err)
+	}
+	file.Close()
+	bucket, err := CreateKeyValue(&config)
+	if err != nil {
+		t.Fatal(err)
+	}
+	entry, err := bucket.Get("app.port")
+	if err != nil || entry.Revision() != 3 || bucket.Dropped() != 4 {
+		t.Fatalf("%v, %v, dropped %d", entry, err, bucket.Dropped())
+	}
+	bucket.Close()
+}
+
+func TestAFileOfAnotherBucketOrOfNoneIsRefused(t *testing.T) {
+	config := KeyValueConfig{Bucket: "settings", Path: filepath.Join(t.TempDir(), "settings.kv")}
+	bucket, err := CreateKeyValue(&config)
+	if err != nil {
+		t.Fatal(err)
+	}
+	bucket.Close()
+	config.History = 2
+	if _, err := CreateKeyValue(&config); !errors.Is(err, ErrOtherBucket) {
+		t.Fatalf("a file of another bucket: %v", err)
+	}
+	if err := os.WriteFile(config.Path, []byte("no journal"), 0o600); err != nil {
+		t.Fatal(err)
+	}
+	var damaged FileDamaged
+	if _, err := CreateKeyValue(&config); !errors.As(err, &damaged) || damaged.At != 0 || !errors.Is(err, ErrFileDamaged) {
+		t.Fatalf("a file of none: %v", err)
+	}
+}

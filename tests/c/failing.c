@@ -1,0 +1,173 @@
+/* Each call that the library makes of a file fails in turn, once or for good, a write behind half of its bytes; and each is cut
+ * short and interrupted. What was answered is there again at the next opening. */
+#define _GNU_SOURCE
+#include "vilgoued.h"
+#include "wanting.h"
+#include <errno.h>
+#include <fcntl.h>
+#include <stdarg.h>
+#include <stdio.h>
+#include <sys/stat.h>
+#include <unistd.h>
+
+static long left = -1, asked, interrupted;
+static bool once, slow;
+
+static bool fails(void) {
+    asked++;
+    if (left < 0)
+        return false;
+    if (left > 0 && left--)
+        return false;
+    if (once)
+        left = -1;
+    errno = EIO;
+    return true;
+}
+
+static bool is_interrupted(void) {
+    if (!slow || interrupted++ % 3)
+        return false;
+    errno = EINTR;
+    return true;
+}
+
+int __real_open(const char *path, int flags, ...);
+int __wrap_open(const char *path, int flags, ...) {
+    va_list more;
+    int mode;
+    va_start(more, flags);
+    mode = flags & O_CREAT ? va_arg(more, int) : 0;
+    va_end(more);
+    return fails() || is_interrupted() ? -1 : __real_open(path, flags, mode);
+}
+
+#define WRAPPED(result, name, parameters, arguments)                                                                   \
+    result __real_##name parameters;                                                                                   \
+    result __wrap_##name parameters {                                                                                  \
+        return fails() ? -1 : __real_##name arguments;                                                                 \
+    }
+WRAPPED(int, flock, (int file, int asked_for), (file, asked_for))
+WRAPPED(int, fstat, (int file, struct stat *found), (file, found))
+WRAPPED(int, stat, (const char *path, struct stat *found), (path, found))
+WRAPPED(int, fsync, (int file), (file))
+WRAPPED(int, fdatasync, (int file), (file))
+WRAPPED(int, ftruncate, (int file, off_t size), (file, size))
+WRAPPED(int, getentropy, (void *room, size_t size), (room, size))
+
+ssize_t __real_pread(int file, void *room, size_t size, off_t at);
+ssize_t __wrap_pread(int file, void *room, size_t size, off_t at) {
+    if (fails() || is_interrupted())
+        return -1;
+    return __real_pread(file, room, slow && size > 5 ? 5 : size, at);
+}
+
+ssize_t __real_pwrite(int file, const void *bytes, size_t size, off_t at);
+ssize_t __wrap_pwrite(int file, const void *bytes, size_t size, off_t at) {
+    if (is_interrupted())
+        return -1;
+    if (fails()) {
+        WANT(__real_pwrite(file, bytes, size / 2, at) == (ssize_t)(size / 2));
+        errno = EIO;
+        return -1;
+    }
+    return __real_pwrite(file, bytes, slow && size > 3 ? 3 : size, at);
+}
+
+static const kv_limits limits = {2, 1048576, 1000000, 4294967295};
+
+static uint64_t opened(kv_bucket *b, uint64_t sync) {
+    uint64_t dropped, at;
+    return kv_open_file(b, B("failing.kv"), B("settings"), &limits, sync, &dropped, &at);
+}
+
+static uint64_t last_of(kv_bucket *b) {
+    kv_status status;
+    WANT(kv_get_status(b, &status) == KV_OK);
+    return status.last;
+}
+
+/* Writes until one is refused, and tells how many were answered. *known is how many of them are on the disk. */
+static uint64_t writes(uint64_t sync, uint64_t *known) {
+    kv_bucket b = {0};
+    kv_batch batch = {0};
+    uint64_t answered = 0, revision = 77, floor = 77, code = opened(&b, sync);
+    size_t at = 77;
+    bool all;
+    *known = 0;
+    if (code != KV_OK) {
+        WANT(code == KV_FILE_FAULT && !b.is_open);
+        return 0;
+    }
+    while (answered < 4 && (code = kv_put(&b, B("a"), B("a value"), &revision)) == KV_OK) {
+        answered++;
+        WANT(revision == answered);
+        *known = sync == KV_SYNC_EACH ? answered : 0;
+    }
+    if (code == KV_OK) {
+        WANT(kv_batch_put(&batch, B("b"), B("1")) == KV_OK && kv_batch_put(&batch, B("b"), B("2")) == KV_OK);
+        code = kv_batch_write(&b, &batch, &revision, &at);
+        WANT(at == 77 && (code == KV_OK) == !batch.is_open);
+        answered += code == KV_OK ? 2 : 0;
+        kv_batch_close(&batch);
+    }
+    if (code == KV_OK)
+        code = kv_sync(&b);
+    *known = code == KV_OK ? answered : *known;
+    if (code == KV_OK)
+        code = kv_compact(&b, 1, &floor);
+    if (code == KV_OK)
+        code = kv_seal(&b);
+    WANT(code == KV_OK || code == KV_FILE_FAULT);
+    WANT(last_of(&b) == answered && floor == 77);
+    revision = 77;
+    if (code != KV_OK)
+        /* It goes on to be refused, though the device has come back. */
+        WANT(kv_put(&b, B("a"), B("more"), &revision) == KV_FILE_FAULT && kv_sync(&b) == KV_FILE_FAULT && revision == 77);
+    all = kv_close(&b) == KV_OK;
+    WANT(!all || code == KV_OK);
+    return answered;
+}
+
+static void run(uint64_t sync) {
+    uint64_t known, answered = writes(sync, &known), again, code;
+    kv_bucket b = {0};
+    left = -1;
+    code = opened(&b, KV_SYNC_EACH);
+    /* A part of what a new file begins with stays where nothing can be taken back. */
+    if (code == KV_FILE_DAMAGED && answered == 0 && !once) {
+        WANT(unlink("failing.kv") == 0);
+        return;
+    }
+    WANT(code == KV_OK);
+    again = last_of(&b);
+    /* The call that was refused may be in the file, a batch as a whole. */
+    WANT(again >= known && again <= (answered == 4 ? 6 : answered + 1));
+    WANT(kv_close(&b) == KV_OK && unlink("failing.kv") == 0);
+}
+
+static void all_in_turn(uint64_t sync, bool is_once) {
+    long total;
+    asked = 0;
+    run(sync);
+    total = asked;
+    for (long k = 0; k < total; k++) {
+        left = k;
+        once = is_once;
+        run(sync);
+    }
+    printf("%ld calls failed in turn\n", total);
+}
+
+int main(int count, char **words) {
+    WANT(count < 2 || chdir(words[1]) == 0);
+    for (uint64_t sync = 0; sync < 4; sync++) {
+        all_in_turn(sync, false);
+        all_in_turn(sync, true);
+    }
+    left = -1;
+    slow = true;
+    for (uint64_t sync = 0; sync < 4; sync++)
+        run(sync);
+    return 0;
+}
