@@ -60,10 +60,6 @@ class Bucket(Reads):
             check(code, place.value)
         self.dropped = dropped.value
 
-    def close(self) -> None:
-        """Frees what is held. What is closed stays so. A file ends cleanly, with all on the disk: `FileFault` where it does not."""
-        check(self._kv_close(self._at))
-
     def __exit__(
         self, kind: Optional[Type[BaseException]], error: Optional[BaseException], trace: Optional[TracebackType]
     ) -> None:
@@ -177,5 +173,5 @@ class Bucket(Reads):
 
     def close(self) -> None:
         """Frees the bucket. Who follows comes to the end, and each later call is Closed. What is closed stays so. A file ends
-        cleanly, with all on the disk; where that fails nothing tells, and a `sync` before does."""
-        super().close()
+        cleanly, with all on the disk: it is FileFault where that fails, or had failed, and frees the bucket all the same."""
+        check(self._kv_close(self._at))

@@ -130,7 +130,8 @@ class Refusals(unittest.TestCase):
             # What comes in scripts and on the threads of Rattle alone has no class.
             if code not in (15, 16, 17, 18):
                 self.assertEqual(own[name], code)
-        self.assertEqual(set(own) - set(rules), {"Closed", "TooLittleRoom", "OpenAlready", "NoSuchStart", "OlderView", "OtherBucket", "NoDescriptor"})
+        self.assertEqual(set(own) - set(rules), {"FileFault", "FileDamaged", "FileBusy", "OtherBucket", "Closed", "TooLittleRoom", "OpenAlready",
+                                                 "NoSuchStart", "OlderView", "NoDescriptor"})
         self.assertEqual(set(refusals.__all__), {"KvError", *own})
 
 
