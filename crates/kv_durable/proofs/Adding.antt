@@ -7,7 +7,7 @@ use Rattle.kv_frames.specs.Frames.{ArePayloads, frames}
 use Rattle.kv_model.specs.Acts.{Act}
 use Rattle.kv_model.specs.Configuration.{Configuration}
 use Rattle.kv_journal.specs.Entries.{AreLawful, Entry, acts_in, acts_of, payloads_of}
-use Rattle.kv_durable.specs.Bases.{Base, IsLawfulBase, acts_before, base_payloads, fresh, opening}
+use Rattle.kv_durable.specs.Bases.{Base, IsLawfulBase, acts_before, base_payloads}
 use Rattle.kv_durable.specs.Files.{IsBetween, file_of, frames_behind}
 use Rattle.kv_durable.specs.Journals.{CanFollow, HasAdded, IsLeft, Keeps}
 use Rattle.kv_durable.specs.declared.journal.Journal.{Journal}

@@ -7,11 +7,10 @@ use Rattle.kv_frames.specs.Reading.{HasForeign}
 use Rattle.kv_frames.proofs.Reading.{one_reading as frames_once}
 use Rattle.kv_frames.proofs.Tails.{written_or_foreign}
 use Rattle.kv_model.specs.Acts.{IsPrefix}
-use Rattle.kv_model.specs.Configuration.{Configuration, IsLegal}
-use Rattle.kv_journal.specs.Header.{beginning}
+use Rattle.kv_model.specs.Configuration.{IsLegal}
 use Rattle.kv_journal.specs.Entries.{Entry, payload_of, payloads_of, acts_of, AreLawful}
 use Rattle.kv_journal.proofs.Going.{acts_of-append}
-use Rattle.kv_durable.specs.Bases.{Base, IsLawfulBase, acts_before, base_payloads, fresh, opening}
+use Rattle.kv_durable.specs.Bases.{Base, IsLawfulBase, acts_before, opening}
 use Rattle.kv_durable.specs.Files.{HasForgery, IsBeginning, IsBetween, Reads, file_of}
 use Rattle.kv_durable.proofs.Bytes.{start, end_is, splits, one_seed}
 use Rattle.kv_durable.proofs.Once.{lawful_front, one_list}

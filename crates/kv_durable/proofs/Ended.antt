@@ -2,14 +2,13 @@
 use Rattle.std.proofs.Common.{◌≡◌, ℕ, Bool, List, [], ◌++◌, length, refl, sym, ap, ◌∙◌, subst, arith, append_assoc, append-nil}
 use Rattle.kv_frames.specs.Frames.{frames}
 use Rattle.kv_model.specs.Acts.{Act, IsPrefix, writes_of}
-use Rattle.kv_model.specs.Configuration.{Configuration}
 use Rattle.kv_model.specs.State.{State}
 use Rattle.kv_single.specs.Held.{Represents}
 use Rattle.kv_journal.specs.Entries.{Entry, acts_of, payloads_of}
 use Rattle.kv_journal.specs.Records.{closed}
 use Rattle.kv_durable.specs.Durables.{IsAt, IsHanded}
 use Rattle.kv_durable.specs.Endings.{IsClosed, end_of}
-use Rattle.kv_durable.specs.Bases.{Base, IsLawfulBase, acts_before, base_payloads, fresh, opening}
+use Rattle.kv_durable.specs.Bases.{Base, acts_before}
 use Rattle.kv_durable.specs.Files.{IsBetween, file_of, frames_behind}
 use Rattle.kv_durable.specs.Journals.{AddsFrames, CanFollow, IsFrameOf, IsLeft, Keeps, LeavesFrames, told_next}
 use Rattle.kv_durable.specs.declared.durable.Durable.{Durable}

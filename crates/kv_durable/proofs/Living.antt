@@ -7,7 +7,7 @@ use Rattle.kv_model.specs.Acts.{Act, IsPrefix}
 use Rattle.kv_model.specs.Configuration.{Configuration, IsLegal}
 use Rattle.kv_model.specs.State.{State, empty}
 use Rattle.kv_journal.specs.Entries.{AreLawful, Entry, acts_of, payloads_of}
-use Rattle.kv_durable.specs.Bases.{Base, IsLawfulBase, acts_before, fresh, replaced_by}
+use Rattle.kv_durable.specs.Bases.{Base, acts_before, replaced_by}
 use Rattle.kv_durable.specs.Durables.{IsAt, IsRecorded, state_of}
 use Rattle.kv_durable.specs.Files.{HasForgery, IsBetween, Reads, file_of}
 use Rattle.kv_durable.specs.Lives.{ComesBack, Follows, GoesOn, Lives, lived}

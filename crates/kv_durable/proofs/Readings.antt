@@ -1,5 +1,5 @@
 -- What is read of the bytes of a file.
-use Rattle.std.proofs.Common.{◌≡◌, ℕ, ◌+◌, ◌^◌, ◌<◌, List, [], ◌∷◌, ◌++◌, Option, Some, None, length, drop, refl, sym, ap, ◌∙◌, subst, append_assoc, append-nil, length-append, arith}
+use Rattle.std.proofs.Common.{◌≡◌, ℕ, ◌+◌, ◌^◌, ◌<◌, List, ◌++◌, Option, Some, None, length, drop, refl, sym, ap, ◌∙◌, subst, append_assoc, length-append}
 use Rattle.std.proofs.lemmas.List.{append_cancel_left, drop_at}
 use Rattle.kv_frames.specs.Frames.{ArePayloads, frame, frames, place_after, Splits}
 use Rattle.kv_frames.proofs.Reading.{place_is}
@@ -7,11 +7,11 @@ use Rattle.kv_model.specs.Acceptance.{IsLawful}
 use Rattle.kv_model.specs.Acts.{Act}
 use Rattle.kv_model.specs.Configuration.{Configuration, IsLegal}
 use Rattle.kv_journal.specs.Checkpoints.{checkpoint_of, checkpoint_payloads}
-use Rattle.kv_journal.specs.Header.{BeginsWith, beginning, configuration_payload, header}
+use Rattle.kv_journal.specs.Header.{BeginsWith, beginning, configuration_payload}
 use Rattle.kv_journal.specs.Damage.{ShowsDamage}
 use Rattle.kv_journal.specs.Entries.{Entry, payloads_of, AreLawful}
 use Rattle.kv_journal.proofs.Front.{configuration_fits, one_header}
-use Rattle.kv_durable.specs.Bases.{Base, IsBaseOf, IsLawfulBase, acts_before, base_payloads, fresh, opening, replaced_by}
+use Rattle.kv_durable.specs.Bases.{Base, IsBaseOf, acts_before, base_payloads, fresh, opening, replaced_by}
 use Rattle.kv_durable.specs.Files.{Reads, file_of}
 use Rattle.kv_durable.proofs.Bytes.{base_frames, start, end_is, fresh_opening, header_first, one_seed, reads_frames, splits}
 use Rattle.kv_durable.specs.Openings.{TellsBase}

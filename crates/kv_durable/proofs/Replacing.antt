@@ -1,5 +1,5 @@
 -- A journal whose file is replaced.
-use Rattle.std.proofs.Common.{◌≡◌, ◌⊎◌, ℕ, ◌^◌, ◌<◌, Bool, List, [], ◌++◌, refl, sym, ap, ◌∙◌, subst, append-nil, ⊎_elim, inl, inr}
+use Rattle.std.proofs.Common.{◌≡◌, ◌⊎◌, ℕ, ◌^◌, ◌<◌, Bool, List, [], refl, sym, ap, ◌∙◌, subst, append-nil, inl, inr}
 use Rattle.kv_file.specs.Bytes.{Has}
 use Rattle.kv_file.specs.declared.replace.ReplaceFault.{ReplaceFault}
 use Rattle.kv_file.specs.declared.replace.ReplaceFault.TheVariants.{Unchanged, Unknown}
@@ -10,7 +10,7 @@ use Rattle.kv_model.specs.Configuration.{Configuration}
 use Rattle.kv_model.specs.State.{State}
 use Rattle.kv_single.specs.Held.{Represents}
 use Rattle.kv_store.specs.Standing.{StandsFor}
-use Rattle.kv_journal.specs.Entries.{Entry, acts_of}
+use Rattle.kv_journal.specs.Entries.{Entry}
 use Rattle.kv_durable.specs.Bases.{Base, IsLawfulBase, base_payloads, opening, replaced_by}
 use Rattle.kv_durable.specs.Durables.{IsAt}
 use Rattle.kv_durable.specs.Files.{file_of, frames_behind}

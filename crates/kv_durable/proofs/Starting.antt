@@ -1,9 +1,8 @@
 -- What stands before the entries of a file.
-use Rattle.std.proofs.Common.{◌≡◌, ℕ, Bool, true, false, List, [], ◌∷◌, ◌++◌, Option, Some, None, map, refl, sym, ap, ◌∙◌, subst}
+use Rattle.std.proofs.Common.{◌≡◌, ℕ, true, false, List, [], ◌∷◌, ◌++◌, Option, Some, None, map, refl, sym, ap, ◌∙◌, subst}
 use Rattle.std.specs.Prelude.{Result, Ok, Err, IfErr}
 use Rattle.std.proofs.lemmas.Bool.{true≢false}
 use Rattle.kv_frames.specs.Frames.{ArePayloads, Splits, frames, place_after}
-use Rattle.kv_model.specs.Acceptance.{IsLawful}
 use Rattle.kv_model.specs.Acts.{Act, Write}
 use Rattle.kv_model.specs.Configuration.{Configuration, IsLegal}
 use Rattle.kv_store.specs.Standing.{StandsFor}
@@ -12,9 +11,8 @@ use Rattle.kv_journal.specs.Checkpoints.{Checkpoint, checkpoint_of, checkpoint_p
 use Rattle.kv_journal.specs.Entries.{Entry, payloads_of}
 use Rattle.kv_journal.specs.Restored.{IsOnly, IsRestored}
 use Rattle.kv_journal.proofs.Restored.{stands_again}
-use Rattle.kv_durable.specs.Bases.{Base, IsBaseOf, acts_before, base_payloads, fresh, replaced_by}
+use Rattle.kv_durable.specs.Bases.{Base, IsBaseOf, acts_before, base_payloads}
 use Rattle.kv_durable.specs.Starts.{IsStarted}
-use Rattle.kv_durable.specs.declared.start.Started.{Started}
 
 -- a checkpoint has a payload
 not_nothing : (c : Checkpoint) → checkpoint_payloads c ≡ [] → ⊥

@@ -10,7 +10,7 @@ use Rattle.kv_model.specs.State.{State}
 use Rattle.kv_model.specs.declared.request.Request.{Request}
 use Rattle.kv_journal.specs.Entries.{AreLawful, Entry, acts_in, acts_of}
 use Rattle.kv_journal.specs.Records.{Content, did_all}
-use Rattle.kv_journal.proofs.Going.{acts_of-append, acts_of-push}
+use Rattle.kv_journal.proofs.Going.{acts_of-push}
 use Rattle.kv_durable.specs.Bases.{Base, acts_before}
 use Rattle.kv_durable.specs.Durables.{IsAt, IsRecorded}
 use Rattle.kv_durable.specs.Files.{HasForgery, IsBetween}

@@ -134,9 +134,7 @@ fn seed<T: RandomSource>(rt: &T) -> Result<u64, DurableError> {
 }
 
 /// What was opened, where its file begins with no checkpoint.
-fn without_checkpoint(
-    opened: Opened<SystemFile>,
-) -> Result<Opened<SystemFile>, DurableError>
+fn without_checkpoint(opened: Opened<SystemFile>) -> Result<Opened<SystemFile>, DurableError>
     ensures { IfOk result (λ o. (o ≡ opened) × (opened.checkpointed ≡ false)) }
 {
     if opened.checkpointed {

@@ -1,8 +1,8 @@
-use Rattle.std.proofs.Common.{◌≡◌, rules, ℕ, List, [], length, sym, ap, ◌∙◌, subst, arith}
+use Rattle.std.proofs.Common.{◌≡◌, rules, ℕ, List, length, sym, ap, ◌∙◌, subst, arith}
 use Rattle.kv_model.specs.Configuration.{Configuration, IsLegal}
-use Rattle.kv_journal.specs.Header.{BeginsWith, configuration_payload}
+use Rattle.kv_journal.specs.Header.{configuration_payload}
 use Rattle.kv_journal.specs.Damage.{ShowsDamage}
-use Rattle.kv_journal.specs.Entries.{AreLawful, Entry, acts_of}
+use Rattle.kv_journal.specs.Entries.{AreLawful, Entry}
 use Rattle.kv_durable.specs.Bases.{Base, IsBaseOf, acts_before}
 use Rattle.kv_durable.specs.Files.{Reads, file_of}
 use Rattle.kv_durable.specs.Refusals.{IsDamaged}

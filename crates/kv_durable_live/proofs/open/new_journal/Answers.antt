@@ -11,5 +11,5 @@ returns-in-Ok-clause-new g c =
     let config = c.args.config.now in
     IfOk-weaker c.journal_without_acts.result _ (λ journal. usable c.args.file ≡ true → has c.args.file [] [] → Keeps has usable (fresh config) [] [] journal)
     (λ journal is works h.
-        let new = (c.in-Ok.ensures.new works h).1 in
-        subst (λ j. Keeps has usable (fresh config) [] [] j) (sym is.0) (subst (λ (b : Base). Keeps has usable b [] [] c.in-Ok.opened.durable.journal) new.based new.at.keeps)) c.journal_without_acts.ensures.ok
+    let new = (c.in-Ok.ensures.new works h).1 in
+    subst (λ j. Keeps has usable (fresh config) [] [] j) (sym is.0) (subst (λ (b : Base). Keeps has usable b [] [] c.in-Ok.opened.durable.journal) new.based new.at.keeps)) c.journal_without_acts.ensures.ok

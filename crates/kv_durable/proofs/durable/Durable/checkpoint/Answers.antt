@@ -1,4 +1,4 @@
-use Rattle.std.proofs.Common.{◌≡◌, ℕ, List, Err, ◌∙◌, ap, inl, refl, sym, subst, ◌⊎◌, []}
+use Rattle.std.proofs.Common.{ℕ, Err, ◌∙◌, ap, inl, refl, sym, subst, ◌⊎◌, []}
 use Rattle.std.proofs.lemmas.Bool.{true≢false}
 use Rattle.kv_file.proofs.Added.{when_err}
 use Rattle.kv_single.specs.Held.{Bucketed}
