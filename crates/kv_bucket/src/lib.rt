@@ -20,7 +20,7 @@ pub use batch::BatchReceipt;
 pub use cached::Cached;
 pub use feed::Feed;
 pub use keeper::Keeper;
-pub use kv_publish::{Began, LiveName, Notifier, Woken};
+pub use kv_publish::{Began, ChosenActs, Known, LiveName, Notifier, Woken};
 pub use kv_single::{
     BatchRefused, Bucket, Call, Config, Cursor, Event, Filter, Filters, Key, KeyHistory, KvError,
     Op, Options, Place, Reply, Request, Rev, Seen, Short, Shown, Start, Status, Stopped, Taken,

@@ -77,6 +77,19 @@ pub struct Live<N: LiveName> {
 }
 
 impl Live<Brand> {
+    /// Whether there is an opening of this configuration for so many readers. The name is checked before the numbers, and
+    /// these before the number of readers.
+    pub fn check(config: &Config, readers: usize) -> Result<(), KvError>
+        ensures ok { OnOk result (may_open config.now readers ≡ Ok config.now) }
+        ensures refused { IfErr result (λ e. may_open config.now readers ≡ Err e) }
+    {
+        config.check()?;
+        if readers == 0 || readers > MOST_READERS {
+            return Err(KvError::NoReader);
+        }
+        Ok(())
+    }
+
     /// Opens an empty bucket for 1 to 32 readers. The name is checked before the numbers, and these before the number
     /// of readers.
     pub fn open(alloc: Global, config: &Config, readers: usize) -> Result<Opened, KvError>
@@ -86,7 +99,7 @@ impl Live<Brand> {
         ensures new { IfOk result (λ opened. opened.opening.book.began ≡ []) }
         ensures refused { IfErr result (λ e. Refuses e (may_open config.now readers)) }
     {
-        check(config, readers)?;
+        Live::check(config, readers)?;
         let bucket = Bucket::open(alloc, config)?;
         let empty = bucket.version().snapshot()?;
         Ok(Opened {
@@ -113,7 +126,7 @@ impl Live<Brand> {
         ensures began { IfOk result (λ opened. opened.opening.book.began ≡ B.acts) }
         ensures refused { IfErr result (λ e. Refuses e (may_open config.now readers)) }
     {
-        check(config, readers)?;
+        Live::check(config, readers)?;
         let empty = Version::empty(alloc, config)?;
         let fresh = FreshJournal::after::<B>(counted_in(&version));
         Ok(Opened {
@@ -135,18 +148,6 @@ fn counted_in(version: &Version) -> u64
     } else {
         0
     }
-}
-
-// Whether there is an opening of this configuration for so many readers.
-fn check(config: &Config, readers: usize) -> Result<(), KvError>
-    ensures ok { OnOk result (may_open config.now readers ≡ Ok config.now) }
-    ensures refused { IfErr result (λ e. may_open config.now readers ≡ Err e) }
-{
-    config.check()?;
-    if readers == 0 || readers > MOST_READERS {
-        return Err(KvError::NoReader);
-    }
-    Ok(())
 }
 
 fn readers_and_notifier<N: LiveName>(

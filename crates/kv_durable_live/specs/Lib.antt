@@ -1,2 +1,3 @@
 pub mod Sharing
 pub mod Lives
+pub mod Openings

@@ -26,7 +26,7 @@ impl<N: LiveName, F: JournalFile> DurableKeeper<N, F> {
     pub fn keeper(&self) -> &Keeper<N>
         ensures value { result.now ≡ self.now.keeper }
         ensures state { IsSomewhere N.opening.config self.now.keeper }
-        ensures history { IsPublishedHistory N.opening.config self.now.keeper.published }
+        ensures history { IsPublishedHistory N.opening self.now.keeper.published }
     {
         self.keeper.bucket();
         &self.keeper

@@ -1,15 +1,18 @@
 //! The bucket that threads share by reference, and its opening on a file.
 
-ghost use Rattle.std.specs.Prelude.{◌≡◌, List, IfErr, IfOk, true};
+ghost use Rattle.std.specs.Prelude.{◌≡◌, [], List, IfErr, IfOk, IsOk, map, true};
 ghost use Rattle.std.specs.Sync.Mutex.{mutex_guard_value};
+ghost use Rattle.kv_bucket.specs.Batches.{RefusedAllSomewhere, WritesAllSomewhere};
 ghost use Rattle.kv_bucket.specs.Histories.{IsPublishedHistory};
 ghost use Rattle.kv_bucket.specs.Keeping.{IsSomewhere, PublishesWrite, RefusedSomewhere, WritesSomewhere};
 ghost use Rattle.kv_durable.specs.Durables.{IsRefusal};
-ghost use Rattle.kv_durable.specs.declared.error.DurableError.TheVariants.{Refused};
+ghost use Rattle.kv_durable.specs.declared.error.BatchError.TheVariants as batches;
+ghost use Rattle.kv_durable.specs.declared.error.DurableError.TheVariants.{FileFault, Refused};
 ghost use Rattle.kv_keys.specs.declared.error.KvError.{KvError as AnError};
 ghost use Rattle.kv_model.specs.Acceptance.{IsLawful};
 ghost use Rattle.kv_model.specs.Acts.{Act};
 ghost use Rattle.kv_model.specs.Requests.{asked};
+ghost use Rattle.kv_model.specs.declared.batch.BatchRefused.{BatchRefused as ARefusal};
 
 use crate::keeper::DurableKeeper;
 use kv_bucket::{LiveName, Notifier, Receipt};
@@ -58,12 +61,28 @@ fn write_and_tell<N: LiveName, F: JournalFile, R: Wait>(
     Ok(told)
 }
 
+// Writes all. What is answered is what the rules give after the acts that were published before, which are lawful.
+fn write_all_on<N: LiveName, F: JournalFile, R: Wait>(
+    rt: &R,
+    keeper: &mut DurableKeeper<N, F>,
+    requests: &[Request],
+) -> Result<u64, BatchError>
+    ensures ok { IfOk result (λ first. (requests.now ≡ [] → ⊥) →
+        (later : List Act) × WritesAllSomewhere N.opening.config (map asked requests.now) first later) }
+    ensures none { requests.now ≡ [] → IsOk result }
+    ensures refused { IfErr result (λ e. (x : ARefusal) → e ≡ batches.Refused x →
+        RefusedAllSomewhere N.opening.config (map asked requests.now) x) }
+{
+    keeper.keeper();
+    keeper.write_all(rt, requests)
+}
+
 impl<N: LiveName, F: JournalFile> DurableLive<N, F> {
     /// The keeper, for several calls in a row, at a state of the model, whose acts are those that are published: one history, of
     /// which all that anybody has seen or was told is a beginning. It waits until the lock is free.
     pub fn lock<R: Wait>(&self, rt: &R) -> MutexGuard<'_, DurableKeeper<N, F>>
         ensures state { IsSomewhere N.opening.config (mutex_guard_value result).keeper }
-        ensures history { IsPublishedHistory N.opening.config (mutex_guard_value result).keeper.published }
+        ensures history { IsPublishedHistory N.opening (mutex_guard_value result).keeper.published }
     {
         let keeper = self.keeper.lock(rt);
         keeper.keeper();
@@ -101,8 +120,15 @@ impl<N: LiveName, F: JournalFile> DurableLive<N, F> {
     }
 
     /// Does all that is asked in one step, or nothing, as `DurableKeeper::write_all` does.
-    pub fn write_all<R: Wait>(&self, rt: &R, requests: &[Request]) -> Result<u64, BatchError> {
-        self.keeper.lock(rt).write_all(rt, requests)
+    pub fn write_all<R: Wait>(&self, rt: &R, requests: &[Request]) -> Result<u64, BatchError>
+        ensures ok { IfOk result (λ first. (requests.now ≡ [] → ⊥) →
+            (later : List Act) × WritesAllSomewhere N.opening.config (map asked requests.now) first later) }
+        ensures none { requests.now ≡ [] → IsOk result }
+        ensures refused { IfErr result (λ e. (x : ARefusal) → e ≡ batches.Refused x →
+            RefusedAllSomewhere N.opening.config (map asked requests.now) x) }
+    {
+        let mut keeper = self.keeper.lock(rt);
+        write_all_on(rt, &mut *keeper, requests)
     }
 
     /// Ends writes, as `DurableKeeper::seal` does.
@@ -119,8 +145,10 @@ impl<N: LiveName, F: JournalFile> DurableLive<N, F> {
         self.keeper.lock(rt).compact(rt, floor)
     }
 
-    /// Brings all that was accepted onto the disk.
-    pub fn sync<R: Wait>(&self, rt: &R) -> Result<(), DurableError> {
+    /// Brings all that was accepted onto the disk. Where the file fails, or has failed, it is a FileFault, and no other.
+    pub fn sync<R: Wait>(&self, rt: &R) -> Result<(), DurableError>
+        ensures err { IfErr result (λ e. e ≡ FileFault) }
+    {
         self.keeper.lock(rt).sync()
     }
 

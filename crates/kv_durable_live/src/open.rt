@@ -1,19 +1,23 @@
 //! Opening a durable bucket that threads share.
 
-ghost use Rattle.std.specs.Prelude.{◌≡◌, [], Ok, All, length, true, false, if◌then◌else◌, IfErr, IfOk};
+ghost use Rattle.std.specs.Prelude.{◌≡◌, List, [], Ok, All, length, false, true, IfErr, IfOk};
 ghost use Rattle.kv_bucket.specs.Keeping.{may_open};
 ghost use Rattle.kv_durable.specs.Bases.{fresh};
+ghost use Rattle.kv_durable.specs.Durables.{state_of};
 ghost use Rattle.kv_durable.specs.Journals.{Keeps};
+ghost use Rattle.kv_durable.specs.Openings.{HasRead};
+ghost use Rattle.kv_durable_live.specs.Openings.{GoesOnFrom};
 ghost use Rattle.kv_durable_live.specs.Sharing.{IsAt};
-ghost use Rattle.kv_durable_live.specs.declared.open.OpenError.TheVariants.{HasActs, HasCheckpoint};
-ghost use Rattle.kv_model.specs.State.{empty};
+ghost use Rattle.kv_journal.specs.Entries.{Entry, acts_of};
+ghost use Rattle.kv_single.specs.Held.{Represents};
 
 use crate::keeper::DurableKeeper;
 use crate::live::DurableLive;
-use kv_bucket::{Config, Live, LiveName, Notifier, Reader};
+use kv_bucket::{Began, Bucket, ChosenActs, Config, KvError, Live, LiveName, Notifier, Reader};
 use kv_durable::{Durable, DurableError, Journal, JournalFile, NotDone, Sync};
 use std::alloc::Global;
 use std::marker::Brand;
+use std::snapshot::Snapshot;
 use std::sync::{Mutex, Wait};
 
 /// An opening that has no name yet, and its file.
@@ -27,10 +31,8 @@ pub struct Opened<F: JournalFile> {
 pub enum OpenError {
     /// As `Durable::open` refuses it, or `Live::open`.
     Refused(DurableError),
-    /// The file has acts. What is published begins with no act, so only an empty file is opened for threads; open such a file
-    /// by `Durable::open`.
-    HasActs,
-    /// The file begins with a checkpoint, which stands in place of acts.
+    /// The file begins with a checkpoint. What is published begins with acts, and the file does not tell those in whose place a
+    /// checkpoint stands; open such a file by `Durable::open`.
     HasCheckpoint,
 }
 
@@ -41,56 +43,79 @@ pub struct NotOpened<F> {
     pub file: F,
 }
 
-// The journal of a file that has no acts, and no checkpoint.
-fn journal_without_acts<F: JournalFile>(
+// The bucket of an opening, of which what is published begins with these acts.
+fn opened_from<B: Began>(
+    alloc: Global,
+    config: &Config,
+    bucket: &Bucket,
+    readers: usize,
+) -> Result<kv_bucket::Opened, KvError>
+    requires { Represents (state_of config.now B.acts) bucket.now }
+    ensures ok { IfOk result (λ o. (may_open config.now readers ≡ Ok config.now) × (o.opening.config ≡ config.now)
+        × (o.readers ≡ readers)) }
+    ensures began { IfOk result (λ o. o.opening.book.began ≡ B.acts) }
+{
+    let version = bucket.version().snapshot()?;
+    Live::open_from::<B>(alloc, config, version, readers)
+}
+
+// The opening whose acts are these.
+fn named<B: Began, F: JournalFile>(
+    alloc: Global,
+    config: &Config,
+    acts: &ChosenActs,
     durable: Durable<F>,
-    checkpointed: bool,
-) -> Result<Journal<F>, NotOpened<F>>
-    ensures ok { IfOk result (λ journal. (journal ≡ durable.journal) × (checkpointed ≡ false)) }
-    ensures err { IfErr result (λ r. (r.error ≡ (if checkpointed then HasCheckpoint else HasActs))
-        × (r.file ≡ durable.journal.appender.file)) }
+    readers: usize,
+) -> Result<Opened<F>, NotOpened<F>>
+    requires acts { B.acts ≡ acts.now }
+    requires represents { Represents (state_of config.now B.acts) durable.bucket }
+    ensures ok { IfOk result (λ o. (may_open config.now readers ≡ Ok config.now)
+        × (o.opened.opening.config ≡ config.now) × (o.opened.readers ≡ readers)) }
+    ensures began { IfOk result (λ o. o.opened.opening.book.began ≡ acts.now) }
+    ensures journal { IfOk result (λ o. o.journal ≡ durable.journal) }
 {
     let (bucket, journal) = durable.into_parts();
-    if checkpointed {
+    match opened_from::<B>(alloc, config, &bucket, readers) {
+        Ok(opened) => Ok(Opened { opened, journal }),
+        Err(error) => Err(NotOpened {
+            error: OpenError::Refused(DurableError::Refused(error)),
+            file: journal.into_file(),
+        }),
+    }
+}
+
+// The opening of what was read of a file.
+fn of_read<F: JournalFile>(
+    alloc: Global,
+    config: &Config,
+    before: &Snapshot<F>,
+    read: kv_durable::Opened<F>,
+    readers: usize,
+) -> Result<Opened<F>, NotOpened<F>>
+    requires { read.checkpointed ≡ false → (entries : List Entry)
+        × HasRead F.has F.usable config.now before.now.value entries read.durable read.dropped }
+    ensures ok { IfOk result (λ o. (may_open config.now readers ≡ Ok config.now)
+        × (o.opened.opening.config ≡ config.now) × (o.opened.readers ≡ readers)) }
+    ensures from { IfOk result (λ o.
+        GoesOnFrom F.has F.usable config.now before.now.value o.journal o.opened.opening.book.began) }
+    ensures journal { IfOk result (λ o. o.journal ≡ read.durable.journal) }
+{
+    if read.checkpointed {
+        let (_, journal) = read.durable.into_parts();
         return Err(NotOpened {
             error: OpenError::HasCheckpoint,
             file: journal.into_file(),
         });
     }
-    if bucket.version().revision() > 0 || bucket.version().sealed() {
-        return Err(NotOpened {
-            error: OpenError::HasActs,
-            file: journal.into_file(),
-        });
-    }
-    Ok(journal)
-}
-
-// The journal of a new file.
-fn new_journal<F: JournalFile>(
-    alloc: Global,
-    config: &Config,
-    file: F,
-    seed: u64,
-    sync: Sync,
-) -> Result<Journal<F>, NotOpened<F>>
-    ensures new { IfOk result (λ journal. F.usable file ≡ true → F.has file [] [] →
-        Keeps F.has F.usable (fresh config.now) [] [] journal) }
-    ensures sync { IfOk result (λ journal. journal.appender.sync ≡ sync) }
-{
-    match Durable::open(alloc, config, file, seed, sync) {
-        Ok(opened) => journal_without_acts(opened.durable, opened.checkpointed),
-        Err(refused) => Err(NotOpened {
-            error: OpenError::Refused(refused.error),
-            file: refused.file,
-        }),
-    }
+    let about = (config, before, &read);
+    let acts = ChosenActs::of::<Brand, _>(&about);
+    named::<Brand, F>(alloc, config, &acts, read.durable, readers)
 }
 
 impl<F: JournalFile> DurableLive<Brand, F> {
-    /// Opens a new bucket on an empty file, for 1 to 32 readers. The configuration and the number of readers are checked before
-    /// the file is touched. Choose the seed at random, and another for each file. A file with acts is refused: what is published
-    /// of an opening begins with no act.
+    /// Opens the bucket of a file, for 1 to 32 readers. An empty file is made that of a new bucket, with this seed, and any other
+    /// goes on, as `Durable::open` does it: what is published begins with the acts that the file has. The configuration and the
+    /// number of readers are checked before the file is touched.
     pub fn open(
         alloc: Global,
         config: &Config,
@@ -102,35 +127,42 @@ impl<F: JournalFile> DurableLive<Brand, F> {
         ensures ok { IfOk result (λ o. (may_open config.now readers ≡ Ok config.now)
             × (o.opened.opening.config ≡ config.now) × (o.opened.readers ≡ readers)) }
         ensures new { IfOk result (λ o. F.usable file ≡ true → F.has file [] [] →
-            Keeps F.has F.usable (fresh config.now) [] [] o.journal) }
+            Keeps F.has F.usable (fresh config.now) [] [] o.journal × (o.opened.opening.book.began ≡ [])) }
+        ensures from { IfOk result (λ o.
+            GoesOnFrom F.has F.usable config.now file o.journal o.opened.opening.book.began) }
         ensures sync { IfOk result (λ o. o.journal.appender.sync ≡ sync) }
     {
-        match Live::open(alloc, config, readers) {
-            Ok(opened) => {
-                let journal = new_journal(alloc, config, file, seed, sync)?;
-                Ok(Opened { opened, journal })
-            }
-            Err(error) => Err(NotOpened {
+        if let Err(error) = Live::check(config, readers) {
+            return Err(NotOpened {
                 error: OpenError::Refused(DurableError::Refused(error)),
                 file,
+            });
+        }
+        let before = Snapshot::of(&file);
+        match Durable::open(alloc, config, file, seed, sync) {
+            Ok(read) => of_read(alloc, config, &before, read, readers),
+            Err(refused) => Err(NotOpened {
+                error: OpenError::Refused(refused.error),
+                file: refused.file,
             }),
         }
     }
 }
 
 impl<F: JournalFile> Opened<F> {
-    /// What lies under the lock, under a name, what tells its readers, and these, which have seen nothing. Where it is refused
-    /// the opening ends, and the file has what a new bucket's file begins with.
+    /// What lies under the lock, under a name, what tells its readers, and these, which have seen nothing and are told of the acts
+    /// that the file had. Where it is refused the opening ends, and the file is as it was opened.
     pub(crate) fn keeper<N: LiveName, R: Wait>(
         self,
         rt: &R,
     ) -> Result<(DurableKeeper<N, F>, Notifier<N>, Vec<Reader<N>>), NotDone<F>>
         requires { self.opened.opening ≡ N.opening }
-        ensures at { IfOk result (λ r. Keeps F.has F.usable (fresh N.opening.config) [] [] self.journal →
-            IsAt F.has F.usable (empty N.opening.config) [] [] r.0.keeper r.0.journal) }
+        ensures at { IfOk result (λ r. (entries : List Entry) → N.opening.book.began ≡ acts_of entries →
+            Keeps F.has F.usable (fresh N.opening.config) entries [] self.journal →
+            IsAt F.has F.usable (state_of N.opening.config N.opening.book.began) entries [] r.0.keeper r.0.journal) }
         ensures ok { IfOk result
             (λ r. (r.0.journal ≡ self.journal) × (length r.2.items ≡ self.opened.readers)
-            × All (λ reader. (reader.seen ≡ []) × (reader.told ≡ [])) r.2.items) }
+            × All (λ reader. (reader.seen ≡ []) × (reader.told ≡ N.opening.book.began)) r.2.items) }
     {
         let Opened { opened, journal } = self;
         match opened.keeper::<N, R>(rt) {
@@ -146,8 +178,8 @@ impl<F: JournalFile> Opened<F> {
         }
     }
 
-    /// The bucket under a name, and its readers, which have seen nothing. Where it is refused the opening ends, and the file has
-    /// what a new bucket's file begins with.
+    /// The bucket under a name, and its readers, which have seen nothing and are told of the acts that the file had: all that they
+    /// see begins with these. Where it is refused the opening ends, and the file is as it was opened.
     pub fn live<N: LiveName, R: Wait>(
         self,
         rt: &R,
@@ -155,7 +187,7 @@ impl<F: JournalFile> Opened<F> {
         requires { self.opened.opening ≡ N.opening }
         ensures ok { IfOk result
             (λ r. (length r.1.items ≡ self.opened.readers)
-            × All (λ reader. (reader.seen ≡ []) × (reader.told ≡ [])) r.1.items) }
+            × All (λ reader. (reader.seen ≡ []) × (reader.told ≡ N.opening.book.began)) r.1.items) }
     {
         let (keeper, notifier, readers) = self.keeper::<N, R>(rt)?;
         let live = DurableLive {

@@ -1,3 +1,4 @@
+pub mod Choosing
 pub mod Former
 pub mod Histories
 pub mod Prefixes

@@ -17,10 +17,10 @@ moved ask xs ys n = Unit {0}
 
 -- ---- cells that are at home stay there
 
-abbrev StayHome : List Cell → List Cell → Type 0
+abbrev pub StayHome : List Cell → List Cell → Type 0
 StayHome before after = (k : ℕ) → (cell before k).1 ≡ true → (cell after k).1 ≡ true
 
-stay_set : (cells : List Cell) (k n : ℕ) → StayHome cells (set cells k (n, true))
+pub stay_set : (cells : List Cell) (k n : ℕ) → StayHome cells (set cells k (n, true))
 stay_set [] k n j home = home
 stay_set (c ∷ cells) zero n zero home = refl
 stay_set (c ∷ cells) zero n (suc j) home = home
@@ -32,7 +32,7 @@ stay_behind [] c j home = absurd (cc home)
 stay_behind (x ∷ cells) c zero home = home
 stay_behind (x ∷ cells) c (suc j) home = stay_behind cells c j home
 
-home_set : (cells : List Cell) (k n : ℕ) → k < length cells → (cell (set cells k (n, true)) k).1 ≡ true
+pub home_set : (cells : List Cell) (k n : ℕ) → k < length cells → (cell (set cells k (n, true)) k).1 ≡ true
 home_set [] k n l = absurd (omega arith)
 home_set (c ∷ cells) zero n l = refl
 home_set (c ∷ cells) (suc k) n l = home_set cells k n (omega arith)
@@ -41,7 +41,7 @@ away_behind : (cells : List Cell) → (cell cells (length cells)).1 ≡ false
 away_behind [] = refl
 away_behind (c ∷ cells) = away_behind cells
 
-came_still : (before after : List Cell) (log : List Entry) → StayHome before after → Came before log → Came after log
+pub came_still : (before after : List Cell) (log : List Entry) → StayHome before after → Came before log → Came after log
 came_still before after [] stay came = tt
 came_still before after (e ∷ log) stay came = (stay e.right came.0, came_still before after log stay came.1)
 
@@ -51,7 +51,7 @@ came_more cells (x ∷ log) e came home = (came.0, came_more cells log e came.1 
 
 -- ---- the steps
 
-no_cells : (log : List Entry) → IsKept [] log → ⊥
+pub no_cells : (log : List Entry) → IsKept [] log → ⊥
 no_cells log kept = cc (kept.head)
 
 makes_goes : (c : Cell) (cells : List Cell) (log v : List Entry) (ask : Entry) → IsKept (c ∷ cells) log

@@ -72,6 +72,10 @@ abbrev pub Adding : Step Entry → View Entry ℕ → ℕ → View Entry ℕ →
 Adding s v found w = (first : ℕ) → s.ask.right ≡ right_behind first (history_from first v.0) →
     history_from first w.0 ≡ history_from first v.0 ++ s.ask ∷ []
 
+-- acts of which this is known were added by a right by which nothing was added before, and no other act ever will be by it
+abbrev pub Choosing : (List Act → Type 0) → Step Entry → View Entry ℕ → ℕ → View Entry ℕ → Type 0
+Choosing holds s v found w = (key : ℕ) → v.1.0 ≡ nib may_write key 0 → holds (acts_in (history_from key w.0))
+
 -- the pen stays; where it is the right to add an entry behind some that were seen of a history, these are all that it has
 abbrev pub Looking : Step Entry → View Entry ℕ → ℕ → View Entry ℕ → Type 0
 Looking s v found w = (w.1.0 ≡ v.1.0) ×

@@ -4,6 +4,7 @@
 #![tactic(auto)]
 
 mod adaptive_spin;
+mod chosen_acts;
 mod double_buffer;
 mod entry;
 mod ghost_act;
@@ -19,13 +20,14 @@ mod side;
 mod step;
 mod witness;
 
+pub use chosen_acts::ChosenActs;
 pub use double_buffer::DoubleBuffer;
 pub use ghost_act::GhostAct;
 pub use journal::{FreshJournal, Journal};
 pub use last_published::LastPublished;
 pub use notifier::{Notifier, Woken};
 pub use prefix::{Prefix, RawPrefix};
-pub use protocol::{Began, LiveName};
+pub use protocol::{Began, Known, LiveName};
 pub use publication::Publication;
 pub use rule::{Gets, PublishRule};
 pub use side::{Right, Side};

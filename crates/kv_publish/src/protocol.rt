@@ -148,6 +148,41 @@ impl Plain<(), Entry, u64> for Looks {
     ghost state = { λ about. None };
 }
 
+/// Says what is known of acts.
+///
+/// A function generic over it is called with std's `Brand`.
+pub trait Known {
+    ghost use Rattle.std.specs.Prelude.{List};
+    ghost use Rattle.kv_model.specs.Acts.{Act};
+
+    ghost holds: { List Act → Type 0 };
+}
+
+impl Known for Brand {
+    ghost holds = { λ acts. Unit {0} };
+}
+
+/// A step that adds acts of which something is known, all at once.
+pub struct Chooses<M: Known> {
+    of: PhantomData<M>,
+}
+
+impl<M: Known> Play<Entry, u64> for Chooses<M> {
+    ghost use Rattle.kv_publish.specs.Rules.{Choosing};
+
+    ghost then = { Choosing M.holds };
+}
+
+/// It asks for nothing.
+impl<M: Known> Plain<(), Entry, u64> for Chooses<M> {
+    ghost use Rattle.std.specs.Prelude.{None};
+    ghost use Rattle.kv_publish.specs.Rules.{no_entry};
+
+    ghost ask = { λ about. no_entry };
+
+    ghost state = { λ about. None };
+}
+
 /// Stands for one opening of a bucket, which is its history and its configuration. What has one name has one published
 /// list.
 ///

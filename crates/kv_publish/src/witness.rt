@@ -2,13 +2,15 @@
 
 ghost use Rattle.std.specs.Prelude.{◌≡◌, ◌++◌, ◌∷◌, [], ℕ, List};
 ghost use Rattle.logbook.specs.Pages.{nib, may_write};
-ghost use Rattle.kv_model.specs.Acts.{IsPrefix};
-ghost use Rattle.kv_publish.specs.Rules.{entry, head_of, history_from, right_behind};
+ghost use Rattle.kv_model.specs.Acts.{Act, IsPrefix};
+ghost use Rattle.kv_publish.specs.Rules.{acts_in, entry, head_of, history_from, right_behind};
 ghost use Rattle.kv_publish.specs.declared.entry.Entry.{Entry};
 
 use crate::entry::Entry;
 use crate::ghost_act::GhostAct;
-use crate::protocol::{Adds, Anchor, Began, Claim, Looks, Makes, Noted, Nothing, SeenLog, Titled};
+use crate::protocol::{
+    Adds, Anchor, Began, Chooses, Claim, Known, Looks, Makes, Noted, Nothing, SeenLog, Titled,
+};
 use logbook::{Offer, Pen, Start};
 use std::marker::Model;
 use std::snapshot::Snapshot;
@@ -119,6 +121,19 @@ impl Witness {
             next,
         } = claim;
         next
+    }
+
+    /// Adds acts of which this is known, by a right by which nothing was added: there are such acts.
+    pub(crate) fn choose<M: Known>(&mut self, head: &Anchor, pen: &mut Pen)
+        requires head { head.now ≡ head_of self.old.book.written_in }
+        requires right { (pen.old.book ≡ self.old.book.written_in) × (pen.old.nib ≡ nib may_write self.old.book.first 0) }
+        requires some { (acts : List Act) × M.holds acts }
+        ensures { M.holds (acts_in self.new.log) }
+    {
+        let mut offer: Offer<Entry, u64, Noted, Nothing> = self
+            .seen
+            .plain::<Nothing, (), Chooses<M>>(&());
+        head.compare_exchange::<Chooses<M>, Nothing>(0, 0, &mut self.seen, &mut offer, pen);
     }
 
     /// A look of who has the right to add behind some entries that were seen: they are all that there are.
