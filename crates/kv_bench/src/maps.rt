@@ -18,8 +18,16 @@ pub trait Table: Sized + Drop {
     /// Puts a value.
     fn put(&mut self, key: String, value: Vec<u8>) -> Result<(), Fault>;
 
+    /// The value of a key.
+    fn value(&self, key: &str) -> Option<&Vec<u8>>;
+
     /// How many bytes the value of a key has; 0 where there is none.
-    fn bytes(&self, key: &str) -> usize;
+    fn bytes(&self, key: &str) -> usize {
+        match self.value(key) {
+            Some(value) => value.len(),
+            None => 0,
+        }
+    }
 
     /// How many keys a copy of all keys and values has.
     fn copied(&self) -> Result<usize, Fault>;
@@ -37,11 +45,8 @@ impl Table for HashMap<String, Vec<u8>> {
         Ok(())
     }
 
-    fn bytes(&self, key: &str) -> usize {
-        match self.get(key) {
-            Some(value) => value.len(),
-            None => 0,
-        }
+    fn value(&self, key: &str) -> Option<&Vec<u8>> {
+        self.get(key)
     }
 
     fn copied(&self) -> Result<usize, Fault> {
@@ -62,11 +67,8 @@ impl Table for BTreeMap<String, Vec<u8>> {
         Ok(())
     }
 
-    fn bytes(&self, key: &str) -> usize {
-        match self.get(key) {
-            Some(value) => value.len(),
-            None => 0,
-        }
+    fn value(&self, key: &str) -> Option<&Vec<u8>> {
+        self.get(key)
     }
 
     fn copied(&self) -> Result<usize, Fault> {
