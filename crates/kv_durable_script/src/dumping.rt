@@ -24,26 +24,8 @@ use kv_frames::Framing;
 use kv_journal::begin;
 use kv_keys::KvError;
 use kv_model::Config;
-use kv_replay::Output;
+use kv_replay::{Output, pour_many};
 use std::alloc::Global;
-
-// So many bytes of lines wait at the most, but for those of the entry that was read last.
-const WAITING_BYTES: usize = 65_536;
-
-// Writes the lines that wait where they are many.
-fn pour_many<K: Output>(out: &mut Vec<u8>, sink: &mut K) -> Result<(), KvError>
-    ensures same { K.goes_on sink.old sink.new }
-    ensures ok { OnOk result (Pours [] (K.held sink.old) out.old.items (K.held sink.new) out.new.items) }
-    ensures err { OnErr result ((n : ℕ) × Appends (K.held sink.old) (K.held sink.new) (take n out.old.items)) }
-    ensures fault { IfErr result (λ e. e ≡ WriteFault) }
-    ensures failed { OnErr result (K.failed_between sink.old sink.new) }
-{
-    if out.len() >= WAITING_BYTES {
-        sink.write(out)?;
-        out.clear();
-    }
-    Ok(())
-}
 
 // Makes the lines of the entries whose frames stand in the bytes, the first of them at this place, up to the first frame that
 // is not whole. They wait, and are written where they are many.

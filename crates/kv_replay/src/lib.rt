@@ -31,5 +31,6 @@ pub use kv_single::{
 };
 pub use lines::KEPT_BYTES;
 pub use output::{CountedWriter, Output};
+pub use pouring::pour_many;
 pub use streams::{READ_CALLS, replay, replay_bounded, replay_bounded_in, replay_in};
 pub use target::Target;

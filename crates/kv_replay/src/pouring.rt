@@ -1,4 +1,4 @@
-//! Answers that wait to be written.
+//! Lines that wait to be written.
 
 ghost use Rattle.std.specs.Prelude.{◌≡◌, ℕ, take, [], IfErr, OnOk, OnErr};
 ghost use Rattle.std.specs.Io.KnownBytes.{Appends};
@@ -8,11 +8,12 @@ ghost use Rattle.kv_replay.specs.inside.Written.{Pours};
 use crate::output::Output;
 use kv_keys::KvError;
 
-/// How many bytes of answers wait at the most, but for the answer that was made last.
+// So many bytes of lines wait at the most, but for those that were made last.
 const WAITING_BYTES: usize = 65_536;
 
-/// Writes the answers that wait where they are many.
-pub(crate) fn pour_many<K: Output>(out: &mut Vec<u8>, sink: &mut K) -> Result<(), KvError>
+/// Writes the lines that wait where they are many, 65,536 bytes or more. Refused, it leaves them, and a beginning of them
+/// was written.
+pub fn pour_many<K: Output>(out: &mut Vec<u8>, sink: &mut K) -> Result<(), KvError>
     ensures same { K.goes_on sink.old sink.new }
     ensures ok { OnOk result (Pours [] (K.held sink.old) out.old.items (K.held sink.new) out.new.items) }
     ensures err { OnErr result ((n : ℕ) × Appends (K.held sink.old) (K.held sink.new) (take n out.old.items)) }
