@@ -50,6 +50,17 @@ class Files(unittest.TestCase):
             self.assertEqual([entry.revision for entry in bucket.watch(">") if not entry.marker], [3, 4])
             self.assertEqual((bucket.put("c", b"4"), bucket.status().last), (5, 5))
 
+    def test_a_value_may_be_as_long_as_it_may(self) -> None:
+        values = [bytes([number]) * size for number, size in enumerate((0, 16_384, 16_385, 1_048_576))]
+        with self.opened() as bucket:
+            for number, value in enumerate(values):
+                bucket["a.%d" % number] = value
+            with bucket.batch() as batch:
+                for number, value in enumerate(values):
+                    batch["b.%d" % number] = value
+        with self.opened() as bucket:
+            self.assertEqual([bucket[name + ".%d" % number] for name in "ab" for number in range(4)], values + values)
+
     def test_a_path_is_a_text_or_bytes_or_a_path(self) -> None:
         folder = os.path.dirname(self.path)
         for path in (os.path.join(folder, "\N{EURO SIGN}"), os.path.join(os.fsencode(folder), b"\xff")):

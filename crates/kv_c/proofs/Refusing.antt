@@ -3,7 +3,7 @@ use Rattle.std.proofs.Common.{◌≡◌, ℕ, refl, ap, sym, subst, inl, inr, ar
 use Rattle.std.specs.Prelude.{Result, Ok, Err}
 use Rattle.kv_c.proofs.Named.{no_refusal}
 use Rattle.kv_c.specs.Codes.{IsOfFile, IsOpeningCode, accepted, code_by}
-use Rattle.kv_durable.specs.Refusals.{durable_code}
+use Rattle.kv_durable.specs.Refusals.{IsDamaged, durable_code}
 use Rattle.kv_durable.specs.declared.error.DurableError.{DurableError}
 use Rattle.kv_durable.specs.declared.error.DurableError.TheVariants.{Refused, FileFault, FileDamaged, FileBusy, OtherBucket, HasCheckpoint}
 use Rattle.kv_model.specs.Answers.{Compacted}
@@ -102,3 +102,18 @@ opening_code HasCheckpoint config outcome denied legal own other = absurd (own r
 
 pub opened_code : (config : Configuration) (outcome : Result Configuration KvError) → outcome ≡ Ok config → IsOpeningCode 38 outcome
 opened_code config outcome legal = subst (IsOpeningCode 38) (sym legal) (inl refl)
+
+-- the codes of damage and of another bucket's file tell these
+pub damaged_code : (e : DurableError) → durable_code e ≡ 23 → IsDamaged e
+damaged_code (Refused x) is = absurd (no_refusal 23 (λ h. omega (arith, h.1)) x is)
+damaged_code FileFault is = absurd (omega (arith, is))
+damaged_code (FileDamaged at) is = tt
+damaged_code FileBusy is = absurd (omega (arith, is))
+damaged_code OtherBucket is = absurd (omega (arith, is))
+
+pub other_code : (e : DurableError) → durable_code e ≡ 25 → e ≡ OtherBucket
+other_code (Refused x) is = absurd (no_refusal 25 (λ h. omega (arith, h.1)) x is)
+other_code FileFault is = absurd (omega (arith, is))
+other_code (FileDamaged at) is = absurd (omega (arith, is))
+other_code FileBusy is = absurd (omega (arith, is))
+other_code OtherBucket is = refl

@@ -1,21 +1,18 @@
 -- Calls on a bucket with a file, in both steps.
-use Rattle.std.proofs.Common.{◌≡◌, ℕ, true, List, Option, Some, None, refl, sym, ap, ◌∙◌, subst, map}
-use Rattle.kv_c.specs.Batching.{AcceptsAll, AreWrites, batch_of}
+use Rattle.std.proofs.Common.{◌≡◌, ℕ, true, List, Option, Some, None, refl, sym, ap, ◌∙◌, subst}
+use Rattle.kv_c.specs.Batching.{AcceptsAll, batch_of}
 use Rattle.kv_c.specs.Calling.{Accepts, IsWrite, StaysAs, Steps}
 use Rattle.kv_c.specs.Filing.{is_stopped}
-use Rattle.kv_c.specs.Making.{GivesUp, IsGivenUp, IsSettled, Makes, MakesAct, MakesAsked, MakesBatch, MakesGathered, Settles, Waits, stopped_in}
+use Rattle.kv_c.specs.Making.{GivesUp, IsGivenUp, IsSettled, Makes, MakesAct, MakesAsked, MakesBatch, MakesGathered, Settles, stopped_in}
 use Rattle.kv_c.specs.Waiting.{Waiting, bucket_behind}
 use Rattle.kv_c.specs.declared.content.Content.{Content}
 use Rattle.kv_c.specs.declared.content.Content.TheVariants.{Bucket, View, Feed, Batch, Made}
 use Rattle.kv_c.specs.declared.filed.Filed.{Filed}
 use Rattle.kv_model.specs.Acts.{Act}
 use Rattle.kv_model.specs.Answers.{Answer}
-use Rattle.kv_model.specs.Requests.{Asked, asked}
+use Rattle.kv_model.specs.Requests.{Asked}
 use Rattle.kv_model.specs.declared.call.Call.{Call}
-use Rattle.kv_model.specs.declared.request.Request.{Request}
-use Rattle.kv_single.specs.Batches.{IsBatch}
 use Rattle.kv_single.specs.Held.{Bucketed}
-use Rattle.kv_single.specs.Stepping.{IsStep}
 
 -- what a handle held before a call was made
 record Before (made : Bucketed → Filed → Waiting → Type 0) (old mid : Option Content) : Type 0 where

@@ -1,5 +1,5 @@
 -- Calls on a bucket with a file: from what was ready to what waits for the shell.
-use Rattle.std.proofs.Common.{◌≡◌, ℕ, ◌<◌, ◌^◌, true, false, List, [], ◌∷◌, ◌++◌, Some, None, Ok, length, map, refl, sym, ap, ◌∙◌, subst}
+use Rattle.std.proofs.Common.{◌≡◌, ℕ, ◌<◌, ◌^◌, false, List, [], ◌∷◌, ◌++◌, Some, None, Ok, length, refl, sym, ap, ◌∙◌, subst}
 use Rattle.kv_c.specs.Calling.{StandsAt}
 use Rattle.kv_c.specs.Filing.{durable_of, is_stopped}
 use Rattle.kv_c.specs.Lending.{lends, never_fails}
@@ -30,7 +30,6 @@ use Rattle.kv_model.specs.declared.request.Request.{Request}
 use Rattle.kv_single.specs.Batches.{IsBatch}
 use Rattle.kv_single.specs.Held.{Bucketed, Represents}
 use Rattle.kv_single.specs.Stepping.{IsStep}
-use Rattle.kv_store.specs.Stored.{Stored}
 
 module _ (ready : Ready) (bucket : Bucketed) (filed : Filed) (waiting : Waiting) (waits : WaitsFor ready bucket filed waiting) where
   behind : bucket_behind waiting ≡ record bucket { version = ready.next }

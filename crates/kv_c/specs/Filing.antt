@@ -1,5 +1,5 @@
 -- The file of a bucket.
-use Rattle.std.specs.Prelude.{◌≡◌, ℕ, Bool, ◌||◌}
+use Rattle.std.specs.Prelude.{Bool, ◌||◌}
 use Rattle.kv_c.specs.Lending.{never_fails}
 use Rattle.kv_c.specs.declared.filed.Filed.{Filed}
 use Rattle.kv_c.specs.declared.outbox.Outbox.{Outbox}

@@ -1,5 +1,5 @@
 -- What a call makes of a bucket with a file, and what settling it does, or giving it up.
-use Rattle.std.specs.Prelude.{◌≡◌, ℕ, ◌<◌, ◌^◌, Bool, true, false, List, [], ◌∷◌, ◌++◌, Option, Some, None, drop, length, map, take}
+use Rattle.std.specs.Prelude.{◌≡◌, ◌≢◌, ℕ, ◌<◌, ◌^◌, Bool, true, false, List, [], ◌∷◌, ◌++◌, Option, Some, None, drop, length, map, take}
 use Rattle.kv_c.specs.Calling.{IsWrite}
 use Rattle.kv_c.specs.Filing.{durable_of, is_stopped}
 use Rattle.kv_c.specs.Lending.{lends, never_fails}
@@ -10,13 +10,16 @@ use Rattle.kv_c.specs.declared.filed.Filed.{Filed}
 use Rattle.kv_c.specs.declared.making.Lent.{Lent}
 use Rattle.kv_c.specs.declared.making.Ready.{Ready}
 use Rattle.kv_c.specs.declared.outbox.Outbox.{Outbox}
-use Rattle.kv_durable.specs.Durables.{Accepts, IsAt, IsRecorded, act_of, batch_of}
+use Rattle.kv_durable.specs.Durables.{IsAt, IsRecorded, act_of, batch_of}
 use Rattle.kv_durable.specs.Journals.{AddsFrames, IsFrameOf}
+use Rattle.kv_durable.specs.Bases.{Base}
+use Rattle.kv_durable.specs.Files.{Reads, file_of}
 use Rattle.kv_durable.specs.Openings.{IsNew, IsReopenedOn}
 use Rattle.kv_durable.specs.declared.open.Opened.{Opened}
 use Rattle.kv_file.specs.declared.appender.Sync.{Sync}
 use Rattle.kv_file.specs.declared.appender.Sync.TheVariants.{Each}
-use Rattle.kv_journal.specs.Header.{beginning}
+use Rattle.kv_journal.specs.Damage.{ShowsDamage}
+use Rattle.kv_journal.specs.Header.{BeginsWith, beginning, configuration_payload}
 use Rattle.kv_model.specs.Configuration.{Configuration}
 use Rattle.kv_journal.specs.Entries.{Entry}
 use Rattle.kv_journal.specs.Records.{act_records, asked_records, closed, did, did_all}
@@ -32,7 +35,6 @@ use Rattle.kv_model.specs.declared.request.Request.{Request}
 use Rattle.kv_single.specs.Batches.{IsBatch}
 use Rattle.kv_single.specs.Held.{Bucketed}
 use Rattle.kv_single.specs.Stepping.{IsStep}
-use Rattle.kv_store.specs.Stored.{Stored}
 
 -- what is ready was added to the journal of a file, and waits for the shell
 pub record WaitsFor (ready : Ready) (b : Bucketed) (f : Filed) (w : Waiting) : Type 0 where
@@ -196,6 +198,16 @@ abbrev pub number_in : Option Content → Option ℕ
 number_in (Some (Bucket b (Some f) m)) = Some f.number
 number_in (Some (Made w m)) = Some w.filed.number
 number_in held = None
+
+-- the bytes tell damage wherever they are read: behind their entries stands what was on the disk once
+unfoldable pub ShowDamage : Configuration → List ℕ → Type 0
+ShowDamage config bytes = (base : Base) (other : ℕ) (entries : List Entry) (rest : List ℕ) → base.config ≡ config →
+    Reads base bytes other entries rest → ShowsDamage other (length (file_of other base entries)) rest
+
+-- they are those of a bucket with another configuration
+abbrev pub AreOfAnother : Configuration → List ℕ → Type 0
+AreOfAnother config bytes = (other : ℕ) × (payload : List ℕ) × (rest : List ℕ) × BeginsWith bytes other payload rest
+    × (payload ≢ configuration_payload config)
 
 -- What was found in the bytes of a file.
 pub record IsFound (config : Configuration) (mode : Sync) (seed : ℕ) (bytes : List ℕ) (opened : Opened Outbox) : Type 0 where

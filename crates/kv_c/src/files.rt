@@ -3,8 +3,9 @@
 ghost use Rattle.std.specs.Prelude.{◌≡◌, [], true, Err, Ok, Some, None, IfErr, IfOk, IsFalse, IsTrue, OnOk, is_some, length};
 ghost use Rattle.kv_c.specs.Calling.{configured, holds_bucket, opening_of, sync_asked};
 ghost use Rattle.kv_c.specs.Codes.{IsOfFile, IsOpeningCode};
-ghost use Rattle.kv_c.specs.Making.{GivesUp, IsFound, IsLent, IsOpened, Makes, MakesEnd, MakesSync, OpensFile, Settles, is_filed, number_in, stopped_in, waits_in};
-ghost use Rattle.kv_durable.specs.declared.error.DurableError.TheVariants.{HasCheckpoint, Refused};
+ghost use Rattle.kv_c.specs.Making.{AreOfAnother, GivesUp, IsFound, IsLent, IsOpened, Makes, MakesEnd, MakesSync, OpensFile, Settles, ShowDamage, is_filed, number_in, stopped_in, waits_in};
+ghost use Rattle.kv_durable.specs.Refusals.{IsDamaged};
+ghost use Rattle.kv_durable.specs.declared.error.DurableError.TheVariants.{HasCheckpoint, OtherBucket, Refused};
 ghost use Rattle.kv_journal.specs.Header.{beginning};
 ghost use Rattle.kv_keys.specs.declared.error.KvError.{KvError as AnError};
 ghost use Rattle.kv_keys.specs.declared.error.KvError.TheVariants.{OutOfMemory};
@@ -78,6 +79,8 @@ fn opened_of(
     ensures ok { IfOk result (λ o. IsFound config.now (sync_asked sync) seed bytes.now o) }
     ensures own { IfErr result (λ e. ¬ (e ≡ HasCheckpoint)) }
     ensures err { IfErr result (λ e. (x : AnError) → e ≡ Refused x → ¬ (x ≡ OutOfMemory) → configure config.now ≡ Err x) }
+    ensures damaged { IfErr result (λ e. IsDamaged e → ShowDamage config.now bytes.now) }
+    ensures other { IfErr result (λ e. e ≡ OtherBucket → AreOfAnother config.now bytes.now) }
 {
     let found = Vec::from_slice(alloc, bytes)?;
     match Durable::open(alloc, config, Outbox::of(found), seed, sync_of(sync)) {
@@ -99,6 +102,8 @@ fn opening_of_file(
     ensures ok { IfOk result (λ o. IsOpened config.now (sync_asked sync) seed number bytes.now o.1 o.0) }
     ensures own { IfErr result (λ e. ¬ (e ≡ HasCheckpoint)) }
     ensures err { IfErr result (λ e. (x : AnError) → e ≡ Refused x → ¬ (x ≡ OutOfMemory) → configure config.now ≡ Err x) }
+    ensures damaged { IfErr result (λ e. IsDamaged e → ShowDamage config.now bytes.now) }
+    ensures other { IfErr result (λ e. e ≡ OtherBucket → AreOfAnother config.now bytes.now) }
 {
     let first = first_bytes(alloc, config, seed, bytes)?;
     let opened = opened_of(alloc, bytes, config, seed, sync)?;
@@ -136,6 +141,8 @@ fn open_file(
     ensures legal { OnOk result (configure (configured name.now limits.now) ≡ Ok (configured name.now limits.now)) }
     ensures touched { IfErr result (λ e. IsOfFile e →
         configure (configured name.now limits.now) ≡ Ok (configured name.now limits.now)) }
+    ensures damaged { IfErr result (λ e. IsDamaged e → ShowDamage (configured name.now limits.now) bytes.now) }
+    ensures other { IfErr result (λ e. e ≡ OtherBucket → AreOfAnother (configured name.now limits.now) bytes.now) }
 {
     let config = legal(alloc, name, limits)?;
     let (made, dropped) = opening_of_file(alloc, bytes, &config, seed, sync, number)?;
@@ -153,7 +160,7 @@ fn open_file(
 /// With `sync` 1 each act is on the disk when its call answers, with 0 what was accepted when `kv_sync` or `kv_close` does,
 /// else each of so many acts.
 #[unsafe(no_mangle)]
-#[tactic(auto, using(crate::proofs::Refusing::opening_code, crate::proofs::Refusing::opened_code))]
+#[tactic(auto, using(crate::proofs::Refusing::opening_code, crate::proofs::Refusing::opened_code, crate::proofs::Refusing::damaged_code, crate::proofs::Refusing::other_code))]
 pub extern "C" fn kv_open_bytes_as(
     alloc: Global,
     handle: &mut Handle,
@@ -176,6 +183,8 @@ pub extern "C" fn kv_open_bytes_as(
     ensures untold { ¬ (result ≡ 38) → dropped.new ≡ dropped.old }
     ensures place_untold { ¬ (result ≡ 23) → at.new ≡ at.old }
     ensures open_already { IsTrue (is_some handle.old.slot.held) → result ≡ 34 }
+    ensures damaged { result ≡ 23 → ShowDamage (configured name.now limits.now) bytes.now }
+    ensures other { result ≡ 25 → AreOfAnother (configured name.now limits.now) bytes.now }
 {
     if handle.is_open() {
         return OPEN_ALREADY;

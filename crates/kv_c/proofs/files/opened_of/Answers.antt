@@ -1,9 +1,12 @@
 use Rattle.std.proofs.Common.{List, ℕ, [], refl, sym, ◌∙◌, subst, append-nil}
+use Rattle.kv_c.specs.Making.{ShowDamage}
 use Rattle.kv_c.specs.Lending.{lends, never_fails}
 use Rattle.kv_c.proofs.Refusing.{configured_or}
 use Rattle.kv_c.proofs.Reopened.{lends_all}
 use Rattle.kv_c.proofs.files.opened_of.Goals as goal
+use Rattle.kv_durable.specs.Files.{Reads}
 use Rattle.kv_durable.specs.Openings.{IsReopenedOn}
+use Rattle.kv_journal.specs.Header.{BeginsWith}
 
 pub returns-in-Ok-clause-ok : goal.returns-in-Ok-clause-ok
 returns-in-Ok-clause-ok c =
@@ -20,3 +23,16 @@ returns-in-Ok-clause-ok c =
 
 pub returns-in-Err-clause-err : goal.returns-in-Err-clause-err
 returns-in-Err-clause-err c = λ x is other. configured_or x c.args.config.now (c.in-Err.ensures.refused x is) other
+
+pub returns-in-Err-clause-damaged : goal.returns-in-Err-clause-damaged
+unfolding ShowDamage
+returns-in-Err-clause-damaged c = λ is base other entries rest own reads.
+    let bytes = c.args.bytes.now in
+    c.in-Err.ensures.damaged is bytes [] (lends_all c.of.result c.in_ok-found.found bytes bytes [] c.of.ensures.0 c.of.ensures.1 c.in_ok-found.ensures.items (sym (append-nil bytes))) base other entries rest own
+    (subst (λ (bs : List ℕ). Reads base bs other entries rest) (sym (append-nil bytes)) reads)
+
+pub returns-in-Err-clause-other : goal.returns-in-Err-clause-other
+returns-in-Err-clause-other c = λ is.
+    let bytes = c.args.bytes.now in
+    let there = c.in-Err.ensures.other is bytes [] (lends_all c.of.result c.in_ok-found.found bytes bytes [] c.of.ensures.0 c.of.ensures.1 c.in_ok-found.ensures.items (sym (append-nil bytes))) in
+    (there.0, there.1, there.2, subst (λ (bs : List ℕ). BeginsWith bs there.0 there.1 there.2) (append-nil bytes) there.3, there.4)
