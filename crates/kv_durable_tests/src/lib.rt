@@ -26,3 +26,5 @@ mod replaced;
 mod sample;
 #[cfg(test)]
 mod system;
+#[cfg(test)]
+mod twice;

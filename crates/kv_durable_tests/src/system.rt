@@ -1,87 +1,43 @@
 //! Tests of durable buckets over files of the system.
 
 use crate::equal::equal;
+use crate::twice::twice;
 use kv_durable::{Durable, DurableError, OpenFault, Opened, Sync, SystemFile};
-use kv_file::{FileFault, JournalFile, ReadFault, ReplaceFault, ReplaceableFile, SystemPlace};
-use kv_keys::KvError;
+use kv_file::{JournalFile, ReplaceFault, ReplaceableFile, SystemPlace};
 use kv_model::Config;
 use kv_test_tools::put;
-use std::alloc::{AllocError, Global};
+use std::alloc::Global;
 use std::hash::{BuildHasher, RandomState};
 use std::process::Abort;
 use std::test::Fail;
-use std::{env, fs, io};
+use std::{env, fs};
 
-// A test has ended early: a request for memory was refused, or the system refused a call.
-#[derive(Debug, Drop)]
-struct Ended;
-
-impl From<DurableError> for Ended {
-    fn from(_error: DurableError) -> Ended {
-        Ended
-    }
-}
-
-impl From<KvError> for Ended {
-    fn from(_error: KvError) -> Ended {
-        Ended
-    }
-}
-
-impl From<OpenFault> for Ended {
-    fn from(_error: OpenFault) -> Ended {
-        Ended
-    }
-}
-
-impl From<FileFault> for Ended {
-    fn from(_error: FileFault) -> Ended {
-        Ended
-    }
-}
-
-impl From<ReplaceFault> for Ended {
-    fn from(_error: ReplaceFault) -> Ended {
-        Ended
-    }
-}
-
-impl From<ReadFault> for Ended {
-    fn from(_error: ReadFault) -> Ended {
-        Ended
-    }
-}
-
-impl From<AllocError> for Ended {
-    fn from(_error: AllocError) -> Ended {
-        Ended
-    }
-}
-
-impl From<io::Error> for Ended {
-    fn from(_error: io::Error) -> Ended {
-        Ended
+// What the system answers. A test ends where it refuses a call, as where the file of a bucket fails.
+fn of_system<T, E: Drop>(answer: Result<T, E>) -> Result<T, DurableError> {
+    match answer {
+        Ok(value) => Ok(value),
+        Err(_) => Err(DurableError::FileFault),
     }
 }
 
 // A name that no file has, in the folder for such files.
-fn new_path(rt: &HostRuntime) -> Result<String, Ended> {
-    let folder = env::temp_dir(rt)?;
-    let number = RandomState::new(rt)?.hash_one(&0u8);
+fn new_path(rt: &HostRuntime) -> Result<String, DurableError> {
+    let folder = of_system(env::temp_dir(rt))?;
+    let number = of_system(RandomState::new(rt))?.hash_one(&0u8);
     Ok(format!(in rt.alloc(); "{}/kv-{number}.journal", folder.as_str())?)
 }
 
-fn opened(rt: &HostRuntime, alloc: Global, path: &str) -> Result<Opened<SystemFile>, Ended> {
+fn opened(rt: &HostRuntime, alloc: Global, path: &str) -> Result<Opened<SystemFile>, DurableError> {
     let file = SystemFile::open(rt, path)?;
     let config = Config::named(alloc, "settings")?;
     match Durable::open(alloc, &config, file, 7, Sync::Each) {
         Ok(opened) => Ok(opened),
-        Err(_) => Err(Ended),
+        Err(refused) => Err(refused.error),
     }
 }
 
 // Writes twice, and answers where the file ends.
-fn write_twice(rt: &HostRuntime, alloc: Global, path: &str) -> Result<u64, Ended> {
+fn write_twice(rt: &HostRuntime, alloc: Global, path: &str) -> Result<u64, DurableError> {
     let mut bucket = opened(rt, alloc, path)?.durable;
     bucket.write(&put(alloc, "app.port", "80")?)?;
     bucket.write(&put(alloc, "app.host", "kv")?)?;
@@ -94,25 +50,18 @@ fn is_there_again(
     test: &impl Abort,
     alloc: Global,
     path: &str,
-) -> Result<(), Ended> {
+) -> Result<(), DurableError> {
     let end = write_twice(rt, alloc, path)?;
-    equal(test, fs::metadata(rt, path)?.len(), end);
+    equal(test, of_system(fs::metadata(rt, path))?.len(), end);
     let again = opened(rt, alloc, path)?;
     equal(test, again.dropped, 0);
     equal(test, again.durable.bucket().version().revision(), 2);
-    match again.durable.close() {
-        Ok(_) => Ok(()),
-        Err(_) => Err(Ended),
-    }
+    drop(of_system(again.durable.close())?);
+    Ok(())
 }
 
 // A file that is open is busy, and one that was let go is not.
-fn is_busy_while_open(
-    rt: &HostRuntime,
-    test: &impl Abort,
-    _alloc: Global,
-    path: &str,
-) -> Result<(), Ended> {
+fn is_busy_while_open(rt: &HostRuntime, test: &impl Abort, path: &str) -> Result<(), DurableError> {
     let file = SystemFile::open(rt, path)?;
     let second = SystemFile::open(rt, path);
     assert!(test; matches!(second, Err(OpenFault::Busy)));
@@ -128,16 +77,16 @@ fn is_as_asked(
     test: &impl Abort,
     alloc: Global,
     path: &str,
-) -> Result<(), Ended> {
+) -> Result<(), DurableError> {
     let mut file = SystemFile::open(rt, path)?;
     file.append(b"abc")?;
-    equal(test, file.read(alloc)?.as_slice(), b"abc");
+    equal(test, of_system(file.read(alloc))?.as_slice(), b"abc");
     file.append(b"def")?;
     file.sync()?;
-    equal(test, file.read(alloc)?.as_slice(), b"abcdef");
+    equal(test, of_system(file.read(alloc))?.as_slice(), b"abcdef");
     file.cut(4)?;
     file.append(b"x")?;
-    equal(test, file.read(alloc)?.as_slice(), b"abcdx");
+    equal(test, of_system(file.read(alloc))?.as_slice(), b"abcdx");
     Ok(())
 }
 
@@ -147,28 +96,33 @@ fn is_replaced(
     test: &impl Abort,
     alloc: Global,
     path: &str,
-) -> Result<(), Ended> {
+) -> Result<(), DurableError> {
     let next = format!(in alloc; "{path}.new")?;
     let mut file = SystemFile::open(rt, path)?;
     file.append(b"old")?;
-    fs::write(rt, next.as_str(), b"left over")?;
+    of_system(fs::write(rt, next.as_str(), b"left over"))?;
     let place = SystemPlace {
         rt,
         path,
         next: next.as_str(),
     };
-    file.replace(&place, Vec::from_slice(alloc, b"new")?)?;
+    of_system(file.replace(&place, Vec::from_slice(alloc, b"new")?))?;
     file.append(b"er")?;
     file.sync()?;
-    equal(test, fs::read(rt, path)?.as_slice(), b"newer");
-    equal(test, file.read(alloc)?.as_slice(), b"newer");
+    equal(test, of_system(fs::read(rt, path))?.as_slice(), b"newer");
+    equal(test, of_system(file.read(alloc))?.as_slice(), b"newer");
     assert!(test; fs::metadata(rt, next.as_str()).is_err());
     assert!(test; matches!(SystemFile::open(rt, path), Err(OpenFault::Busy)));
     Ok(())
 }
 
 // A file that cannot be replaced stays, and goes on.
-fn stays(rt: &HostRuntime, test: &impl Abort, alloc: Global, path: &str) -> Result<(), Ended> {
+fn stays(
+    rt: &HostRuntime,
+    test: &impl Abort,
+    alloc: Global,
+    path: &str,
+) -> Result<(), DurableError> {
     let mut file = SystemFile::open(rt, path)?;
     file.append(b"old")?;
     let place = SystemPlace {
@@ -179,54 +133,40 @@ fn stays(rt: &HostRuntime, test: &impl Abort, alloc: Global, path: &str) -> Resu
     let new = Vec::from_slice(alloc, b"new")?;
     assert!(test; file.replace(&place, new) == Err(ReplaceFault::Unchanged));
     file.append(b"er")?;
-    equal(test, file.read(alloc)?.as_slice(), b"older");
+    equal(test, of_system(file.read(alloc))?.as_slice(), b"older");
     Ok(())
 }
 
-fn is_there_again_once(rt: &HostRuntime, test: &impl Abort, alloc: Global) -> Result<(), Ended> {
-    let path = new_path(rt)?;
-    let ended = is_there_again(rt, test, alloc, path.as_str());
-    fs::remove_file(rt, path.as_str())?;
-    ended
-}
-
-#[test]
-fn what_was_written_is_there_again(rt: HostRuntime) {
-    if is_there_again_once(&rt, &rt, rt.alloc()).is_err() {
-        assert!(rt; is_there_again_once(&rt, &rt, rt.alloc()).is_ok());
-    }
-}
-
-fn is_busy_while_open_once(
+// Makes a test on a file of its own, which is gone then.
+fn on_new_file<F: FnMut(&str) -> Result<(), DurableError>>(
     rt: &HostRuntime,
-    test: &impl Abort,
-    alloc: Global,
-) -> Result<(), Ended> {
+    test: F,
+) -> Result<(), DurableError>
+    requires { F.IsAlwaysCallable test }
+{
+    let mut test = test;
     let path = new_path(rt)?;
-    let ended = is_busy_while_open(rt, test, alloc, path.as_str());
-    fs::remove_file(rt, path.as_str())?;
+    let ended = test(path.as_str());
+    of_system(fs::remove_file(rt, path.as_str()))?;
     ended
 }
 
 #[test]
-fn a_file_is_busy_while_it_is_open(rt: HostRuntime) {
-    if is_busy_while_open_once(&rt, &rt, rt.alloc()).is_err() {
-        assert!(rt; is_busy_while_open_once(&rt, &rt, rt.alloc()).is_ok());
-    }
-}
-
-fn is_as_asked_once(rt: &HostRuntime, test: &impl Abort, alloc: Global) -> Result<(), Ended> {
-    let path = new_path(rt)?;
-    let ended = is_as_asked(rt, test, alloc, path.as_str());
-    fs::remove_file(rt, path.as_str())?;
-    ended
+fn what_was_written_is_there_again(rt: HostRuntime) -> Result<(), Fail> {
+    let test = |path: &str| is_there_again(&rt, &rt, rt.alloc(), path);
+    Ok(twice(|| on_new_file(&rt, test))?)
 }
 
 #[test]
-fn a_file_does_as_it_is_asked(rt: HostRuntime) {
-    if is_as_asked_once(&rt, &rt, rt.alloc()).is_err() {
-        assert!(rt; is_as_asked_once(&rt, &rt, rt.alloc()).is_ok());
-    }
+fn a_file_is_busy_while_it_is_open(rt: HostRuntime) -> Result<(), Fail> {
+    let test = |path: &str| is_busy_while_open(&rt, &rt, path);
+    Ok(twice(|| on_new_file(&rt, test))?)
+}
+
+#[test]
+fn a_file_does_as_it_is_asked(rt: HostRuntime) -> Result<(), Fail> {
+    let test = |path: &str| is_as_asked(&rt, &rt, rt.alloc(), path);
+    Ok(twice(|| on_new_file(&rt, test))?)
 }
 
 #[test]
@@ -237,30 +177,14 @@ fn what_is_no_file_is_not_opened(rt: HostRuntime) {
     }
 }
 
-fn is_replaced_once(rt: &HostRuntime, test: &impl Abort, alloc: Global) -> Result<(), Ended> {
-    let path = new_path(rt)?;
-    let ended = is_replaced(rt, test, alloc, path.as_str());
-    fs::remove_file(rt, path.as_str())?;
-    ended
+#[test]
+fn a_file_of_the_system_is_replaced(rt: HostRuntime) -> Result<(), Fail> {
+    let test = |path: &str| is_replaced(&rt, &rt, rt.alloc(), path);
+    Ok(twice(|| on_new_file(&rt, test))?)
 }
 
 #[test]
-fn a_file_of_the_system_is_replaced(rt: HostRuntime) {
-    if is_replaced_once(&rt, &rt, rt.alloc()).is_err() {
-        assert!(rt; is_replaced_once(&rt, &rt, rt.alloc()).is_ok());
-    }
-}
-
-fn stays_once(rt: &HostRuntime, test: &impl Abort, alloc: Global) -> Result<(), Ended> {
-    let path = new_path(rt)?;
-    let ended = stays(rt, test, alloc, path.as_str());
-    fs::remove_file(rt, path.as_str())?;
-    ended
-}
-
-#[test]
-fn a_file_that_cannot_be_replaced_stays(rt: HostRuntime) {
-    if stays_once(&rt, &rt, rt.alloc()).is_err() {
-        assert!(rt; stays_once(&rt, &rt, rt.alloc()).is_ok());
-    }
+fn a_file_that_cannot_be_replaced_stays(rt: HostRuntime) -> Result<(), Fail> {
+    let test = |path: &str| stays(&rt, &rt, rt.alloc(), path);
+    Ok(twice(|| on_new_file(&rt, test))?)
 }
