@@ -1,2 +1,3 @@
 pub mod Living
 pub mod Accepting
+pub mod Opening
