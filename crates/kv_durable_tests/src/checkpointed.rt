@@ -83,7 +83,8 @@ fn is_cut_off(
     steps: usize,
     calls: u64,
 ) -> Result<(), DurableError> {
-    let mut bucket = behind(alloc, steps, 2 + 2 * steps as u64 + calls)?;
+    let before_it = (steps as u64).saturating_mul(2).saturating_add(2);
+    let mut bucket = behind(alloc, steps, before_it.saturating_add(calls))?;
     let before = behind(alloc, steps, u64::MAX)?;
     let told = bucket.checkpoint(&(), NEXT_SEED);
     if told == Err(DurableError::Refused(KvError::OutOfMemory)) {
