@@ -1,0 +1,24 @@
+use Rattle.std.proofs.Common.{[], ◌≡◌, sym, subst, true}
+use Rattle.std.proofs.lemmas.Result.{IfOk-weaker}
+use Rattle.kv_durable.specs.Bases.{fresh}
+use Rattle.kv_durable.specs.Journals.{Keeps}
+use Rattle.kv_durable.specs.Openings.{HasRead}
+use Rattle.kv_durable_live.proofs.Opening.{new_from}
+use Rattle.kv_durable_live.proofs.open.DurableLive+Brand+F.open.Goals as goal
+
+pub of_read-requires : goal.of_read-requires
+of_read-requires g c = λ plain.
+    let read = c.in-Ok.ensures.read plain in
+    (read.0, subst (λ file. HasRead g.F.JournalFile.has g.F.JournalFile.usable c.args.config.now file read.0 c.in-Ok.read.durable c.in-Ok.read.dropped) (sym c.of-before.ensures) read.1)
+
+pub returns-in-Ok-clause-new : goal.returns-in-Ok-clause-new
+returns-in-Ok-clause-new g c =
+    let has = g.F.JournalFile.has in
+    let usable = g.F.JournalFile.usable in
+    let file = c.args.file in
+    let config = c.args.config.now in
+    IfOk-weaker c.of_read.result _ (λ o. usable file ≡ true → has file [] [] → Keeps has usable (fresh config) [] [] o.journal × (o.opened.opening.book.began ≡ []))
+    (λ o from works h. new_from has usable config file o.journal o.opened.opening.book.began from works h) (rw c.of-before.ensures at c.of_read.ensures.from)
+
+pub returns-in-Ok-clause-from : goal.returns-in-Ok-clause-from
+returns-in-Ok-clause-from g c = rw c.of-before.ensures at c.of_read.ensures.from
