@@ -110,6 +110,7 @@ damaged_code FileFault is = absurd (omega (arith, is))
 damaged_code (FileDamaged at) is = tt
 damaged_code FileBusy is = absurd (omega (arith, is))
 damaged_code OtherBucket is = absurd (omega (arith, is))
+damaged_code HasCheckpoint is = absurd (omega (arith, is))
 
 pub other_code : (e : DurableError) → durable_code e ≡ 25 → e ≡ OtherBucket
 other_code (Refused x) is = absurd (no_refusal 25 (λ h. omega (arith, h.1)) x is)
@@ -117,3 +118,4 @@ other_code FileFault is = absurd (omega (arith, is))
 other_code (FileDamaged at) is = absurd (omega (arith, is))
 other_code FileBusy is = absurd (omega (arith, is))
 other_code OtherBucket is = refl
+other_code HasCheckpoint is = absurd (omega (arith, is))

@@ -1,14 +1,13 @@
 -- Of lawful acts the bytes begin with the checkpoint that was restored, and no other one.
-use Rattle.std.proofs.Common.{◌≡◌, ℕ, ◌+◌, ◌^◌, ◌<◌, Bool, true, false, if◌then◌else◌, List, [], ◌∷◌, ◌++◌, get_or, drop, refl, sym, ap, ◌∙◌, arith}
+use Rattle.std.proofs.Common.{◌≡◌, ℕ, ◌^◌, ◌<◌, Bool, true, false, if◌then◌else◌, List, [], ◌∷◌, ◌++◌, get_or, drop, refl, sym, ap, ◌∙◌, arith}
 use Rattle.std.specs.Int.{w64, to_be_bytes}
-use Rattle.kv_frames.specs.Frames.{ArePayloads, IsPayload, frame, frames}
+use Rattle.kv_frames.specs.Frames.{IsPayload, frame}
 use Rattle.kv_frames.proofs.Fronts.{sides}
-use Rattle.kv_model.specs.Acceptance.{IsLawful}
-use Rattle.kv_model.specs.Acts.{Act, Wrote, Write, floor_of}
+use Rattle.kv_model.specs.Acts.{Wrote, Write, floor_of}
 use Rattle.kv_model.specs.Compaction.{stored_writes}
 use Rattle.kv_model.specs.Configuration.{Configuration, IsLegal}
 use Rattle.kv_model.proofs.Storing.{floor_within}
-use Rattle.kv_journal.specs.Checkpoints.{Checkpoint, checkpoint_of, checkpoint_payloads, numbers_payload, numbers_record, settled_payload, stored_payload}
+use Rattle.kv_journal.specs.Checkpoints.{Checkpoint, checkpoint_of, numbers_payload, numbers_record, settled_payload, stored_payload}
 use Rattle.kv_journal.specs.Records.{IsRecordableAct}
 use Rattle.kv_journal.specs.Restored.{IsOnly}
 use Rattle.kv_journal.proofs.Saying.{same_number}

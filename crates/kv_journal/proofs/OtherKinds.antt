@@ -1,8 +1,8 @@
 -- Entries and checkpoints have other kinds.
-use Rattle.std.proofs.Common.{◌≡◌, ◌⊎◌, ℕ, ◌+◌, ◌<◌, Bool, true, false, ◌==◌, ◌||◌, List, [], ◌∷◌, ◌++◌, length, map, get_or, Option, Some, None, refl, sym, ap, ◌∙◌, subst, inl, inr, arith, append_assoc, append-nil}
+use Rattle.std.proofs.Common.{◌≡◌, ℕ, ◌+◌, Bool, true, false, ◌==◌, ◌||◌, List, [], ◌∷◌, ◌++◌, length, map, get_or, refl, sym, ap, ◌∙◌, append_assoc}
 use Rattle.kv_frames.specs.Frames.{ArePayloads, BeginsWhole, IsPayload, Splits, frame, frames}
 use Rattle.kv_frames.proofs.Reading.{behind}
-use Rattle.kv_model.specs.Acts.{Act, Wrote, Seal, Compact, Write}
+use Rattle.kv_model.specs.Acts.{Wrote, Seal, Compact, Write}
 use Rattle.kv_journal.specs.Checkpoints.{Checkpoint, checkpoint_payloads, numbers_payload, stored_payload}
 use Rattle.kv_journal.specs.Entries.{Entry, payload_of, payloads_of}
 use Rattle.kv_journal.specs.Records.{Content, did, did_all, closed, kind_of}

@@ -3,7 +3,7 @@ use Rattle.std.proofs.Common.{◌≡◌, ℕ, zero, suc, ◌<◌, ◌==◌, Bool
 use Rattle.std.proofs.lemmas.Bool.{eq-eqb}
 use prog.Atomic.{either}
 use Rattle.logbook.specs.Pages.{Cell, Nib, cell, nib, may_write, gives, step, Moves, Goes}
-use Rattle.kv_model.specs.Acts.{Act, IsPrefix}
+use Rattle.kv_model.specs.Acts.{Act}
 use Rattle.kv_publish.specs.declared.entry.Entry.{Entry}
 use Rattle.kv_publish.specs.Rules.{IsKept, Came, Choosing, acts_in, entry, history_from, whether}
 use Rattle.kv_publish.proofs.Histories.{unused}
