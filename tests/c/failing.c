@@ -5,7 +5,6 @@
 #include "wanting.h"
 #include <errno.h>
 #include <fcntl.h>
-#include <stdarg.h>
 #include <stdio.h>
 #include <sys/stat.h>
 #include <unistd.h>
@@ -33,12 +32,8 @@ static bool is_interrupted(void) {
 }
 
 int __real_open(const char *path, int flags, ...);
-int __wrap_open(const char *path, int flags, ...) {
-    va_list more;
-    int mode;
-    va_start(more, flags);
-    mode = flags & O_CREAT ? va_arg(more, int) : 0;
-    va_end(more);
+/* Where no mode is given, the system looks at none. */
+int __wrap_open(const char *path, int flags, mode_t mode) {
     return fails() || is_interrupted() ? -1 : __real_open(path, flags, mode);
 }
 

@@ -122,7 +122,6 @@ static void breaks(void) {
     WANT(has(&b, "a", "1") && !has(&b, "b", "1") && size_of("torn.kv") == whole);
     put(&b, "b", "2");
     put(&b, "c", "3");
-    all = size_of("torn.kv");
     kv_close(&b);
     /* What was on the disk before the last write was added is damaged. */
     damage("torn.kv", size_of("torn.kv") - whole - 10);

@@ -8,7 +8,7 @@ import sys
 import tempfile
 import time
 import unittest
-from typing import Any
+from typing import Any, Callable, List, Union
 
 import vilgoued
 from tests import top
@@ -63,7 +63,8 @@ class Files(unittest.TestCase):
 
     def test_a_path_is_a_text_or_bytes_or_a_path(self) -> None:
         folder = os.path.dirname(self.path)
-        for path in (os.path.join(folder, "\N{EURO SIGN}"), os.path.join(os.fsencode(folder), b"\xff")):
+        paths: List[Union[str, bytes]] = [os.path.join(folder, "\N{EURO SIGN}"), os.path.join(os.fsencode(folder), b"\xff")]
+        for path in paths:
             with vilgoued.Bucket("settings", path=path) as bucket:
                 bucket["a"] = b"1"
             self.assertTrue(os.path.getsize(path))
@@ -184,7 +185,8 @@ class Files(unittest.TestCase):
                 bucket["a"] = b"2"
         finally:
             resource.setrlimit(resource.RLIMIT_FSIZE, before)
-        for call in (lambda: bucket.put("a", b"2"), bucket.seal, bucket.sync, lambda: bucket.compact(1)):
+        calls: List[Callable[[], object]] = [lambda: bucket.put("a", b"2"), bucket.seal, bucket.sync, lambda: bucket.compact(1)]
+        for call in calls:
             with self.assertRaises(vilgoued.FileFault):
                 call()
         with self.assertRaises(vilgoued.FileFault) as refused:
