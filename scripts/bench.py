@@ -401,7 +401,7 @@ def page(figures: Any, load: Any, machine: Any, left_out: Any, charts: Any) -> I
            "speaks of time or memory. Where no other is named, the maps, the lock and the channels are the kit's, and not those of Rust's "
            "library; Rust's own crates, which are faster at most of it, have tables of their own, by rustc's release build. Where there "
            "are more threads than processors, they share them.")
-    yield "- What a call takes from C, and what the packages for Rust and Go add, is [measured apart](layers.md)."
+    yield "- What a call takes from C, and what the packages for Rust and Go add, is [measured apart](layers.md), and what a journal file costs [too](journal.md)."
     yield ""
     yield "All figures are in [figures.tsv](figures.tsv), drawn by `scripts/charts.py` where matplotlib is there."
     for group, title, heading, how in GROUPS:

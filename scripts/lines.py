@@ -18,9 +18,9 @@ ENVIRONMENT = {"GLIBC_TUNABLES": "glibc.malloc.hugetlb=1", **os.environ}
 class Program:
     """A program that runs, and waits for lines."""
 
-    def __init__(self, path: str, environment: Optional[Mapping[str, str]] = None) -> None:
+    def __init__(self, path: str, environment: Optional[Mapping[str, str]] = None, arguments: Sequence[str] = ()) -> None:
         self.path = path
-        self.process = subprocess.Popen([path], stdin=subprocess.PIPE, stdout=subprocess.PIPE, env=environment or ENVIRONMENT)
+        self.process = subprocess.Popen([path, *arguments], stdin=subprocess.PIPE, stdout=subprocess.PIPE, env=environment or ENVIRONMENT)
         assert self.process.stdin and self.process.stdout
         self.lines, self.answers = self.process.stdin, self.process.stdout
         self.sent = self.answered = self.refused = 0

@@ -19,7 +19,7 @@ from scripts import current, top
 PARTS = {
     "lint": ["tests.test_lint"],
     "release": ["tests.test_release", "tests.test_taking"],
-    "bench": ["tests.bench.test_words", "tests.bench.test_calm", "tests.bench.test_passes", "tests.bench.test_compared", "tests.bench.test_figures",
+    "bench": ["tests.bench.test_words", "tests.bench.test_journal_costs", "tests.bench.test_calm", "tests.bench.test_passes", "tests.bench.test_compared", "tests.bench.test_figures",
               "tests.bench.test_charts"],
     "arguments": ["tests.test_arguments", "tests.test_full_disk", "tests.test_unreadable_input"],
     "streams": ["tests.test_streams"],

@@ -1,0 +1,114 @@
+#!/usr/bin/env python3
+"""journal_costs.py: measures what it costs the program kvbucket to keep its bucket in a file, and writes docs/bench/journal.md. The file
+lies in the folder for temporary files (TMPDIR), on whose disk the costs of a sync depend. It wants the program (scripts/build.py), and
+takes about a minute. What is above its bound is told on standard error."""
+import datetime, os, subprocess, sys, tempfile, time
+from typing import Iterable, NamedTuple, Sequence
+
+if __name__ == "__main__":
+    sys.dont_write_bytecode = True
+    sys.path.insert(0, os.path.dirname(os.path.dirname(os.path.realpath(__file__))))
+from scripts import current, top
+from scripts.lines import VALUE, Program
+
+PAGE = os.path.join(top, "docs", "bench", "journal.md")
+KEYS = 10_000
+ROUNDS = 5
+# How often records are brought onto the disk, what the page calls it, and how many puts are timed at once.
+MODES = (("", "in memory", 50_000), ("close", "`--sync close`", 50_000), ("100", "`--sync 100`", 20_000), ("each", "`--sync each`", 2_000))
+# How many writes the file has that is opened anew.
+WRITES = 1_000_000
+# What an append without a sync may add to a put, in microseconds, and what the opening may take, in seconds.
+MOST_ADDED, MOST_OPENING = 2, 3
+
+
+class Put(NamedTuple):
+    """The microseconds that a put takes, and those of the processor for it."""
+    took: float
+    worked: float
+
+
+class Opening(NamedTuple):
+    """The bytes of a file, and the seconds that its opening takes."""
+    size: int
+    took: float
+
+
+def puts(count: int) -> str:
+    return "".join("put device.%d.state %s\n" % (number % KEYS, VALUE) for number in range(count))
+
+
+def median(numbers: Iterable[float]) -> float:
+    ordered = sorted(numbers)
+    return ordered[len(ordered) // 2]
+
+
+def put(path: str, arguments: Sequence[str], count: int) -> Put:
+    """A put of so many through a program that has all keys by then."""
+    program = Program(path, arguments=arguments)
+    program.tell(puts(KEYS), KEYS)
+    lines, took, worked = puts(count), [], []
+    for _ in range(ROUNDS):
+        began = time.monotonic()
+        worked.append(program.tell(lines, count) / count)
+        took.append((time.monotonic() - began) * 1e6 / count)
+    program.end()
+    return Put(median(took), median(worked))
+
+
+def put_in_file(path: str, sync: str, count: int) -> Put:
+    with tempfile.TemporaryDirectory() as folder:
+        return put(path, ["--journal", os.path.join(folder, "settings.kv"), "--sync", sync], count)
+
+
+def run(path: str, file: str, lines: str) -> float:
+    """The seconds of a run of these lines on a file that is synced at its close."""
+    began = time.monotonic()
+    done = subprocess.run([path, "--journal", file, "--sync", "close"], input=lines, stdout=subprocess.DEVNULL, text=True)
+    if done.returncode != 0:
+        sys.exit("journal_costs: %s ended with status %d" % (path, done.returncode))
+    return time.monotonic() - began
+
+
+def opening(path: str, writes: int) -> Opening:
+    with tempfile.TemporaryDirectory() as folder:
+        file = os.path.join(folder, "settings.kv")
+        run(path, file, puts(writes))
+        return Opening(os.path.getsize(file), median(run(path, file, "") for _ in range(3)))
+
+
+def above(modes: Sequence[Put], opened: Opening) -> list[str]:
+    """What is above its bound, in a line each."""
+    added = modes[1].took - modes[0].took
+    return (["an append adds %.2f µs to a put, above %d µs" % (added, MOST_ADDED)] if added > MOST_ADDED else []) + \
+           (["an opening takes %.2f s, above %d s" % (opened.took, MOST_OPENING)] if opened.took > MOST_OPENING else [])
+
+
+def page(modes: Sequence[Put], opened: Opening, day: str) -> str:
+    rows = "\n".join("| %s | %.2f µs | %.2f µs |" % (name, *costs) for (_, name, _), costs in zip(MODES, modes))
+    return """# What a journal file costs
+
+`scripts/journal_costs.py` wrote this page on %s, on %d processors. Nothing of it is promised. A sync is as quick as the disk.
+
+A put through `./kvbucket`, among %s keys with values of 16 bytes, the median of %d rounds:
+
+| | Takes | Of that the processor |
+|---|---|---|
+%s
+
+A file of %s such puts has %.1f MB, and is opened in %.2f s.
+""" % (day, os.cpu_count() or 1, format(KEYS, ","), ROUNDS, rows, format(WRITES, ","), opened.size / 1e6, opened.took)
+
+
+def main() -> None:
+    path = current.path_of("kvbucket")
+    modes = [put_in_file(path, sync, count) if sync else put(path, [], count) for sync, _, count in MODES]
+    opened = opening(path, WRITES)
+    with open(PAGE, "w", encoding="utf-8") as file:
+        file.write(page(modes, opened, datetime.date.today().isoformat()))
+    for line in above(modes, opened):
+        print("journal_costs: " + line, file=sys.stderr)
+
+
+if __name__ == "__main__":
+    main()

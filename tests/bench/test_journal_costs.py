@@ -1,0 +1,35 @@
+"""The measure of journal files, at its smallest."""
+import unittest
+
+from scripts import journal_costs
+from scripts.journal_costs import Opening, Put
+from tests import program
+
+
+class JournalCosts(unittest.TestCase):
+    def test_a_put_is_measured_in_memory_and_in_a_file(self) -> None:
+        for measured in (journal_costs.put(program.path, [], 100), journal_costs.put_in_file(program.path, "each", 10)):
+            with self.subTest(measured):
+                self.assertGreater(measured.took, 0)
+                self.assertGreater(measured.worked, 0)
+
+    def test_a_file_has_all_that_was_put_when_its_opening_is_measured(self) -> None:
+        hundred, thousand = (journal_costs.opening(program.path, writes) for writes in (100, 1_000))
+        self.assertGreater(thousand.size, 9 * hundred.size)
+        self.assertGreater(hundred.took, 0)
+
+    def test_what_is_above_its_bound_is_told(self) -> None:
+        modes, opened = [Put(1, 1), Put(3, 2), Put(4, 2), Put(500, 9)], Opening(47_000_000, 3)
+        self.assertEqual(journal_costs.above(modes, opened), [])
+        self.assertEqual(journal_costs.above([Put(0.5, 0.5)] + modes[1:], opened._replace(took=3.25)),
+                         ["an append adds 2.50 µs to a put, above 2 µs", "an opening takes 3.25 s, above 3 s"])
+
+    def test_the_page_has_a_row_for_each_mode(self) -> None:
+        page = journal_costs.page([Put(1, 2), Put(3, 4), Put(5, 6), Put(7, 8)], Opening(47_000_000, 1.5), "2026-11-29")
+        for row in ("| in memory | 1.00 µs | 2.00 µs |", "| `--sync each` | 7.00 µs | 8.00 µs |", "has 47.0 MB, and is opened in 1.50 s."):
+            with self.subTest(row):
+                self.assertIn(row, page)
+
+
+if __name__ == "__main__":
+    unittest.main()
