@@ -18,7 +18,7 @@ ROUNDS = 5
 MODES = (("", "in memory", 50_000), ("close", "`--sync close`", 50_000), ("100", "`--sync 100`", 20_000), ("each", "`--sync each`", 2_000))
 # How many writes the file has that is opened anew.
 WRITES = 1_000_000
-# What an append without a sync may add to a put, in microseconds, and what the opening may take, in seconds.
+# What an append without a sync may add to a put, in microseconds of the processor, and what the opening may take, in seconds.
 MOST_ADDED, MOST_OPENING = 2, 3
 
 
@@ -79,7 +79,7 @@ def opening(path: str, writes: int) -> Opening:
 
 def above(modes: Sequence[Put], opened: Opening) -> list[str]:
     """What is above its bound, in a line each."""
-    added = modes[1].took - modes[0].took
+    added = modes[1].worked - modes[0].worked
     return (["an append adds %.2f µs to a put, above %d µs" % (added, MOST_ADDED)] if added > MOST_ADDED else []) + \
            (["an opening takes %.2f s, above %d s" % (opened.took, MOST_OPENING)] if opened.took > MOST_OPENING else [])
 

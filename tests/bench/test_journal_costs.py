@@ -19,9 +19,9 @@ class JournalCosts(unittest.TestCase):
         self.assertGreater(hundred.took, 0)
 
     def test_what_is_above_its_bound_is_told(self) -> None:
-        modes, opened = [Put(1, 1), Put(3, 2), Put(4, 2), Put(500, 9)], Opening(47_000_000, 3)
+        modes, opened = [Put(1, 1), Put(9, 3), Put(40, 4), Put(500, 9)], Opening(47_000_000, 3)
         self.assertEqual(journal_costs.above(modes, opened), [])
-        self.assertEqual(journal_costs.above([Put(0.5, 0.5)] + modes[1:], opened._replace(took=3.25)),
+        self.assertEqual(journal_costs.above([Put(1, 0.5)] + modes[1:], opened._replace(took=3.25)),
                          ["an append adds 2.50 µs to a put, above 2 µs", "an opening takes 3.25 s, above 3 s"])
 
     def test_the_page_has_a_row_for_each_mode(self) -> None:
