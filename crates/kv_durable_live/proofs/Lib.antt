@@ -1,3 +1,4 @@
 pub mod Living
 pub mod Accepting
 pub mod Opening
+pub mod Sent

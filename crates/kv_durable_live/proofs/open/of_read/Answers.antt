@@ -1,4 +1,4 @@
-use Rattle.std.proofs.Common.{◌≡◌, List, refl, sym, subst}
+use Rattle.std.proofs.Common.{List, refl, sym, subst}
 use Rattle.kv_durable.specs.Durables.{state_of}
 use Rattle.kv_durable_live.specs.Openings.{GoesOnFrom}
 use Rattle.kv_durable_live.proofs.Opening.{both_ok, goes_on_from}
