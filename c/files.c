@@ -44,26 +44,27 @@ static bool sync_file(int file) {
     return fdatasync(file) == 0;
 }
 
-/* Does what the call that waits needs. */
-static bool carry_out(kv_bucket *bucket) {
+bool kv_carry_out(kv_bucket *bucket) {
     uint8_t piece[PIECE];
     kv_lent lent;
     size_t from = 0;
+    int file;
     kv_lend(bucket, from, piece, sizeof piece, &lent);
-    if (lent.before && !sync_file((int)lent.number))
+    file = kv_file_at(lent.number)->file;
+    if (lent.before && !sync_file(file))
         return false;
     while (from < lent.size) {
-        if (!write_at((int)lent.number, piece, lent.count, lent.at + from))
+        if (!write_at(file, piece, lent.count, lent.at + from))
             return false;
         from += lent.count;
         if (from < lent.size)
             kv_lend(bucket, from, piece, sizeof piece, &lent);
     }
-    return !lent.behind || sync_file((int)lent.number);
+    return !lent.behind || sync_file(file);
 }
 
-static uint64_t finish(kv_bucket *bucket, uint64_t *number) {
-    if (carry_out(bucket))
+uint64_t kv_finish(kv_bucket *bucket, uint64_t *number) {
+    if (kv_carry_out(bucket))
         return kv_settle(bucket, number);
     kv_give_up(bucket);
     return KV_FILE_FAULT;
@@ -71,7 +72,7 @@ static uint64_t finish(kv_bucket *bucket, uint64_t *number) {
 
 /* Finishes a call, if it waits. */
 static inline uint64_t finished(kv_bucket *bucket, uint64_t code, uint64_t *number) {
-    return __builtin_expect(code == KV_MADE, 0) ? finish(bucket, number) : code;
+    return __builtin_expect(code == KV_MADE, 0) ? kv_finish(bucket, number) : code;
 }
 
 uint64_t kv_put(kv_bucket *bucket, const uint8_t *key, size_t key_size, const uint8_t *value, size_t value_size,
@@ -103,7 +104,7 @@ uint64_t kv_batch_write(kv_bucket *bucket, kv_batch *batch, uint64_t *revision, 
     uint64_t code = kv_make_batch(bucket, batch, revision, at);
     if (code != KV_MADE)
         return code;
-    code = finish(bucket, revision);
+    code = kv_finish(bucket, revision);
     if (code == KV_OK)
         kv_batch_close(batch);
     return code;
@@ -115,13 +116,26 @@ uint64_t kv_seal(kv_bucket *bucket) {
 }
 
 uint64_t kv_compact(kv_bucket *bucket, uint64_t floor, uint64_t *watch) {
-    uint64_t unused;
-    return finished(bucket, kv_make_compaction(bucket, floor, watch), &unused);
+    uint64_t unused, code = kv_make_compaction(bucket, floor, watch);
+    if (code != KV_MADE)
+        return code;
+    code = kv_finish(bucket, &unused);
+    /* Whatever becomes of that, the compaction is made, and in the file. */
+    if (code == KV_OK)
+        kv_shrink(bucket);
+    return code;
 }
 
 uint64_t kv_sync(kv_bucket *bucket) {
     uint64_t unused;
     return finished(bucket, kv_make_sync(bucket), &unused);
+}
+
+static void close_file(kv_file *file) {
+    close(file->file);
+    if (file->folder >= 0)
+        close(file->folder);
+    free(file);
 }
 
 uint64_t kv_close(kv_bucket *bucket) {
@@ -136,7 +150,7 @@ uint64_t kv_close(kv_bucket *bucket) {
         code = kv_make_sync(bucket);
     code = finished(bucket, code, &unused);
     kv_free(bucket);
-    close((int)number);
+    close_file(kv_file_at(number));
     return code;
 }
 
@@ -151,71 +165,99 @@ static bool named(const uint8_t *path, size_t size, char text[PATH_MAX]) {
     return true;
 }
 
-/* Opens a file for one opening at a time. A file that was replaced meanwhile is busy. */
-static uint64_t open_locked(const char *path, int *file, size_t *size) {
-    struct stat own, found;
-    uint64_t code = KV_FILE_FAULT;
+static int opened(const char *path, int flags) {
+    int file;
     do
-        *file = open(path, O_RDWR | O_CREAT | O_CLOEXEC, 0666);
-    while (*file < 0 && errno == EINTR);
-    if (*file < 0)
+        file = open(path, flags | O_CLOEXEC, 0666);
+    while (file < 0 && errno == EINTR);
+    return file;
+}
+
+/* The file of an absolute path, which has the name behind the last slash, in the folder before it. */
+static kv_file *placed(char path[PATH_MAX], int file) {
+    char *slash = strrchr(path, '/');
+    size_t size = strlen(slash + 1) + 1;
+    kv_file *made = malloc(sizeof *made + size);
+    if (!made)
+        return NULL;
+    memcpy(made->name, slash + 1, size);
+    slash[slash == path] = 0;
+    made->folder = opened(path, O_RDONLY | O_DIRECTORY);
+    made->file = file;
+    return made;
+}
+
+uint64_t kv_has_name(const kv_file *file) {
+    struct stat own, found;
+    if (fstat(file->file, &own) != 0 || fstatat(file->folder, file->name, &found, AT_SYMLINK_NOFOLLOW) != 0)
+        return KV_FILE_FAULT;
+    return own.st_dev == found.st_dev && own.st_ino == found.st_ino ? KV_OK : KV_FILE_BUSY;
+}
+
+/* Locks a file for one opening at a time, and tells its size. */
+static uint64_t locked(int file, size_t *size) {
+    struct stat own;
+    if (flock(file, LOCK_EX | LOCK_NB) != 0)
+        return errno == EWOULDBLOCK ? KV_FILE_BUSY : KV_FILE_FAULT;
+    if (fstat(file, &own) != 0 || !S_ISREG(own.st_mode))
+        return KV_FILE_FAULT;
+    *size = (size_t)own.st_size;
+    return KV_OK;
+}
+
+/* Opens and locks a file. One that was replaced meanwhile is busy. The folder is kept, so that what the name is looked up in
+ * does not change with the folder that the program works in. */
+static uint64_t open_locked(const char *path, kv_file **file, size_t *size) {
+    char whole[PATH_MAX];
+    int there = opened(path, O_RDWR | O_CREAT);
+    uint64_t code = there < 0 ? KV_FILE_FAULT : locked(there, size);
+    if (code == KV_OK && !realpath(path, whole))
+        code = KV_FILE_FAULT;
+    if (code == KV_OK && !(*file = placed(whole, there)))
+        code = KV_OUT_OF_MEMORY;
+    if (code != KV_OK) {
+        if (there >= 0)
+            close(there);
         return code;
-    if (flock(*file, LOCK_EX | LOCK_NB) != 0)
-        code = errno == EWOULDBLOCK ? KV_FILE_BUSY : KV_FILE_FAULT;
-    else if (fstat(*file, &own) == 0 && S_ISREG(own.st_mode) && stat(path, &found) == 0)
-        code = own.st_dev == found.st_dev && own.st_ino == found.st_ino ? KV_OK : KV_FILE_BUSY;
+    }
+    code = (*file)->folder < 0 ? KV_FILE_FAULT : kv_has_name(*file);
     if (code != KV_OK)
-        close(*file);
-    else
-        *size = (size_t)own.st_size;
+        close_file(*file);
     return code;
 }
 
-/* Brings the name of a new file onto the disk, which only its folder has. */
-static bool sync_folder(char path[PATH_MAX]) {
-    char *name = strrchr(path, '/');
-    int folder;
-    bool done;
-    if (name)
-        name[name == path] = 0;
-    folder = open(name ? path : ".", O_RDONLY | O_DIRECTORY | O_CLOEXEC);
-    done = folder >= 0 && fsync(folder) == 0;
-    if (folder >= 0)
-        close(folder);
-    return done;
-}
-
-/* Cuts a torn end off, and does what the opening needs. */
-static bool carry_out_opening(kv_bucket *bucket, int file, size_t size, char path[PATH_MAX]) {
+/* Cuts a torn end off, and does what the opening needs. The name of a new file comes onto the disk too, which only its folder
+ * has. */
+static bool carry_out_opening(kv_bucket *bucket, const kv_file *file, size_t size) {
     kv_lent lent;
     uint8_t none[1];
     kv_lend(bucket, 0, none, 0, &lent);
-    if (size > lent.at + lent.size && ftruncate(file, (off_t)lent.at) != 0)
+    if (size > lent.at + lent.size && ftruncate(file->file, (off_t)lent.at) != 0)
         return false;
-    return carry_out(bucket) && (size > 0 || sync_folder(path));
+    return kv_carry_out(bucket) && (size > 0 || fsync(file->folder) == 0);
 }
 
 /* Opens the bucket of a file that is locked. */
-static uint64_t open_locked_as(kv_bucket *bucket, int file, size_t size, char path[PATH_MAX], const uint8_t *name,
+static uint64_t open_locked_as(kv_bucket *bucket, const kv_file *file, size_t size, const uint8_t *name,
                                size_t name_size, const kv_limits *limits, uint64_t sync, uint64_t *dropped,
                                uint64_t *at) {
     uint8_t *bytes = malloc(size + 1);
     uint64_t seed, cut, unused, code = KV_FILE_FAULT;
     if (!bytes)
         return KV_OUT_OF_MEMORY;
-    if (read_all(file, bytes, size) && getentropy(&seed, sizeof seed) == 0)
-        code = kv_open_bytes_as(bucket, bytes, size, name, name_size, limits, seed, sync, (uint64_t)file,
+    if (read_all(file->file, bytes, size) && getentropy(&seed, sizeof seed) == 0)
+        code = kv_open_bytes_as(bucket, bytes, size, name, name_size, limits, seed, sync, (uint64_t)(uintptr_t)file,
                                 kv_next_opening(), &cut, at);
     free(bytes);
     if (code != KV_MADE)
         return code;
-    if (carry_out_opening(bucket, file, size, path)) {
+    if (carry_out_opening(bucket, file, size)) {
         *dropped = cut;
         return kv_settle(bucket, &unused);
     }
     kv_free(bucket);
     /* Else the part of what a new file begins with would be damage. */
-    (void)!(size > 0 || ftruncate(file, 0));
+    (void)!(size > 0 || ftruncate(file->file, 0));
     return KV_FILE_FAULT;
 }
 
@@ -223,8 +265,8 @@ uint64_t kv_open_file(kv_bucket *bucket, const uint8_t *path, size_t path_size, 
                       const kv_limits *limits, uint64_t sync, uint64_t *dropped, uint64_t *at) {
     char text[PATH_MAX];
     kv_bucket legal = {0};
+    kv_file *file;
     size_t size;
-    int file;
     uint64_t code;
     if (bucket->is_open)
         return KV_OPEN_ALREADY;
@@ -238,8 +280,8 @@ uint64_t kv_open_file(kv_bucket *bucket, const uint8_t *path, size_t path_size, 
     code = open_locked(text, &file, &size);
     if (code != KV_OK)
         return code;
-    code = open_locked_as(bucket, file, size, text, name, name_size, limits, sync, dropped, at);
+    code = open_locked_as(bucket, file, size, name, name_size, limits, sync, dropped, at);
     if (code != KV_OK)
-        close(file);
+        close_file(file);
     return code;
 }

@@ -2,9 +2,11 @@
  * readers and followers look at without the mutex. Readers that keep up are offered a view of each act, which they take
  * without it too. Each step on a bucket, a view or a feed is a call of an export of vilgoued.h. */
 #define _GNU_SOURCE
+#include "files.h"
 #include "vilgoued_shared.h"
 #include <errno.h>
 #include <pthread.h>
+#include <semaphore.h>
 #include <stdatomic.h>
 #include <stddef.h>
 #include <stdlib.h>
@@ -24,6 +26,20 @@ struct place {
 };
 #define STANDS_IN(type, name, place) ((type *)((char *)(place)-offsetof(type, name)))
 
+/* A write that waits in the frame of its thread, until the thread that makes it has answered it. */
+struct asked {
+    uint32_t kind;
+    const uint8_t *key;
+    size_t key_size;
+    const uint8_t *value;
+    size_t value_size;
+    bool has_last;
+    uint64_t last;
+    struct asked *next;
+    uint64_t code, revision;
+    sem_t is_answered;
+};
+
 /* What the handles of one bucket refer to: its own, and those of its readers and followers. It is freed with the last
  * reference. */
 struct core {
@@ -36,10 +52,12 @@ struct core {
     struct place *followers, *readers, *keeping_up;
     _Atomic(struct reader *) catching_up; /* readers that keep up from the next act on */
     bool has_waiters; /* whether a follower may be asleep, or a descriptor wait to become readable */
+    _Atomic(struct asked *) asked; /* writes that are to be synced together, the last one first */
     /* Readers load the sequence all the time, so it has a cache line for itself. */
     char before[64];
     _Atomic uint64_t sequence;
     char behind[64];
+    bool syncs_each; /* each write is on the disk when its call answers */
 };
 
 /* A view, with the sequence and the bucket's last revision when it was opened. Two threads use the two pages of a
@@ -224,11 +242,15 @@ static void publish_and_offer(struct core *core, uint64_t sequence) {
         atomic_fetch_or_explicit(&keeping_up(it)->offer, OFFERED, memory_order_release);
 }
 
-/* Lets the mutex go and leaves. A close waits for that, under the mutex. */
-static uint64_t leave(kv_shared *shared, struct core *core, uint64_t code) {
-    if (__atomic_sub_fetch(&shared->state, INSIDE, __ATOMIC_RELEASE) == 0)
+/* Lets the mutex go, and so many calls leave. A close waits for that, under the mutex. */
+static void leave_all(kv_shared *shared, struct core *core, uint64_t calls) {
+    if (__atomic_sub_fetch(&shared->state, calls * INSIDE, __ATOMIC_RELEASE) == 0)
         pthread_cond_signal(&core->idle);
     pthread_mutex_unlock(&core->lock);
+}
+
+static uint64_t leave(kv_shared *shared, struct core *core, uint64_t code) {
+    leave_all(shared, core, 1);
     return code;
 }
 
@@ -245,21 +267,29 @@ static uint64_t leave_written(kv_shared *shared, struct core *core, uint64_t cod
     return leave_published(shared, core, code);
 }
 
-/* Comes in by a handle and takes the mutex; NULL where the handle is closed, or was while this call waited for the
- * mutex. */
-static struct core *enter(kv_shared *shared) {
+/* Comes in by a handle; NULL where it is closed. */
+static struct core *come_in(kv_shared *shared) {
     uint64_t state = __atomic_load_n(&shared->state, __ATOMIC_RELAXED);
     while (state & OPEN)
         if (__atomic_compare_exchange_n(&shared->state, &state, state + INSIDE, true, __ATOMIC_ACQUIRE,
-                                        __ATOMIC_RELAXED)) {
-            struct core *core = shared->at;
-            pthread_mutex_lock(&core->lock);
-            if (!(sequence_of(core) & CLOSED))
-                return core;
-            leave(shared, core, KV_CLOSED);
-            break;
-        }
+                                        __ATOMIC_RELAXED))
+            return shared->at;
     return NULL;
+}
+
+/* Takes the mutex, for who has come in; NULL where the handle was closed, or is while this call waits for the mutex. */
+static struct core *lock_open(kv_shared *shared, struct core *core) {
+    if (!core)
+        return NULL;
+    pthread_mutex_lock(&core->lock);
+    if (!(sequence_of(core) & CLOSED))
+        return core;
+    leave(shared, core, KV_CLOSED);
+    return NULL;
+}
+
+static struct core *enter(kv_shared *shared) {
+    return lock_open(shared, come_in(shared));
 }
 
 /* Drops one reference. */
@@ -328,6 +358,8 @@ uint64_t kv_shared_open_file(kv_shared *shared, const uint8_t *path, size_t path
                              uint64_t *at) {
     uint64_t code;
     struct core *core = new_core(shared, &code);
+    if (core)
+        core->syncs_each = sync == KV_SYNC_EACH;
     return !core ? code
                  : opened(shared, core,
                           kv_open_file(&core->bucket, path, path_size, name, name_size, limits, sync, dropped, at));
@@ -359,9 +391,128 @@ uint64_t kv_shared_close(kv_shared *shared) {
     return code;
 }
 
+/* Where each write is synced, a sync takes a hundred times as long as all else that a write does. So the writes that
+ * come while one is made wait in a list, and are synced together. Who finds the list empty makes all that are in it
+ * once the mutex is free: so one thread waits for the mutex, and each other one to be answered. */
+
+/* Puts a write into the list, and tells whether that was empty. */
+static bool is_first(struct core *core, struct asked *asked) {
+    struct asked *next = atomic_load_explicit(&core->asked, memory_order_relaxed);
+    do
+        asked->next = next;
+    while (!atomic_compare_exchange_weak_explicit(&core->asked, &next, asked, memory_order_release,
+                                                  memory_order_relaxed));
+    return !next;
+}
+
+/* Takes the list, in the order in which the writes came. Under the mutex. */
+static struct asked *take_asked(struct core *core) {
+    struct asked *it = atomic_exchange_explicit(&core->asked, NULL, memory_order_acquire), *next, *first = NULL;
+    for (; it; it = next) {
+        next = it->next;
+        it->next = first;
+        first = it;
+    }
+    return first;
+}
+
+/* Makes a write that is to wait for the sync. */
+static uint64_t make(kv_bucket *bucket, struct asked *asked) {
+    switch (asked->kind) {
+    case KV_MORE_PUT:
+        return kv_make_put(bucket, asked->key, asked->key_size, asked->value, asked->value_size, &asked->revision);
+    case KV_MORE_CREATE:
+        return kv_make_create(bucket, asked->key, asked->key_size, asked->value, asked->value_size, &asked->revision);
+    case KV_MORE_UPDATE:
+        return kv_make_update(bucket, asked->key, asked->key_size, asked->value, asked->value_size, asked->last,
+                              &asked->revision);
+    case KV_MORE_DELETE:
+        return kv_make_delete(bucket, asked->key, asked->key_size, asked->has_last, asked->last, &asked->revision);
+    default:
+        return kv_make_purge(bucket, asked->key, asked->key_size, asked->has_last, asked->last, &asked->revision);
+    }
+}
+
+/* The same behind those that wait for it. */
+static uint64_t make_more(kv_bucket *bucket, struct asked *asked) {
+    return kv_make_more(bucket, asked->kind, asked->key, asked->key_size, asked->value, asked->value_size,
+                        asked->has_last, asked->last, &asked->revision);
+}
+
+/* Writes and syncs what is made from the first of these on, up to another one, and publishes it. Where that fails, all
+ * are refused: who was refused behind such a write was judged by what has never come to be. Under the mutex. */
+static void finish_group(struct core *core, struct asked *first, const struct asked *end) {
+    uint64_t acts = 0, code = kv_finish(&core->bucket, &first->revision);
+    for (struct asked *it = first; it != end; it = it->next) {
+        if (code != KV_OK)
+            it->code = code;
+        else if (it->code == KV_MADE) {
+            it->code = KV_OK;
+            core->last = it->revision;
+            acts++;
+        }
+    }
+    if (acts)
+        publish_and_offer(core, sequence_of(core) + acts * ONE_ACT);
+}
+
+/* Makes writes one behind the other, and gives each its code. Under the mutex. */
+static void write_group(struct core *core, struct asked *group) {
+    struct asked *first = NULL; /* of those that are made and wait */
+    for (struct asked *it = group; it; it = it->next) {
+        it->code = first ? make_more(&core->bucket, it) : KV_CLOSED;
+        if (it->code != KV_CLOSED)
+            continue;
+        if (first)
+            finish_group(core, first, it);
+        it->code = make(&core->bucket, it);
+        first = it->code == KV_MADE ? it : NULL;
+    }
+    if (first)
+        finish_group(core, first, NULL);
+}
+
+/* Makes the writes of the list, of which one's own is the first, and answers the others. These leave here: once one is
+ * answered, its frame is gone. */
+static void lead(kv_shared *shared, struct core *core, struct asked *own) {
+    struct asked *group, *next;
+    uint64_t calls = 0;
+    pthread_mutex_lock(&core->lock);
+    group = take_asked(core);
+    if (!(sequence_of(core) & CLOSED))
+        write_group(core, group);
+    for (struct asked *it = group; it; it = it->next)
+        calls++;
+    leave_all(shared, core, calls);
+    for (struct asked *it = own->next; it; it = next) {
+        next = it->next;
+        sem_post(&it->is_answered);
+    }
+}
+
+/* A write, synced with those that come meanwhile, for who has come in. */
+static uint64_t write_with_others(kv_shared *shared, struct core *core, struct asked *asked, uint64_t *revision) {
+    asked->code = KV_CLOSED;
+    sem_init(&asked->is_answered, 0, 0);
+    if (is_first(core, asked))
+        lead(shared, core, asked);
+    else
+        while (sem_wait(&asked->is_answered) != 0)
+            ;
+    sem_destroy(&asked->is_answered);
+    if (asked->code == KV_OK || asked->code == KV_WRONG_LAST_REVISION)
+        *revision = asked->revision;
+    return asked->code;
+}
+
 uint64_t kv_shared_put(kv_shared *shared, const uint8_t *key, size_t key_size, const uint8_t *value, size_t value_size,
                        uint64_t *revision) {
-    struct core *core = enter(shared);
+    struct core *core = come_in(shared);
+    if (core && core->syncs_each)
+        return write_with_others(shared, core,
+                                 &(struct asked){KV_MORE_PUT, key, key_size, value, value_size, false, 0, .next = NULL},
+                                 revision);
+    core = lock_open(shared, core);
     return !core ? KV_CLOSED
                  : leave_written(shared, core, kv_put(&core->bucket, key, key_size, value, value_size, revision),
                                  revision);
@@ -369,7 +520,12 @@ uint64_t kv_shared_put(kv_shared *shared, const uint8_t *key, size_t key_size, c
 
 uint64_t kv_shared_create(kv_shared *shared, const uint8_t *key, size_t key_size, const uint8_t *value,
                           size_t value_size, uint64_t *revision) {
-    struct core *core = enter(shared);
+    struct core *core = come_in(shared);
+    if (core && core->syncs_each)
+        return write_with_others(
+            shared, core, &(struct asked){KV_MORE_CREATE, key, key_size, value, value_size, false, 0, .next = NULL},
+            revision);
+    core = lock_open(shared, core);
     return !core ? KV_CLOSED
                  : leave_written(shared, core, kv_create(&core->bucket, key, key_size, value, value_size, revision),
                                  revision);
@@ -377,7 +533,12 @@ uint64_t kv_shared_create(kv_shared *shared, const uint8_t *key, size_t key_size
 
 uint64_t kv_shared_update(kv_shared *shared, const uint8_t *key, size_t key_size, const uint8_t *value,
                           size_t value_size, uint64_t last, uint64_t *revision) {
-    struct core *core = enter(shared);
+    struct core *core = come_in(shared);
+    if (core && core->syncs_each)
+        return write_with_others(
+            shared, core, &(struct asked){KV_MORE_UPDATE, key, key_size, value, value_size, false, last, .next = NULL},
+            revision);
+    core = lock_open(shared, core);
     return !core ? KV_CLOSED
                  : leave_written(shared, core,
                                  kv_update(&core->bucket, key, key_size, value, value_size, last, revision), revision);
@@ -385,7 +546,12 @@ uint64_t kv_shared_update(kv_shared *shared, const uint8_t *key, size_t key_size
 
 uint64_t kv_shared_delete(kv_shared *shared, const uint8_t *key, size_t key_size, bool has_last, uint64_t last,
                           uint64_t *revision) {
-    struct core *core = enter(shared);
+    struct core *core = come_in(shared);
+    if (core && core->syncs_each)
+        return write_with_others(shared, core,
+                                 &(struct asked){KV_MORE_DELETE, key, key_size, key, 0, has_last, last, .next = NULL},
+                                 revision);
+    core = lock_open(shared, core);
     return !core ? KV_CLOSED
                  : leave_written(shared, core, kv_delete(&core->bucket, key, key_size, has_last, last, revision),
                                  revision);
@@ -393,7 +559,12 @@ uint64_t kv_shared_delete(kv_shared *shared, const uint8_t *key, size_t key_size
 
 uint64_t kv_shared_purge(kv_shared *shared, const uint8_t *key, size_t key_size, bool has_last, uint64_t last,
                          uint64_t *revision) {
-    struct core *core = enter(shared);
+    struct core *core = come_in(shared);
+    if (core && core->syncs_each)
+        return write_with_others(shared, core,
+                                 &(struct asked){KV_MORE_PURGE, key, key_size, key, 0, has_last, last, .next = NULL},
+                                 revision);
+    core = lock_open(shared, core);
     return !core ? KV_CLOSED
                  : leave_written(shared, core, kv_purge(&core->bucket, key, key_size, has_last, last, revision),
                                  revision);
@@ -418,6 +589,11 @@ uint64_t kv_shared_write_all(kv_shared *shared, kv_batch *batch, uint64_t *revis
 uint64_t kv_shared_sync(kv_shared *shared) {
     struct core *core = enter(shared);
     return !core ? KV_CLOSED : leave(shared, core, kv_sync(&core->bucket));
+}
+
+uint64_t kv_shared_checkpoint(kv_shared *shared) {
+    struct core *core = enter(shared);
+    return !core ? KV_CLOSED : leave(shared, core, kv_checkpoint(&core->bucket));
 }
 
 uint64_t kv_shared_seal(kv_shared *shared) {

@@ -78,6 +78,12 @@ func (b *Bucket) Dropped() uint64 { return b.dropped }
 // and each Sync: reads and watches go on.
 func (b *Bucket) Sync() error { return b.shared.sync() }
 
+// Checkpoint replaces the file by one that has what the bucket stores, and none of what led to it. It is written beside the file, under
+// its name with .checkpoint behind it; a crash leaves the old file or the new one. ErrFileFault where this fails: before the new one has
+// the name, the bucket goes on with the old one, and behind that it goes on no more, as behind a Sync that failed. Compact does this by
+// itself where the file has more than twice the bytes. Without a file nothing happens.
+func (b *Bucket) Checkpoint() error { return b.shared.checkpoint() }
+
 // Bucket is its name.
 func (b *Bucket) Bucket() string { return *b.name }
 

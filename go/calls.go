@@ -39,6 +39,7 @@ static vg_told vg_open_file(uintptr_t at, _GoString_ path, _GoString_ name, uint
     return told;
 }
 static vg_told vg_sync(uintptr_t at) { TOLD(kv_shared_sync(SHARED)); }
+static vg_told vg_checkpoint(uintptr_t at) { TOLD(kv_shared_checkpoint(SHARED)); }
 static void vg_close(uintptr_t at) { kv_shared_close(SHARED); }
 static vg_told vg_finish(uintptr_t at) { TOLD(kv_shared_finish(SHARED)); }
 static vg_told vg_put(uintptr_t at, _GoString_ key, _GoString_ value) {
@@ -389,6 +390,11 @@ func (h *handle) openFile(limits *KeyValueConfig) (uint64, error) {
 
 func (h *handle) sync() error {
 	_, err := written(h, C.vg_sync(h.at))
+	return err
+}
+
+func (h *handle) checkpoint() error {
+	_, err := written(h, C.vg_checkpoint(h.at))
 	return err
 }
 

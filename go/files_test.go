@@ -24,6 +24,9 @@ func TestABucketWithAFileComesAgain(t *testing.T) {
 		if err := bucket.Sync(); err != nil {
 			t.Fatal(err)
 		}
+		if err := bucket.Checkpoint(); err != nil {
+			t.Fatal(err)
+		}
 		bucket.Close()
 	}
 	file, err := os.OpenFile(config.Path, os.O_WRONLY|os.O_APPEND, 0)
@@ -43,6 +46,53 @@ func TestABucketWithAFileComesAgain(t *testing.T) {
 		t.Fatalf("%v, %v, dropped %d", entry, err, bucket.Dropped())
 	}
 	bucket.Close()
+}
+
+func TestACheckpointLeavesTheBucketAndACompactionMakesItsFileSmall(t *testing.T) {
+	config := KeyValueConfig{Bucket: "settings", Path: filepath.Join(t.TempDir(), "settings.kv"), SyncEvery: -1}
+	bucket, err := CreateKeyValue(&config)
+	if err != nil {
+		t.Fatal(err)
+	}
+	for i := 0; i < 100; i++ {
+		if _, err := bucket.PutString("app.port", "80"); err != nil {
+			t.Fatal(err)
+		}
+	}
+	before := sizeOf(t, config.Path)
+	if err := bucket.Checkpoint(); err != nil {
+		t.Fatal(err)
+	}
+	if err := bucket.Compact(100); err != nil {
+		t.Fatal(err)
+	}
+	if after := sizeOf(t, config.Path); after*2 > before {
+		t.Fatalf("%d bytes before, and %d behind it", before, after)
+	}
+	if _, err := bucket.PutString("app.port", "81"); err != nil {
+		t.Fatal(err)
+	}
+	bucket.Close()
+	if err := bucket.Checkpoint(); !errors.Is(err, ErrClosed) {
+		t.Fatal(err)
+	}
+	if bucket, err = CreateKeyValue(&config); err != nil {
+		t.Fatal(err)
+	}
+	entry, err := bucket.Get("app.port")
+	if err != nil || entry.Revision() != 101 || string(entry.Value()) != "81" {
+		t.Fatalf("%v, %v", entry, err)
+	}
+	bucket.Close()
+}
+
+func sizeOf(t *testing.T, path string) int64 {
+	t.Helper()
+	found, err := os.Stat(path)
+	if err != nil {
+		t.Fatal(err)
+	}
+	return found.Size()
 }
 
 func TestAFileOfAnotherBucketOrOfNoneIsRefused(t *testing.T) {

@@ -134,6 +134,15 @@ uint64_t kv_open_file(kv_bucket *bucket, const uint8_t *path, size_t path_size, 
  * added to the file, and each sync. Reads and watches go on. The write whose call failed may be in the file, or not: an
  * opening tells. */
 uint64_t kv_sync(kv_bucket *bucket);
+/* Replaces the bucket's file by one that has what the bucket stores, and none of what led to it: behind a compaction that is
+ * smaller, and opens sooner. It is made in memory first, and then beside the file, under its name with .checkpoint behind
+ * it; what has that name is overwritten. A crash leaves the old file or the new one, which is of the same bucket. Without
+ * a file there is nothing to replace.
+ *
+ * KV_FILE_FAULT where a call of the files fails: before the new one has the name, the bucket goes on with the old one, and
+ * behind that it goes on no more, as kv_sync says. kv_compact makes a checkpoint by itself, where the file has more than
+ * twice the bytes that it has behind that; where this fails, the compaction is made all the same. */
+uint64_t kv_checkpoint(kv_bucket *bucket);
 /* Frees the bucket. Its file ends cleanly, with all on the disk: where that fails, or a call of the file had failed, it tells
  * KV_FILE_FAULT, and frees all the same. */
 uint64_t kv_close(kv_bucket *bucket);

@@ -64,11 +64,14 @@ typedef void kv_watched(void *with, const kv_item *item, const char *key, const 
  * others use it. */
 uint64_t kv_shared_open(kv_shared *shared, const uint8_t *name, size_t name_size, const kv_limits *limits);
 
-/* The same with a file, as kv_open_file. Its calls sync one after another, under the mutex. */
+/* The same with a file, as kv_open_file. Its calls sync one after another, under the mutex; but with KV_SYNC_EACH one sync
+ * serves all writes that wait for it, batches aside. */
 uint64_t kv_shared_open_file(kv_shared *shared, const uint8_t *path, size_t path_size, const uint8_t *name,
                              size_t name_size, const kv_limits *limits, uint64_t sync, uint64_t *dropped,
                              uint64_t *at);
 uint64_t kv_shared_sync(kv_shared *shared);
+/* As kv_checkpoint, under the mutex: writes wait for it, and reads, takes and sleepers do not. */
+uint64_t kv_shared_checkpoint(kv_shared *shared);
 
 /* Tells followers that no write comes any more: who sleeps is woken, and kv_follower_next is KV_CLOSED once all was
  * handed out. It stops no writer: a write that comes all the same is published, and handed out by a later next. Any

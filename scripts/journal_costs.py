@@ -1,9 +1,10 @@
 #!/usr/bin/env python3
-"""journal_costs.py: measures what it costs the program kvbucket to keep its bucket in a file, and writes docs/bench/journal.md. The file
-lies in the folder for temporary files (TMPDIR), on whose disk the costs of a sync depend. It wants the program (scripts/build.py), and
-takes about a minute. What is above its bound is told on standard error."""
+"""journal_costs.py: measures what it costs the program kvbucket to keep its bucket in a file, and a checkpoint through the library, and
+writes docs/bench/journal.md. The file lies in the folder for temporary files (TMPDIR), on whose disk the costs of a sync depend. It
+wants the program (scripts/build.py), and for the checkpoint the library (./library), and takes about a minute. What is above its bound
+is told on standard error."""
 import datetime, os, subprocess, sys, tempfile, time
-from typing import Iterable, NamedTuple, Sequence
+from typing import Iterable, NamedTuple, Optional, Sequence
 
 if __name__ == "__main__":
     sys.dont_write_bytecode = True
@@ -16,10 +17,23 @@ KEYS = 10_000
 ROUNDS = 5
 # How often records are brought onto the disk, what the page calls it, and how many puts are timed at once.
 MODES = (("", "in memory", 50_000), ("close", "`--sync close`", 50_000), ("100", "`--sync 100`", 20_000), ("each", "`--sync each`", 2_000))
-# How many writes the file has that is opened anew.
+# How many writes the file has that is opened anew, and how many a checkpoint stores.
 WRITES = 1_000_000
-# What an append without a sync may add to a put, in microseconds of the processor, and what the opening may take, in seconds.
-MOST_ADDED, MOST_OPENING = 2, 3
+# What an append without a sync may add to a put, in microseconds of the processor, and what the opening and the checkpoint may take, in
+# seconds.
+MOST_ADDED, MOST_OPENING, MOST_CHECKPOINT = 2, 3, 2
+# Makes a bucket in a file, and tells the seconds of its checkpoint.
+CHECKPOINT = """\
+import sys, time
+from vilgoued import Bucket
+path, writes = sys.argv[1], int(sys.argv[2])
+with Bucket("settings", path=path, sync="asked") as bucket:
+    for number in range(writes):
+        bucket.put("device.%d.state" % number, b"0123456789012345")
+    began = time.monotonic()
+    bucket.checkpoint()
+    print(time.monotonic() - began)
+"""
 
 
 class Put(NamedTuple):
@@ -77,15 +91,32 @@ def opening(path: str, writes: int) -> Opening:
         return Opening(os.path.getsize(file), median(run(path, file, "") for _ in range(3)))
 
 
-def above(modes: Sequence[Put], opened: Opening) -> list[str]:
+def checkpoint(writes: int) -> Optional[float]:
+    """The seconds of a checkpoint of so many stored writes; None where there is no library."""
+    library = os.path.join(top, "lib", "libvilgoued.so")
+    if not os.path.exists(library):
+        return None
+    with tempfile.TemporaryDirectory() as folder:
+        words = [sys.executable, "-c", CHECKPOINT, os.path.join(folder, "settings.kv"), str(writes)]
+        more = {"PYTHONPATH": os.path.join(top, "python"), "VILGOUED_LIB": library}
+        done = subprocess.run(words, env={**os.environ, **more}, stdout=subprocess.PIPE, text=True)
+    if done.returncode != 0:
+        sys.exit("journal_costs: a checkpoint ended with status %d" % done.returncode)
+    return float(done.stdout)
+
+
+def above(modes: Sequence[Put], opened: Opening, checkpointed: Optional[float]) -> list[str]:
     """What is above its bound, in a line each."""
     added = modes[1].worked - modes[0].worked
     return (["an append adds %.2f µs to a put, above %d µs" % (added, MOST_ADDED)] if added > MOST_ADDED else []) + \
-           (["an opening takes %.2f s, above %d s" % (opened.took, MOST_OPENING)] if opened.took > MOST_OPENING else [])
+           (["an opening takes %.2f s, above %d s" % (opened.took, MOST_OPENING)] if opened.took > MOST_OPENING else []) + \
+           (["a checkpoint takes %.2f s, above %d s" % (checkpointed, MOST_CHECKPOINT)]
+            if checkpointed is not None and checkpointed > MOST_CHECKPOINT else [])
 
 
-def page(modes: Sequence[Put], opened: Opening, day: str) -> str:
+def page(modes: Sequence[Put], opened: Opening, checkpointed: Optional[float], day: str) -> str:
     rows = "\n".join("| %s | %.2f µs | %.2f µs |" % (name, *costs) for (_, name, _), costs in zip(MODES, modes))
+    said = "" if checkpointed is None else f"\nA checkpoint of {WRITES:,} stored writes takes {checkpointed:.2f} s through the library.\n"
     return """# What a journal file costs
 
 `scripts/journal_costs.py` wrote this page on %s, on %d processors. Nothing of it is promised. A sync is as quick as the disk.
@@ -97,16 +128,17 @@ A put through `./kvbucket`, among %s keys with values of 16 bytes, the median of
 %s
 
 A file of %s such puts has %.1f MB, and is opened in %.2f s.
-""" % (day, os.cpu_count() or 1, format(KEYS, ","), ROUNDS, rows, format(WRITES, ","), opened.size / 1e6, opened.took)
+%s""" % (day, os.cpu_count() or 1, format(KEYS, ","), ROUNDS, rows, format(WRITES, ","), opened.size / 1e6, opened.took,
+        said)
 
 
 def main() -> None:
     path = current.path_of("kvbucket")
     modes = [put_in_file(path, sync, count) if sync else put(path, [], count) for sync, _, count in MODES]
-    opened = opening(path, WRITES)
+    opened, checkpointed = opening(path, WRITES), checkpoint(WRITES)
     with open(PAGE, "w", encoding="utf-8") as file:
-        file.write(page(modes, opened, datetime.date.today().isoformat()))
-    for line in above(modes, opened):
+        file.write(page(modes, opened, checkpointed, datetime.date.today().isoformat()))
+    for line in above(modes, opened, checkpointed):
         print("journal_costs: " + line, file=sys.stderr)
 
 

@@ -191,8 +191,29 @@ class Told(ProgramJournal):
                           ["--sync", "each"], ["--sync", "3", "--dump", self.file], ["--journal", self.file, "--sync", "0"], ["--dump", self.file, "--text"],
                           ["--journal", self.file, "--sync", "never"], ["--journal", self.file, "--sync", ""], ["--journal"]):
             self.check(" ".join(arguments), arguments, 2, faults="error: ", exact=False)
-        self.check("limits", ["--journal", self.file, "--history", "65"], 2, faults="kvbucket: BadConfig\n")
+        for option in ("--journal", "--dump"):
+            self.check("limits of " + option, [option, self.file, "--history", "65"], 2, faults="kvbucket: BadConfig\n", input=b"put a -\n")
         self.assertFalse(os.path.exists(self.file))
+
+    def test_the_first_clash_is_told_before_anything_is_read(self) -> None:
+        for arguments, clash in ((["--journal", self.file, "--race", "2"], "--race can't be used with --journal or --dump"),
+                                 (["--dump", self.file, "--race", "2", "--text"], "--race can't be used with --journal or --dump"),
+                                 (["--dump", self.file, "--text"], "--dump can't be used with --text"),
+                                 (["--journal", self.file, "--dump", self.file], "--journal can't be used with --dump"),
+                                 (["--sync", "each"], "--sync needs --journal"),
+                                 (["--journal", self.file, "--sync", "0"], "--sync takes each, close or a number from 1")):
+            self.check(" ".join(arguments), arguments, 2, faults="error: %s\n\nFor more information, try '--help'.\n" % clash, input=b"put a -\n")
+        self.assertFalse(os.path.exists(self.file))
+
+    def test_an_output_that_fails_is_told_behind_the_torn_end(self) -> None:
+        self.run_on("put a MQ==\n")
+        self.put_data(self.data() + bytes(5))
+        torn = "kvbucket: dropped 5 bytes at the end of %s\n" % self.file
+        with open("/dev/full", "wb") as full:
+            self.check("a run", ["--journal", self.file], 1, faults=torn + "kvbucket: WriteFault\n", standard_output=full, input=b"put b Mg==\n")
+            self.check("a dump", ["--dump", self.file], 1, faults="kvbucket: WriteFault\n", standard_output=full)
+        # the write was made before its answer could not be written
+        self.assertEqual(self.kept(), [("put", "a", b"1"), ("closed", 1), ("put", "b", b"2"), ("closed", 2)])
 
 
 class Failing(ProgramJournal):
@@ -337,6 +358,52 @@ class Dumped(ProgramJournal):
         self.check("other", ["--dump", self.file, "--history", "2"], 1, faults="kvbucket: OtherBucket\n")
         self.put_data(self.data() + bytes(5))
         self.dumped(faults="kvbucket: left out 5 bytes at the end of %s\n" % self.file)
+
+
+class DumpedBehindACheckpoint(ProgramJournal):
+    # What is stored behind these: of a, whose history is longer than what is kept, the last two puts, of b nothing, and all that
+    # came behind the floor.
+    SCRIPT = "put a MQ==\nput b Mg==\nput a Mw==\ndelete b\nput a NQ==\ncompact 4\ndelete c\nput d -\npurge d\n"
+    STORED = [(3, "put", "a", b"3"), (5, "put", "a", b"5"), (6, "delete", "c", b""), (7, "put", "d", b""), (8, "purge", "d", b"")]
+    LINES = "put a Mw==\nput a NQ==\ndelete c\nput d -\npurge d\n"
+
+    def begin(self, sealed: bool = False) -> None:
+        """Makes the file one that begins with a checkpoint of what is stored behind the script."""
+        self.run_on("", "--history", "2")
+        self.put_data(journal.checkpointed(self.data(), self.STORED, 8, 4, 4, sealed))
+
+    def entries(self, dump: str) -> list[Any]:
+        """What the keys have behind a script, but for the revisions."""
+        answers = self.in_memory(dump + "history a\nhistory b\nhistory c\nhistory d\nkeys >\n", "--history", "2").splitlines()[-5:]
+        told = [json.loads(answer) for answer in answers]
+        return [[(entry["op"], entry.get("value")) for entry in answer["entries"]] if "entries" in answer else answer for answer in told]
+
+    def test_a_dump_is_the_commands_of_what_is_stored(self) -> None:
+        self.begin()
+        before = self.data()
+        self.assertEqual(self.dumped("--history", "2"), self.LINES)
+        self.assertEqual(self.data(), before)
+        self.assertEqual(self.entries(self.LINES), self.entries(self.SCRIPT))
+
+    def test_the_entries_behind_it_count(self) -> None:
+        self.begin()
+        self.put_data(journal.framed(self.data(), [b"\0\0\0\0\1\1e" + b"9", b"\0\0\0\0\5" + (7).to_bytes(8, "big")]))
+        # the floor clears c, and takes the put of d away
+        self.assertEqual(self.dumped("--history", "2"), "put a Mw==\nput a NQ==\npurge d\nput e OQ==\n")
+
+    def test_writes_that_have_ended_are_ended_behind_the_dump(self) -> None:
+        self.begin(True)
+        self.assertEqual(self.dumped("--history", "2"), self.LINES + "seal\n")
+
+    def test_a_torn_end_is_told(self) -> None:
+        self.begin()
+        self.put_data(self.data() + bytes(7))
+        self.assertEqual(self.dumped("--history", "2", faults="kvbucket: left out 7 bytes at the end of %s\n" % self.file), self.LINES)
+
+    def test_a_checkpoint_that_is_no_buckets_is_damage(self) -> None:
+        self.run_on("", "--history", "2")
+        self.put_data(journal.checkpointed(self.data(), self.STORED, 8, 9, 4, False))
+        self.check("numbers", ["--dump", self.file, "--history", "2"], 1, faults="kvbucket: FileDamaged at byte ", exact=False)
 
 
 if __name__ == "__main__":

@@ -122,6 +122,13 @@ class Bucket(Reads):
         each sync; reads and watches go on. Without a file there is nothing to bring."""
         check(library().kv_shared_sync(self._at))
 
+    def checkpoint(self) -> None:
+        """Replaces the file by one that has what the bucket stores, and none of what led to it. It is written beside the file, under
+        its name with `.checkpoint` behind it; a crash leaves the old file or the new one. FileFault where this fails: before the
+        new one has the name, the bucket goes on with the old one, and behind that it goes on no more, as behind a `sync` that
+        failed. `compact` does this by itself where the file has more than twice the bytes. Without a file nothing happens."""
+        check(library().kv_shared_checkpoint(self._at))
+
     def seal(self) -> None:
         """Ends the writes."""
         check(library().kv_shared_seal(self._at))

@@ -74,6 +74,7 @@ _FUNCTIONS: Dict[str, _Kinds] = {
     "kv_shared_finish": [_AT],
     "kv_shared_open_file": [_AT, *_BYTES, *_BYTES, _AT, _NUMBER, _AT, _AT],
     "kv_shared_sync": [_AT],
+    "kv_shared_checkpoint": [_AT],
     "kv_shared_close": [_AT],
     "kv_shared_put": [_AT, *_BYTES, *_BYTES, _AT],
     "kv_shared_create": [_AT, *_BYTES, *_BYTES, _AT],

@@ -60,6 +60,15 @@ impl Bucket {
         self.shared.sync()
     }
 
+    /// Replaces the file by one that has what the bucket stores, and none of what led to it. It is written beside the file, under its
+    /// name with `.checkpoint` behind it; a crash leaves the old file or the new one. FileFault where this fails: before the new one
+    /// has the name, the bucket goes on with the old one, and behind that it goes on no more, as behind a [`sync`](Bucket::sync)
+    /// that failed. [`compact`](Bucket::compact) does this by itself where the file has more than twice the bytes. Without a file
+    /// nothing happens.
+    pub fn checkpoint(&self) -> Result<(), Error> {
+        self.shared.checkpoint()
+    }
+
     /// Gives the key the value, and answers the revision of the write. BadKey, ValueTooLarge, Sealed, JournalFull.
     #[inline]
     pub fn put(&self, key: &str, value: impl AsRef<[u8]>) -> Result<u64, Error> {

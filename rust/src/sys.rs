@@ -142,6 +142,7 @@ mod c {
             place: *mut u64,
         ) -> u64;
         pub fn kv_shared_sync(at: *mut Shared) -> u64;
+        pub fn kv_shared_checkpoint(at: *mut Shared) -> u64;
         pub fn kv_shared_finish(at: *mut Shared) -> u64;
         pub fn kv_shared_close(at: *mut Shared) -> u64;
         pub fn kv_shared_put(
@@ -470,6 +471,11 @@ impl Shared {
     pub fn sync(&self) -> Result<(), Error> {
         // SAFETY: the handle may be used by any thread.
         check(unsafe { c::kv_shared_sync(self.at()) }, 0).map(drop)
+    }
+
+    pub fn checkpoint(&self) -> Result<(), Error> {
+        // SAFETY: as that of `sync`.
+        check(unsafe { c::kv_shared_checkpoint(self.at()) }, 0).map(drop)
     }
 
     #[inline]

@@ -1,6 +1,6 @@
 //! What calls answer.
 use std::time::{Duration, Instant};
-use vilgoued::{Bucket, Entry, Error, Item, Limits, Op, Options, Start, Write};
+use vilgoued::{Bucket, Durability, Entry, Error, Item, Limits, Op, Options, Start, Write};
 
 fn shown(item: Item) -> String {
     item.into_entry().map_or("marker".to_owned(), |it| {
@@ -191,4 +191,25 @@ fn what_may_go_to_other_threads_is_send_and_what_they_may_share_is_sync() {
     goes::<vilgoued::Stopper>();
     goes::<Bucket>();
     goes::<Entry>();
+}
+
+#[test]
+fn a_checkpoint_leaves_the_bucket_and_a_compaction_makes_its_file_small() {
+    let folder = std::env::temp_dir().join(format!("vilgoued-checkpoint-{}", std::process::id()));
+    std::fs::create_dir_all(&folder).unwrap();
+    let path = folder.join("settings.kv");
+    let opened = || Bucket::open_file(&path, "settings", Limits::with_history(2), Durability::Asked).unwrap().0;
+    let bucket = opened();
+    for _ in 0..100 {
+        bucket.put("app.port", "80").unwrap();
+    }
+    let before = std::fs::metadata(&path).unwrap().len();
+    bucket.checkpoint().unwrap();
+    bucket.compact(100).unwrap();
+    assert!(std::fs::metadata(&path).unwrap().len() < before / 2);
+    assert_eq!(bucket.put("app.port", "81"), Ok(101));
+    drop(bucket);
+    assert_eq!(opened().get("app.port").unwrap().unwrap().revision(), 101);
+    std::fs::remove_dir_all(&folder).unwrap();
+    assert_eq!(written().checkpoint(), Ok(()));
 }

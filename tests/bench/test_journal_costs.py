@@ -20,13 +20,18 @@ class JournalCosts(unittest.TestCase):
 
     def test_what_is_above_its_bound_is_told(self) -> None:
         modes, opened = [Put(1, 1), Put(9, 3), Put(40, 4), Put(500, 9)], Opening(47_000_000, 3)
-        self.assertEqual(journal_costs.above(modes, opened), [])
-        self.assertEqual(journal_costs.above([Put(1, 0.5)] + modes[1:], opened._replace(took=3.25)),
-                         ["an append adds 2.50 µs to a put, above 2 µs", "an opening takes 3.25 s, above 3 s"])
+        for checkpointed in (None, 2.0):
+            self.assertEqual(journal_costs.above(modes, opened, checkpointed), [])
+        self.assertEqual(journal_costs.above([Put(1, 0.5)] + modes[1:], opened._replace(took=3.25), 2.5),
+                         ["an append adds 2.50 µs to a put, above 2 µs", "an opening takes 3.25 s, above 3 s",
+                          "a checkpoint takes 2.50 s, above 2 s"])
 
     def test_the_page_has_a_row_for_each_mode(self) -> None:
-        page = journal_costs.page([Put(1, 2), Put(3, 4), Put(5, 6), Put(7, 8)], Opening(47_000_000, 1.5), "2026-11-29")
-        for row in ("| in memory | 1.00 µs | 2.00 µs |", "| `--sync each` | 7.00 µs | 8.00 µs |", "has 47.0 MB, and is opened in 1.50 s."):
+        modes, opened = [Put(1, 2), Put(3, 4), Put(5, 6), Put(7, 8)], Opening(47_000_000, 1.5)
+        self.assertNotIn("checkpoint", journal_costs.page(modes, opened, None, "2026-11-29"))
+        page = journal_costs.page(modes, opened, 0.75, "2026-11-29")
+        for row in ("| in memory | 1.00 µs | 2.00 µs |", "| `--sync each` | 7.00 µs | 8.00 µs |", "has 47.0 MB, and is opened in 1.50 s.",
+                    "A checkpoint of 1,000,000 stored writes takes 0.75 s through the library."):
             with self.subTest(row):
                 self.assertIn(row, page)
 

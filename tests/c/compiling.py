@@ -1,47 +1,38 @@
 """Programs in C beside libvilgoued, in the folder of VILGOUED_LIB. The C compiler is CC, or else cc, and that for C++ is CXX, or
 else c++."""
-import os, subprocess, tempfile, unittest
+import os
 from typing import Sequence
 
-from tests import top
+from tests import commands, top
 
 here = os.path.dirname(os.path.abspath(__file__))
 libraries = os.path.dirname(os.path.abspath(os.environ["VILGOUED_LIB"]))
 C, CXX = os.environ.get("CC", "cc"), os.environ.get("CXX", "c++")
 INCLUDE = os.path.join(top, "include")
-# What a program is linked with: the static library, or the shared one where it lies.
+# What a program is linked with.
 STATIC = [os.path.join(libraries, "libvilgoued.a")]
-SHARED = ["-L" + libraries, "-lvilgoued", "-Wl,-rpath," + libraries]
 # The shell, without the one file that is no part of a program: it gives each opening a number of its own.
 SHELL = [os.path.join(top, "c", name) for name in ("shared.c", "watcher.c")]
 OPENING = os.path.join(top, "c", "opening.c")
-# That of files calls what is proved by names that the shared library has for itself.
-FILES = os.path.join(top, "c", "files.c")
+# Those that call what is proved by names that the shared library has for itself.
+FILES = [os.path.join(top, "c", name) for name in ("files.c", "checkpoint.c", "handles.c")]
 STRICT = ["-pedantic", "-Wall", "-Wextra", "-Werror"]
 CHECKED = ["-g", "-fsanitize=address,undefined", "-fno-sanitize-recover=all"]
 # The calls of the system that a program has for itself.
 WRAPPED = {
     "sweep": ("malloc", "realloc"), "shared_sweep": ("malloc", "realloc"), "files": ("flock",),
-    "failing": ("open", "flock", "fstat", "stat", "pread", "pwrite", "ftruncate", "fsync", "fdatasync", "getentropy"),
+    "failing": ("open", "openat", "flock", "fstat", "fstatat", "fchmod", "realpath", "pread", "pwrite", "ftruncate", "fsync",
+                "fdatasync", "renameat", "unlinkat", "getentropy"),
 }
 
 
 def ran(*command: str, **more: str) -> str:
     """What a command that has to succeed prints, with more in its environment."""
-    done = subprocess.run(command, stdin=subprocess.DEVNULL, stdout=subprocess.PIPE, stderr=subprocess.STDOUT, text=True,
-                          env=dict(os.environ, **more))
-    if done.returncode != 0:
-        raise AssertionError("%s: status %d\n%s" % (" ".join(command), done.returncode, done.stdout))
-    return done.stdout
+    return commands.ran(*command, env=dict(os.environ, **more))
 
 
-class ProgramTest(unittest.TestCase):
+class ProgramTest(commands.InAFolder):
     """A test that makes and runs programs of this folder."""
-
-    def setUp(self) -> None:
-        room = tempfile.TemporaryDirectory()
-        self.addCleanup(room.cleanup)
-        self.folder = room.name
 
     def built(self, name: str, *flags: str, beside: Sequence[str] = STATIC) -> str:
         """Makes a program of this folder beside a library, the static one where none is named."""

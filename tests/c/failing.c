@@ -1,5 +1,5 @@
 /* Each call that the library makes of a file fails in turn, once or for good, a write behind half of its bytes; and each is cut
- * short and interrupted. What was answered is there again at the next opening. */
+ * short and interrupted. What was answered is there again at the next opening, also where the file was to be replaced. */
 #define _GNU_SOURCE
 #include "vilgoued.h"
 #include "wanting.h"
@@ -37,6 +37,16 @@ int __wrap_open(const char *path, int flags, mode_t mode) {
     return fails() || is_interrupted() ? -1 : __real_open(path, flags, mode);
 }
 
+int __real_openat(int folder, const char *path, int flags, ...);
+int __wrap_openat(int folder, const char *path, int flags, mode_t mode) {
+    return fails() || is_interrupted() ? -1 : __real_openat(folder, path, flags, mode);
+}
+
+char *__real_realpath(const char *path, char *whole);
+char *__wrap_realpath(const char *path, char *whole) {
+    return fails() ? NULL : __real_realpath(path, whole);
+}
+
 #define WRAPPED(result, name, parameters, arguments)                                                                   \
     result __real_##name parameters;                                                                                   \
     result __wrap_##name parameters {                                                                                  \
@@ -44,7 +54,10 @@ int __wrap_open(const char *path, int flags, mode_t mode) {
     }
 WRAPPED(int, flock, (int file, int asked_for), (file, asked_for))
 WRAPPED(int, fstat, (int file, struct stat *found), (file, found))
-WRAPPED(int, stat, (const char *path, struct stat *found), (path, found))
+WRAPPED(int, fstatat, (int folder, const char *path, struct stat *found, int flags), (folder, path, found, flags))
+WRAPPED(int, fchmod, (int file, mode_t mode), (file, mode))
+WRAPPED(int, renameat, (int from, const char *old, int to, const char *new), (from, old, to, new))
+WRAPPED(int, unlinkat, (int folder, const char *path, int flags), (folder, path, flags))
 WRAPPED(int, fsync, (int file), (file))
 WRAPPED(int, fdatasync, (int file), (file))
 WRAPPED(int, ftruncate, (int file, off_t size), (file, size))
@@ -141,6 +154,63 @@ static void run(uint64_t sync) {
     WANT(kv_close(&b) == KV_OK && unlink("failing.kv") == 0);
 }
 
+/* Whether the bucket is as its writes have left it. */
+static void is_same(kv_bucket *b, uint64_t last) {
+    uint8_t room[64];
+    uint64_t revision;
+    size_t size;
+    WANT(last_of(b) == last && kv_get(b, B("a"), room, sizeof room, &size, &revision) == KV_OK && revision == last);
+}
+
+/* A checkpoint, by itself or behind a compaction, with calls that fail. It answers whether the bucket goes on. */
+static bool replaces(kv_bucket *b, uint64_t last, uint64_t sync, bool compacts, long k, bool is_once) {
+    uint64_t floor, code;
+    left = k;
+    once = is_once;
+    asked = 0;
+    code = compacts ? kv_compact(b, last, &floor) : kv_checkpoint(b);
+    left = -1;
+    is_same(b, last);
+    WANT(code == KV_OK || code == KV_FILE_FAULT);
+    /* The compaction is written first, and synced where each write is. What fails behind that makes it no failure. */
+    WANT(!compacts || (code == KV_FILE_FAULT) == (k == 0 || (k == 1 && sync == KV_SYNC_EACH)));
+    return kv_sync(b) == KV_OK;
+}
+
+/* Tells how many calls the checkpoint made. */
+static long checkpoint(uint64_t sync, bool compacts, long k, bool is_once) {
+    kv_bucket b = {0};
+    uint64_t revision, last = 20;
+    long made;
+    bool goes_on;
+    WANT(opened(&b, sync) == KV_OK);
+    for (uint64_t at = 1; at <= last; at++)
+        WANT(kv_put(&b, B("a"), B("a value"), &revision) == KV_OK && revision == at);
+    WANT(sync == KV_SYNC_EACH || kv_sync(&b) == KV_OK);
+    goes_on = replaces(&b, last, sync, compacts, k, is_once);
+    made = asked;
+    if (goes_on)
+        WANT(kv_put(&b, B("a"), B("more"), &revision) == KV_OK && revision == ++last);
+    WANT((kv_close(&b) == KV_OK) == goes_on);
+    WANT(opened(&b, sync) == KV_OK);
+    is_same(&b, last);
+    WANT(kv_checkpoint(&b) == KV_OK && kv_close(&b) == KV_OK && opened(&b, sync) == KV_OK);
+    is_same(&b, last);
+    WANT(kv_close(&b) == KV_OK && unlink("failing.kv") == 0);
+    /* What could not be taken away is taken by the next. */
+    WANT(unlink("failing.kv.checkpoint") != 0);
+    return made;
+}
+
+static void checkpoints_in_turn(uint64_t sync, bool compacts) {
+    long total = checkpoint(sync, compacts, -1, false);
+    for (long k = 0; k < total; k++) {
+        checkpoint(sync, compacts, k, true);
+        checkpoint(sync, compacts, k, false);
+    }
+    printf("%ld calls of a checkpoint failed in turn\n", total);
+}
+
 static void all_in_turn(uint64_t sync, bool is_once) {
     long total;
     asked = 0;
@@ -159,10 +229,15 @@ int main(int count, char **words) {
     for (uint64_t sync = 0; sync < 4; sync++) {
         all_in_turn(sync, false);
         all_in_turn(sync, true);
+        left = -1;
+        checkpoints_in_turn(sync, false);
+        checkpoints_in_turn(sync, true);
     }
     left = -1;
     slow = true;
-    for (uint64_t sync = 0; sync < 4; sync++)
+    for (uint64_t sync = 0; sync < 4; sync++) {
         run(sync);
+        checkpoint(sync, sync % 2, -1, false);
+    }
     return 0;
 }

@@ -181,8 +181,9 @@ static void shares(void) {
     WANT(kv_shared_open_file(&shared, B("shared.kv"), B("settings"), &limits, 3, &dropped, &at) == KV_OPEN_ALREADY);
     WANT(opens(&b, "shared.kv", "settings", KV_SYNC_EACH) == KV_FILE_BUSY);
     WANT(kv_shared_put(&shared, B("a"), B("1"), &revision) == KV_OK && kv_shared_sync(&shared) == KV_OK);
+    WANT(kv_shared_checkpoint(&shared) == KV_OK && kv_shared_sync(&shared) == KV_OK);
     kv_shared_close(&shared);
-    WANT(kv_shared_sync(&shared) == KV_CLOSED);
+    WANT(kv_shared_sync(&shared) == KV_CLOSED && kv_shared_checkpoint(&shared) == KV_CLOSED);
     WANT(kv_shared_open_file(&shared, B("shared.kv"), B("others"), &limits, 3, &dropped, &at) == KV_OTHER_BUCKET);
     WANT(kv_shared_open_file(&shared, B("shared.kv"), B("settings"), &limits, 3, &dropped, &at) == KV_OK);
     WANT(kv_shared_put(&shared, B("a"), B("2"), &revision) == KV_OK && revision == 2);
@@ -191,10 +192,93 @@ static void shares(void) {
     kv_close(&b);
 }
 
-/* A bucket in memory has nothing to bring onto a disk. */
+/* A checkpoint leaves the bucket as it is, with its watches. */
+static void checkpoints(void) {
+    kv_bucket b = {0}, other = {0};
+    kv_options latest = {KV_LATEST, 0, false, false};
+    kv_item item;
+    uint8_t key[64], value[64];
+    uint64_t number;
+    struct stat found;
+    WANT(opens(&b, "long.kv", "settings", KV_SYNC_ASKED) == KV_OK && kv_watch(&b, B(">"), &latest, &number) == KV_OK);
+    for (int i = 0; i < 1000; i++)
+        put(&b, "a", "some value");
+    put(&b, "b", "1");
+    WANT(kv_delete(&b, B("b"), false, 0, &revision) == KV_OK && chmod("long.kv", 0640) == 0);
+    WANT(kv_sync(&b) == KV_OK);
+    /* It goes by the folder where the file lies, whatever the program works in. */
+    WANT(mkdir("apart", 0700) == 0 && chdir("apart") == 0);
+    WANT(kv_checkpoint(&b) == KV_OK && chdir("..") == 0 && rmdir("apart") == 0);
+    WANT(size_of("long.kv") > 0 && size_of("long.kv.checkpoint") == -1);
+    WANT(stat("long.kv", &found) == 0 && (found.st_mode & 0777) == 0640);
+    WANT(opens(&other, "long.kv", "settings", KV_SYNC_EACH) == KV_FILE_BUSY);
+    WANT(has(&b, "a", "some value") && revision == 1000);
+    for (int i = 0; i < 3; i++)
+        WANT(kv_take(&b, number, key, sizeof key, value, sizeof value, &item) == KV_OK);
+    put(&b, "c", "behind it");
+    kv_close(&b);
+    WANT(opens(&b, "long.kv", "settings", KV_SYNC_EACH) == KV_OK && dropped == 0);
+    WANT(has(&b, "a", "some value") && revision == 1000 && has(&b, "c", "behind it") && revision == 1003);
+    /* And again, of a file that begins with one, which has a link to it: that stays. */
+    WANT(kv_checkpoint(&b) == KV_OK && kv_checkpoint(&b) == KV_OK);
+    kv_close(&b);
+    WANT(symlink("long.kv", "link.kv") == 0 && opens(&b, "link.kv", "settings", KV_SYNC_EACH) == KV_OK);
+    WANT(kv_checkpoint(&b) == KV_OK && lstat("link.kv", &found) == 0 && S_ISLNK(found.st_mode));
+    put(&b, "c", "more");
+    kv_close(&b);
+    WANT(opens(&b, "long.kv", "settings", KV_SYNC_EACH) == KV_OK && has(&b, "c", "more"));
+    kv_close(&b);
+    WANT(kv_checkpoint(&b) == KV_CLOSED);
+}
+
+/* A file that was moved away is not replaced, and neither is one whose new name is in use; it goes on. */
+static void keeps(void) {
+    kv_bucket b = {0}, other = {0};
+    WANT(opens(&b, "kept.kv", "settings", KV_SYNC_EACH) == KV_OK);
+    put(&b, "a", "1");
+    WANT(rename("kept.kv", "moved.kv") == 0 && kv_checkpoint(&b) == KV_FILE_FAULT && size_of("kept.kv") == -1);
+    put(&b, "a", "2");
+    WANT(rename("moved.kv", "kept.kv") == 0);
+    WANT(opens(&other, "kept.kv.checkpoint", "settings", KV_SYNC_EACH) == KV_OK);
+    put(&other, "a", "its own");
+    WANT(kv_checkpoint(&b) == KV_FILE_FAULT && has(&other, "a", "its own"));
+    kv_close(&other);
+    WANT(opens(&other, "kept.kv.checkpoint", "settings", KV_SYNC_EACH) == KV_OK && has(&other, "a", "its own"));
+    kv_close(&other);
+    WANT(unlink("kept.kv.checkpoint") == 0 && mkdir("kept.kv.checkpoint", 0700) == 0);
+    WANT(kv_checkpoint(&b) == KV_FILE_FAULT && rmdir("kept.kv.checkpoint") == 0);
+    put(&b, "a", "3");
+    WANT(kv_checkpoint(&b) == KV_OK);
+    kv_close(&b);
+    WANT(opens(&b, "kept.kv", "settings", KV_SYNC_EACH) == KV_OK && has(&b, "a", "3") && revision == 3);
+    kv_close(&b);
+}
+
+/* A compaction makes the file small where that is worth it. */
+static void compacts(void) {
+    kv_bucket b = {0};
+    uint64_t watch;
+    long before;
+    WANT(opens(&b, "compacted.kv", "settings", KV_SYNC_EACH) == KV_OK);
+    put(&b, "a", "1");
+    put(&b, "b", "1");
+    before = size_of("compacted.kv");
+    WANT(kv_compact(&b, 1, &watch) == KV_OK && size_of("compacted.kv") > before);
+    for (int i = 0; i < 100; i++)
+        put(&b, "a", "some value");
+    before = size_of("compacted.kv");
+    WANT(kv_compact(&b, 101, &watch) == KV_OK && size_of("compacted.kv") * 2 < before);
+    put(&b, "c", "1");
+    kv_close(&b);
+    WANT(opens(&b, "compacted.kv", "settings", KV_SYNC_EACH) == KV_OK && has(&b, "a", "some value") && revision == 102);
+    WANT(has(&b, "b", "1") && has(&b, "c", "1") && kv_compact(&b, 100, &watch) == KV_BAD_FLOOR);
+    kv_close(&b);
+}
+
+/* A bucket in memory has nothing to bring onto a disk, and no file to replace. */
 static void in_memory(void) {
     kv_bucket b = {0};
-    WANT(kv_open(&b, B("settings"), &limits) == KV_OK && kv_sync(&b) == KV_OK);
+    WANT(kv_open(&b, B("settings"), &limits) == KV_OK && kv_sync(&b) == KV_OK && kv_checkpoint(&b) == KV_OK);
     kv_close(&b);
 }
 
@@ -206,6 +290,9 @@ int main(int count, char **words) {
     breaks();
     faults();
     shares();
+    checkpoints();
+    keeps();
+    compacts();
     in_memory();
     return 0;
 }

@@ -32,7 +32,7 @@ class Programs(ProgramTest):
         self.needs(*CHECKED)
         for name in "use", "threads", "sweep", "files", "failing":
             with self.subTest(name):
-                ran(self.built(name, *([FILES] if name in ("files", "failing") else []), *CHECKED), self.folder)
+                ran(self.built(name, *(FILES if name in ("files", "failing") else []), *CHECKED), self.folder)
 
     @unittest.skipUnless(shutil.which("valgrind"), "valgrind is not installed: apt-get install valgrind")
     def test_valgrind_finds_nothing(self) -> None:

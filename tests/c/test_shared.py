@@ -3,7 +3,7 @@ readers and followers at once; sleeping, waking and closing; each request for me
 valgrind where they are installed. What calls take is printed."""
 import os, shutil, unittest
 
-from tests.c.compiling import C, CHECKED, CXX, FILES, INCLUDE, OPENING, SHARED, SHELL, STATIC, STRICT, ProgramTest, here, ran
+from tests.c.compiling import C, CHECKED, CXX, FILES, INCLUDE, OPENING, SHELL, STATIC, STRICT, ProgramTest, here, ran
 from tests.pages.examples import blocks, lines_of
 
 # What is proved is not built with the sanitizer of threads: that sees the handles which each call uses, and in the shared library
@@ -12,17 +12,13 @@ RACES = ["-g", "-O1", "-fsanitize=thread", "-include", os.path.join(here, "touch
 NOT_SEEN = os.path.join(here, "races-not-seen")
 # What is run where something looks on, and the word that tells it so. None of it is left out or made less: of the threads, which take
 # longest, sanitizers run all in 5 s, and valgrind in 25 s of one processor.
-PROGRAMS = ("shared_use", "shared_watchers", "shared_threads", "shared_sweep")
-
-
-def words(name: str, looking_on: str) -> list[str]:
-    return [looking_on] if name == "shared_threads" else []
+PROGRAMS = ("shared_use", "shared_watchers", "shared_threads", "shared_sweep", "shared_syncs")
 
 
 class Shell(ProgramTest):
     def test_compilers_have_nothing_to_say(self) -> None:
         for compiler in filter(shutil.which, sorted({C, "gcc", "clang"})):
-            for source in (*SHELL, OPENING, FILES):
+            for source in (*SHELL, OPENING, *FILES):
                 with self.subTest(compiler, source=source):
                     ran(compiler, "-std=c11", "-O2", "-pthread", *STRICT, "-I" + INCLUDE, "-c", source, "-o", os.path.join(self.folder, "it.o"))
 
@@ -35,6 +31,15 @@ class Shell(ProgramTest):
 
 
 class Programs(ProgramTest):
+    def words(self, name: str, looking_on: str) -> list[str]:
+        return {"shared_threads": [looking_on], "shared_syncs": [self.folder]}.get(name, [])
+
+    def beside_all_names(self) -> list[str]:
+        """A shared library that tells those names too which only the shell calls."""
+        ran(C, "-shared", "-Wl,--whole-archive", *STATIC, "-Wl,--no-whole-archive", "-pthread", "-o",
+            os.path.join(self.folder, "libvilgoued.so"))
+        return ["-L" + self.folder, "-lvilgoued", "-Wl,-rpath," + self.folder]
+
     def test_each_function_and_each_refusal_is_as_the_header_says(self) -> None:
         ran(self.built("shared_use", "-O2"))
 
@@ -47,6 +52,9 @@ class Programs(ProgramTest):
     def test_each_request_for_memory_may_be_refused(self) -> None:
         print(ran(self.built("shared_sweep", "-O2")), end="")
 
+    def test_writes_that_wait_for_one_sync_are_synced_together(self) -> None:
+        print(ran(self.built("shared_syncs", "-O2"), self.folder), end="")
+
     def test_the_example_says_what_it_is_to_say(self) -> None:
         self.assertEqual(ran(self.built("shared_example", "-O2")).splitlines(), lines_of("tests/c/shared_example.stdout"))
 
@@ -57,13 +65,14 @@ class Programs(ProgramTest):
         self.needs(*CHECKED)
         for name in PROGRAMS:
             with self.subTest(name):
-                ran(self.built(name, *SHELL, *CHECKED), *words(name, "sanitizer"))
+                ran(self.built(name, *SHELL, *CHECKED), *self.words(name, "sanitizer"))
 
     def test_the_sanitizer_of_threads_finds_nothing(self) -> None:
         self.needs("-fsanitize=thread")
+        library = self.beside_all_names()
         for name in PROGRAMS:
             with self.subTest(name):
-                ran(self.built(name, *SHELL, *RACES, beside=SHARED), *words(name, "sanitizer"),
+                ran(self.built(name, *SHELL, *RACES, beside=library), *self.words(name, "sanitizer"),
                     TSAN_OPTIONS="suppressions=%s halt_on_error=1" % NOT_SEEN)
 
     @unittest.skipUnless(shutil.which("valgrind"), "valgrind is not installed: apt-get install valgrind")
@@ -71,7 +80,7 @@ class Programs(ProgramTest):
         for name in PROGRAMS:
             with self.subTest(name):
                 ran("valgrind", "-q", "--leak-check=full", "--error-exitcode=9", "--fair-sched=yes", self.built(name, "-O2", "-g"),
-                    *words(name, "valgrind"))
+                    *self.words(name, "valgrind"))
 
 
 class Quoted(unittest.TestCase):

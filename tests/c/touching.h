@@ -2,7 +2,7 @@
  * this has each call of an export write to the handles that it uses, in sight of the sanitizer: so two calls at a time
  * that use one handle are a race, as are two with no order between them. */
 #define _GNU_SOURCE
-#include "vilgoued.h"
+#include "../../c/files.h"
 
 #define TOUCHED(handle) (*(volatile bool *)&(handle)->is_open = (handle)->is_open, (handle))
 
@@ -10,6 +10,13 @@
 #define kv_open_file(b, ...) kv_open_file(TOUCHED(b), __VA_ARGS__)
 #define kv_sync(b) kv_sync(TOUCHED(b))
 #define kv_close(b) kv_close(TOUCHED(b))
+#define kv_make_put(b, ...) kv_make_put(TOUCHED(b), __VA_ARGS__)
+#define kv_make_create(b, ...) kv_make_create(TOUCHED(b), __VA_ARGS__)
+#define kv_make_update(b, ...) kv_make_update(TOUCHED(b), __VA_ARGS__)
+#define kv_make_delete(b, ...) kv_make_delete(TOUCHED(b), __VA_ARGS__)
+#define kv_make_purge(b, ...) kv_make_purge(TOUCHED(b), __VA_ARGS__)
+#define kv_make_more(b, ...) kv_make_more(TOUCHED(b), __VA_ARGS__)
+#define kv_finish(b, ...) kv_finish(TOUCHED(b), __VA_ARGS__)
 #define kv_put(b, ...) kv_put(TOUCHED(b), __VA_ARGS__)
 #define kv_create(b, ...) kv_create(TOUCHED(b), __VA_ARGS__)
 #define kv_update(b, ...) kv_update(TOUCHED(b), __VA_ARGS__)

@@ -4,10 +4,10 @@ nats-server. Nothing asks the network, and what is built stays in out/go."""
 import os
 import shutil
 import subprocess
-import tempfile
 import unittest
 
 from tests import top
+from tests.commands import InAFolder, ran
 from tests.driven import Driven
 from tests.pages.examples import blocks
 from tests.replay import replay
@@ -39,20 +39,11 @@ def environment(**more: str) -> dict[str, str]:
 def go(*words: str, folder: str = MODULE, **more: str) -> str:
     """What go prints, which has to succeed."""
     assert GO
-    done = subprocess.run([GO, *words], cwd=folder, env=environment(**more), stdin=subprocess.DEVNULL, stdout=subprocess.PIPE,
-                          stderr=subprocess.STDOUT, text=True, timeout=LIMIT)
-    if done.returncode != 0:
-        raise AssertionError("go %s: status %d\n%s" % (" ".join(words), done.returncode, done.stdout))
-    return done.stdout
+    return ran(GO, *words, cwd=folder, env=environment(**more), timeout=LIMIT)
 
 
 @unittest.skipUnless(GO, "there is no go: apt-get install golang-go")
-class Go(unittest.TestCase):
-    def setUp(self) -> None:
-        room = tempfile.TemporaryDirectory()
-        self.addCleanup(room.cleanup)
-        self.folder = room.name
-
+class Go(InAFolder):
     def test_its_tests_pass(self) -> None:
         go("test", "-count=1", "-timeout", "300s", "./...")
 

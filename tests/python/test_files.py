@@ -14,6 +14,16 @@ import vilgoued
 from tests import top
 from tests.python.buckets import server
 
+CHECKPOINTER = """
+import sys
+from vilgoued import Bucket
+
+bucket = Bucket("settings", history=2, path=sys.argv[1], sync="each")
+for number in range(int(sys.argv[2])):
+    bucket.put("app.n%d" % (number % 10), b"%d" % number)
+    print(number, flush=True)
+    bucket.checkpoint()
+"""
 WRITER = """
 import sys
 from vilgoued import Bucket
@@ -83,9 +93,9 @@ class Files(unittest.TestCase):
             with self.assertRaises(TypeError):
                 self.opened(sync=none)
 
-    def writer(self) -> "subprocess.Popen[bytes]":
+    def writer(self, program: str = WRITER) -> "subprocess.Popen[bytes]":
         environment = dict(os.environ, PYTHONPATH=os.path.join(top, "python"))
-        return subprocess.Popen([sys.executable, "-c", WRITER, self.path, "1000000"], env=environment, stdout=subprocess.PIPE)
+        return subprocess.Popen([sys.executable, "-c", program, self.path, "1000000"], env=environment, stdout=subprocess.PIPE)
 
     def killed(self, writer: "subprocess.Popen[bytes]") -> list[bytes]:
         """Kills a writer, and answers the lines that were not read."""
@@ -114,9 +124,15 @@ class Files(unittest.TestCase):
             self.assertEqual(bucket.put("app.n0", b"last"), last + 1)
 
     def test_it_may_be_killed_at_any_moment(self) -> None:
+        self.may_be_killed(WRITER)
+
+    def test_it_may_be_killed_while_its_file_is_replaced(self) -> None:
+        self.may_be_killed(CHECKPOINTER)
+
+    def may_be_killed(self, program: str) -> None:
         last = 0
         for trial in range(24):
-            writer = self.writer()
+            writer = self.writer(program)
             assert writer.stdout is not None
             if trial % 4:
                 writer.stdout.readline()
@@ -205,9 +221,29 @@ class Files(unittest.TestCase):
             with self.assertRaises(vilgoued.FileFault):
                 vilgoued.Bucket("settings", path=path)
 
+    def test_a_checkpoint_leaves_the_bucket_and_a_compaction_makes_its_file_small(self) -> None:
+        with self.opened(history=2) as bucket:
+            for number in range(100):
+                bucket["a"] = b"%d" % number
+            watch, before = bucket.watch("a"), os.path.getsize(self.path)
+            bucket.checkpoint()
+            bucket["a"] = b"more"
+            self.assertEqual([entry.revision for entry in watch if not entry.marker], [100, 101])
+            bucket["b"] = b"1"
+            watch.stop()
+            bucket.compact(102)
+            self.assertLess(os.path.getsize(self.path), before // 2)
+            bucket["b"] = b"2"
+        self.assertEqual(os.listdir(os.path.dirname(self.path)), [os.path.basename(self.path)])
+        with self.opened(history=2) as bucket:
+            self.assertEqual((bucket.get("a"), bucket.get("b"), bucket.status().last), ((b"more", 101), (b"2", 103), 103))
+        with self.assertRaises(vilgoued.Closed):
+            bucket.checkpoint()
+
     def test_without_a_file_nothing_is_synced(self) -> None:
         with vilgoued.Bucket("settings") as bucket:
             bucket.sync()
+            bucket.checkpoint()
             self.assertEqual(bucket.dropped, 0)
 
 

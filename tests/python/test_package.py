@@ -5,11 +5,11 @@ import re
 import shutil
 import subprocess
 import sys
-import tempfile
 import unittest
-from typing import Any, List, Tuple
+from typing import List, Tuple
 
 from tests import top
+from tests.commands import InAFolder, ran
 from tests.python.installing import with_modules
 
 library = os.environ["VILGOUED_LIB"]
@@ -60,21 +60,7 @@ bucket.mirror()["a"] = b"1"
 """
 
 
-def ran(*command: str, **how: Any) -> str:
-    """What a command tells that has to succeed."""
-    done: subprocess.CompletedProcess[str] = subprocess.run(
-        command, stdin=subprocess.DEVNULL, stdout=subprocess.PIPE, stderr=subprocess.STDOUT, text=True, **how)
-    if done.returncode != 0:
-        raise AssertionError("%s: status %d\n%s" % (" ".join(command), done.returncode, done.stdout))
-    return done.stdout
-
-
-class Folder(unittest.TestCase):
-    def setUp(self) -> None:
-        room = tempfile.TemporaryDirectory()
-        self.addCleanup(room.cleanup)
-        self.folder = room.name
-
+class Folder(InAFolder):
     def file(self, name: str, text: str) -> str:
         path = os.path.join(self.folder, name)
         with open(path, "w", encoding="utf-8") as file:

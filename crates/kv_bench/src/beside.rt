@@ -10,7 +10,7 @@ use kv_gauge::clock::{each, since};
 use kv_gauge::fault::{Answer, Fault, check};
 use kv_gauge::keys::{VALUE, spread};
 use kv_gauge::plan::Plan;
-use kv_gauge::series::{Name, Series};
+use kv_gauge::series::{Name, Series, measured};
 use std::alloc::Global;
 use std::collections::{BTreeMap, HashMap};
 use std::marker::Brand;
@@ -58,11 +58,9 @@ fn tell_gets<G: Gets + Named, R: Wait + Clock + Print>(
     plan: Plan,
     side: &mut G,
 ) -> Result<(), Fault> {
-    let mut series = Series::new(alloc, Name::time(GROUP, "get", G::NAME), plan);
-    for _ in 0..plan.rounds {
-        series.add(gets(rt, side, plan.asked())?)?;
-    }
-    series.tell(rt)
+    let name = Name::time(GROUP, "get", G::NAME);
+    let tenths = measured(alloc, plan.rounds, || gets(rt, side, plan.asked()))?;
+    Series::of(name, plan, tenths).tell(rt)
 }
 
 fn tell_puts<P: Puts + Named, R: Wait + Clock + Print>(
@@ -71,11 +69,9 @@ fn tell_puts<P: Puts + Named, R: Wait + Clock + Print>(
     plan: Plan,
     side: &mut P,
 ) -> Result<(), Fault> {
-    let mut series = Series::new(alloc, Name::time(GROUP, "put", P::NAME), plan);
-    for _ in 0..plan.rounds {
-        series.add(puts(rt, side, plan.asked())?)?;
-    }
-    series.tell(rt)
+    let name = Name::time(GROUP, "put", P::NAME);
+    let tenths = measured(alloc, plan.rounds, || puts(rt, side, plan.asked()))?;
+    Series::of(name, plan, tenths).tell(rt)
 }
 
 // So many copies make a round.
@@ -86,11 +82,9 @@ fn tell_copies<C: Copies + Named, R: Wait + Clock + Print>(
     side: &mut C,
     copied: usize,
 ) -> Result<(), Fault> {
-    let mut series = Series::new(alloc, Name::time(GROUP, "copy", C::NAME), plan);
-    for _ in 0..plan.rounds {
-        series.add(copies(rt, side, copied, plan.keys)?)?;
-    }
-    series.tell(rt)
+    let name = Name::time(GROUP, "copy", C::NAME);
+    let tenths = measured(alloc, plan.rounds, || copies(rt, side, copied, plan.keys))?;
+    Series::of(name, plan, tenths).tell(rt)
 }
 
 /// What a live bucket is asked for.

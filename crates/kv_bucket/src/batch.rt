@@ -134,7 +134,8 @@ impl<N: LiveName> Keeper<N> {
             publisher,
             ring,
         } = self;
-        let (first, own, shown, made) = prepared.into_parts();
+        let (first, next) = prepared.into_parts();
+        let (own, shown, made) = next.into_parts();
         let step = publisher.publish_all(rt, requests, first, shown);
         bucket.go_on_through(own);
         *ring = Some(made);

@@ -140,7 +140,8 @@ impl<N: LiveName> Keeper<N> {
             publisher,
             ring,
         } = self;
-        let (ghost_act, own, shown, made) = prepared.into_parts();
+        let (ghost_act, next) = prepared.into_parts();
+        let (own, shown, made) = next.into_parts();
         publisher.publish(rt, ghost_act, shown);
         bucket.go_on_to(own);
         *ring = Some(made);

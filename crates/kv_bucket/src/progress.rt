@@ -136,22 +136,6 @@ impl<N: LiveName> Progress<N> {
         self.told = self.told.longer(mark.prefix());
     }
 
-    /// Whether it has seen all that the other one has. Of the two lists the shorter begins the longer.
-    pub fn has_seen_all_of(&self, other: &Progress<N>) -> bool
-        ensures yes { result ≡ true → IsPrefix other.now.seen self.now.seen }
-        ensures no { result ≡ false → IsPrefix self.now.seen other.now.seen }
-    {
-        self.seen.covers(&other.seen)
-    }
-
-    /// Whether it has seen what the mark tells.
-    pub fn has_seen(&self, mark: &Mark<N>) -> bool
-        ensures yes { result ≡ true → IsPrefix mark.now self.now.seen }
-        ensures no { result ≡ false → IsPrefix self.now.seen mark.now }
-    {
-        self.seen.covers(mark.prefix())
-    }
-
     /// What it has seen.
     pub fn seen(&self) -> &Prefix<N>
         ensures { result.now ≡ self.now.seen }

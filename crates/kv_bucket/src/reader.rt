@@ -388,7 +388,7 @@ impl<N: LiveName> Reader<N> {
         ensures yes { result ≡ true → IsPrefix other.now.seen self.now.seen }
         ensures no { result ≡ false → IsPrefix self.now.seen other.now.seen }
     {
-        self.progress.has_seen_all_of(&other.progress)
+        self.seen().covers(other.seen())
     }
 
     /// Whether it has seen what the receipt tells. Where it has not, what it has seen is a beginning of that.
@@ -396,6 +396,6 @@ impl<N: LiveName> Reader<N> {
         ensures yes { result ≡ true → IsPrefix receipt.now self.now.seen }
         ensures no { result ≡ false → IsPrefix self.now.seen receipt.now }
     {
-        self.progress.has_seen(receipt.mark())
+        self.seen().covers(receipt.mark().prefix())
     }
 }

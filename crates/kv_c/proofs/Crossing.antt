@@ -11,7 +11,7 @@ use Rattle.kv_c.specs.contracts.content.Content as Content
 use Rattle.kv_c.specs.contracts.feed.Feed as Feed
 use Rattle.kv_c.specs.contracts.filed.Filed as Filed
 use Rattle.kv_c.specs.contracts.filed.Syncs as Syncs
-use Rattle.kv_c.specs.contracts.making.Made as Made
+use Rattle.kv_c.specs.contracts.made.Made as Made
 use Rattle.kv_watch.proofs.Sent.{watch_send}
 
 bucket_send : IsSend Bucket.the_row

@@ -6,7 +6,7 @@ use Rattle.std.proofs.lemmas.Bool.{lt-ltb, ltb-false}
 use Rattle.kv_single.proofs.Least.{not_less}
 use Rattle.kv_c.specs.Feeding.{Fed, HasHanded, HandsNext, IsRefreshed, lags, next_of}
 use Rattle.kv_c.specs.Handing.{told}
-use Rattle.kv_c.specs.declared.handing.Item.{Item as Told}
+use Rattle.kv_c.specs.declared.item.Item.{Item as Told}
 use Rattle.kv_model.specs.Acts.{Act, writes_of}
 use Rattle.kv_model.specs.Answers.{answer_item}
 use Rattle.kv_model.specs.Given.{Item, is_behind}

@@ -1,8 +1,11 @@
 pub mod AsBox
 pub mod Ascii
 pub mod Boxed
+pub mod Chained
+pub mod Checkpointed
 pub mod Crossing
 pub mod Feeding
+pub mod Joined
 pub mod Named
 pub mod Refused
 pub mod Refusing

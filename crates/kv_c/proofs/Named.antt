@@ -15,26 +15,7 @@ first_name code = option_map name_of (find (λ e. code_of e == code) refusals)
 
 is_first : (e : KvError) → first_name (code_of e) ≡ Some (name_of e)
 is_first OutOfMemory = refl
-is_first BadBucket = refl
-is_first BadConfig = refl
-is_first BadKey = refl
-is_first BadFilter = refl
-is_first OptionsClash = refl
-is_first ValueTooLarge = refl
-is_first Sealed = refl
-is_first JournalFull = refl
-is_first KeyExists = refl
-is_first (WrongLastRevision last) = refl
-is_first KeyNotFound = refl
-is_first NoSuchWatch = refl
-is_first TooManyWatches = refl
-is_first NoReader = refl
-is_first BadCommand = refl
-is_first ReadFault = refl
-is_first WriteFault = refl
-is_first BadFloor = refl
-is_first (WatchBehind watch) = refl
-is_first (Lagged floor) = refl
+is_first _ = refl
 
 inside : {X : Type 0} (x y : X) → Some x ≡ Some y → x ≡ y
 inside x y e = cc
@@ -44,49 +25,11 @@ same_name e f same = inside (name_of e) (name_of f) (sym (is_first e) ∙ ap fir
 
 pub not_own : (e : KvError) → own_name (code_of e) ≡ None
 not_own OutOfMemory = refl
-not_own BadBucket = refl
-not_own BadConfig = refl
-not_own BadKey = refl
-not_own BadFilter = refl
-not_own OptionsClash = refl
-not_own ValueTooLarge = refl
-not_own Sealed = refl
-not_own JournalFull = refl
-not_own KeyExists = refl
-not_own (WrongLastRevision last) = refl
-not_own KeyNotFound = refl
-not_own NoSuchWatch = refl
-not_own TooManyWatches = refl
-not_own NoReader = refl
-not_own BadCommand = refl
-not_own ReadFault = refl
-not_own WriteFault = refl
-not_own BadFloor = refl
-not_own (WatchBehind watch) = refl
-not_own (Lagged floor) = refl
+not_own _ = refl
 
 within : (e : KvError) → (1 ≤ code_of e) × (code_of e ≤ 21)
 within OutOfMemory = (omega arith, omega arith)
-within BadBucket = (omega arith, omega arith)
-within BadConfig = (omega arith, omega arith)
-within BadKey = (omega arith, omega arith)
-within BadFilter = (omega arith, omega arith)
-within OptionsClash = (omega arith, omega arith)
-within ValueTooLarge = (omega arith, omega arith)
-within Sealed = (omega arith, omega arith)
-within JournalFull = (omega arith, omega arith)
-within KeyExists = (omega arith, omega arith)
-within (WrongLastRevision last) = (omega arith, omega arith)
-within KeyNotFound = (omega arith, omega arith)
-within NoSuchWatch = (omega arith, omega arith)
-within TooManyWatches = (omega arith, omega arith)
-within NoReader = (omega arith, omega arith)
-within BadCommand = (omega arith, omega arith)
-within ReadFault = (omega arith, omega arith)
-within WriteFault = (omega arith, omega arith)
-within BadFloor = (omega arith, omega arith)
-within (WatchBehind watch) = (omega arith, omega arith)
-within (Lagged floor) = (omega arith, omega arith)
+within _ = (omega arith, omega arith)
 
 pub no_refusal : (code : ℕ) → ¬ ((1 ≤ code) × (code ≤ 21)) → (e : KvError) → ¬ (code_of e ≡ code)
 no_refusal code out e is = out (subst (λ k. (1 ≤ k) × (k ≤ 21)) is (within e))

@@ -11,32 +11,13 @@ use Rattle.kv_model.specs.State.{answer_compact}
 use Rattle.kv_keys.specs.Outcome.{Refuses}
 use Rattle.kv_keys.specs.Refusals.{code_of}
 use Rattle.kv_keys.specs.declared.error.KvError.{KvError}
-use Rattle.kv_keys.specs.declared.error.KvError.TheVariants.{OutOfMemory, BadBucket, BadConfig, BadKey, BadFilter, OptionsClash, ValueTooLarge, Sealed, JournalFull, KeyExists, WrongLastRevision, KeyNotFound, NoSuchWatch, TooManyWatches, NoReader, BadCommand, ReadFault, WriteFault, BadFloor, WatchBehind, Lagged}
+use Rattle.kv_keys.specs.declared.error.KvError.TheVariants.{OutOfMemory, WrongLastRevision, WatchBehind}
 use Rattle.kv_model.specs.Configuration.{Configuration, configure}
 
 -- a refusal that is none of memory is the outcome
 pub outcome_of : {X : Type 0} (e : KvError) (outcome : Result X KvError) → Refuses e outcome → ¬ (code_of e ≡ 1) → outcome ≡ Err e
 outcome_of OutOfMemory outcome refuses other = absurd (other refl)
-outcome_of BadBucket outcome refuses other = refuses
-outcome_of BadConfig outcome refuses other = refuses
-outcome_of BadKey outcome refuses other = refuses
-outcome_of BadFilter outcome refuses other = refuses
-outcome_of OptionsClash outcome refuses other = refuses
-outcome_of ValueTooLarge outcome refuses other = refuses
-outcome_of Sealed outcome refuses other = refuses
-outcome_of JournalFull outcome refuses other = refuses
-outcome_of KeyExists outcome refuses other = refuses
-outcome_of (WrongLastRevision last) outcome refuses other = refuses
-outcome_of KeyNotFound outcome refuses other = refuses
-outcome_of NoSuchWatch outcome refuses other = refuses
-outcome_of TooManyWatches outcome refuses other = refuses
-outcome_of NoReader outcome refuses other = refuses
-outcome_of BadCommand outcome refuses other = refuses
-outcome_of ReadFault outcome refuses other = refuses
-outcome_of WriteFault outcome refuses other = refuses
-outcome_of BadFloor outcome refuses other = refuses
-outcome_of (WatchBehind watch) outcome refuses other = refuses
-outcome_of (Lagged floor) outcome refuses other = refuses
+outcome_of _ outcome refuses other = refuses
 
 -- and so the code is that of the outcome
 pub code_from : {X : Type 0} (code : X → ℕ) (e : KvError) (outcome : Result X KvError) → Refuses e outcome → ¬ (code_of e ≡ 1) → code_of e ≡ code_by code outcome
@@ -44,26 +25,7 @@ code_from code e outcome refuses other = sym (ap (code_by code) (outcome_of e ou
 
 memory : (e : KvError) → code_of e ≡ 1 → e ≡ OutOfMemory
 memory OutOfMemory one = refl
-memory BadBucket one = cc
-memory BadConfig one = cc
-memory BadKey one = cc
-memory BadFilter one = cc
-memory OptionsClash one = cc
-memory ValueTooLarge one = cc
-memory Sealed one = cc
-memory JournalFull one = cc
-memory KeyExists one = cc
-memory (WrongLastRevision last) one = cc
-memory KeyNotFound one = cc
-memory NoSuchWatch one = cc
-memory TooManyWatches one = cc
-memory NoReader one = cc
-memory BadCommand one = cc
-memory ReadFault one = cc
-memory WriteFault one = cc
-memory BadFloor one = cc
-memory (WatchBehind watch) one = cc
-memory (Lagged floor) one = cc
+memory _ one = cc
 
 -- the same of a configuration
 pub configured_or : (e : KvError) (config : Configuration) → Refuses e (configure config) → ¬ (e ≡ OutOfMemory) → configure config ≡ Err e

@@ -15,14 +15,14 @@ use Rattle.kv_model.specs.declared.call.Call.{Call}
 use Rattle.kv_single.specs.Held.{Bucketed}
 
 -- what a handle held before a call was made
-record Before (made : Bucketed → Filed → Waiting → Type 0) (old mid : Option Content) : Type 0 where
-  bucket : Bucketed
-  filed : Filed
-  waiting : Waiting
-  number : ℕ
-  old_is : old ≡ Some (Bucket bucket (Some filed) number)
-  mid_is : mid ≡ Some (Made waiting number)
-  is_made : made bucket filed waiting
+pub record Before (made : Bucketed → Filed → Waiting → Type 0) (old mid : Option Content) : Type 0 where
+  pub bucket : Bucketed
+  pub filed : Filed
+  pub waiting : Waiting
+  pub number : ℕ
+  pub old_is : old ≡ Some (Bucket bucket (Some filed) number)
+  pub mid_is : mid ≡ Some (Made waiting number)
+  pub is_made : made bucket filed waiting
 
 before_in : (made : Bucketed → Filed → Waiting → Type 0) (b : Bucketed) (f : Filed) (m : ℕ) (mid : Option Content) → Makes made (Some (Bucket b (Some f) m)) mid → Before made (Some (Bucket b (Some f) m)) mid
 before_in made b f m None is = absurd is
@@ -40,7 +40,7 @@ before_in made b f m (Some (Made w n)) is = record {
   is_made = is.1;
 }
 
-before : (made : Bucketed → Filed → Waiting → Type 0) (old mid : Option Content) → Makes made old mid → Before made old mid
+pub before : (made : Bucketed → Filed → Waiting → Type 0) (old mid : Option Content) → Makes made old mid → Before made old mid
 before made None mid is = absurd is
 before made (Some (Bucket b None m)) mid is = absurd is
 before made (Some (View v n)) mid is = absurd is
@@ -50,13 +50,13 @@ before made (Some (Made w n)) mid is = absurd is
 before made (Some (Bucket b (Some f) m)) mid is = before_in made b f m mid is
 
 -- and what it holds when that is over
-record Behind (ends : Bucketed → Filed → Type 0) (number : ℕ) (new : Option Content) : Type 0 where
-  bucket : Bucketed
-  filed : Filed
-  new_is : new ≡ Some (Bucket bucket (Some filed) number)
-  is_so : ends bucket filed
+pub record Behind (ends : Bucketed → Filed → Type 0) (number : ℕ) (new : Option Content) : Type 0 where
+  pub bucket : Bucketed
+  pub filed : Filed
+  pub new_is : new ≡ Some (Bucket bucket (Some filed) number)
+  pub is_so : ends bucket filed
 
-settled : (w : Waiting) (m told : ℕ) (new : Option Content) → Settles (Some (Made w m)) told new → Behind (IsSettled w) m new × (told ≡ w.told)
+pub settled : (w : Waiting) (m told : ℕ) (new : Option Content) → Settles (Some (Made w m)) told new → Behind (IsSettled w) m new × (told ≡ w.told)
 settled w m told None is = absurd is
 settled w m told (Some (Bucket b None n)) is = absurd is
 settled w m told (Some (View v n)) is = absurd is
@@ -65,7 +65,7 @@ settled w m told (Some (Batch whats)) is = absurd is
 settled w m told (Some (Made x n)) is = absurd is
 settled w m told (Some (Bucket b (Some f) n)) is = (record { bucket = b; filed = f; new_is = ap (λ (k : ℕ). Some (Bucket b (Some f) k)) is.0; is_so = is.1 }, is.2)
 
-given_up : (w : Waiting) (m : ℕ) (new : Option Content) → GivesUp (Some (Made w m)) new → Behind (IsGivenUp w) m new
+pub given_up : (w : Waiting) (m : ℕ) (new : Option Content) → GivesUp (Some (Made w m)) new → Behind (IsGivenUp w) m new
 given_up w m None is = absurd is
 given_up w m (Some (Bucket b None n)) is = absurd is
 given_up w m (Some (View v n)) is = absurd is
@@ -101,7 +101,7 @@ act_done call answer act old mid new told makes settles =
     both (MakesAct call answer act) (λ o n x. Steps call answer o x) old mid new told (λ b f g w m made. (refl, made.step)) makes settles
 
 -- what was made leaves the bucket as it was, where it is given up
-undone : (made : Bucketed → Filed → Waiting → Type 0) (old mid new : Option Content) → ((b : Bucketed) (f : Filed) (w : Waiting) → made b f w → w.bucket ≡ b)
+pub undone : (made : Bucketed → Filed → Waiting → Type 0) (old mid new : Option Content) → ((b : Bucketed) (f : Filed) (w : Waiting) → made b f w → w.bucket ≡ b)
     → Makes made old mid → GivesUp mid new → StaysAs old new × (stopped_in new ≡ true)
 undone made old mid new same makes gives =
     let a = before made old mid makes in

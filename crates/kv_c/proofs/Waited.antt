@@ -1,4 +1,5 @@
 -- Calls on a bucket with a file: from what was ready to what waits for the shell.
+use Rattle.std.specs.Prelude.{Bool, ◌&&◌}
 use Rattle.std.proofs.Common.{◌≡◌, ℕ, ◌<◌, ◌^◌, false, List, [], ◌∷◌, ◌++◌, Some, None, Ok, length, refl, sym, ap, ◌∙◌, subst}
 use Rattle.kv_c.specs.Calling.{StandsAt}
 use Rattle.kv_c.specs.Filing.{durable_of, is_stopped}
@@ -8,7 +9,7 @@ use Rattle.kv_c.specs.Waiting.{Waiting, bucket_behind, gone_on}
 use Rattle.kv_c.specs.declared.content.Content.{Content}
 use Rattle.kv_c.specs.declared.content.Content.TheVariants.{Bucket, View, Feed, Batch, Made}
 use Rattle.kv_c.specs.declared.filed.Filed.{Filed}
-use Rattle.kv_c.specs.declared.making.Ready.{Ready}
+use Rattle.kv_c.specs.declared.made.Ready.{Ready}
 use Rattle.kv_durable.specs.Durables.{Accepts, IsRecorded}
 use Rattle.kv_durable.specs.Files.{frames_behind}
 use Rattle.kv_durable.specs.Journals.{IsFrameOf}
@@ -42,6 +43,7 @@ module _ (ready : Ready) (bucket : Bucketed) (filed : Filed) (waiting : Waiting)
     at = waits.at;
     number = waits.number;
     works = waits.works;
+    former = waits.former;
     sync = waits.sync;
     synced = λ each state kept loose at.
         let there = done state kept loose at in
@@ -57,6 +59,9 @@ module _ (ready : Ready) (bucket : Bucketed) (filed : Filed) (waiting : Waiting)
       (wrote lends never_fails old new request ready.next ready.frames.items accepts config frame behind) waits.added waits.each in
       record {
         waits = so_waits (λ state. after state (calls.Write request)) (told_by request) done;
+        joins = λ each state kept at.
+            let behind_it = (so_waits (λ s. after s (calls.Write request)) (told_by request) done).synced each state kept [] at in
+            waits.joins ∙ ap (λ (b : Bool). b && waiting.syncs.behind) (at.keeps.bytes.file.1 refl) ∙ behind_it;
         write = (request, refl, subst (λ (b : Bucketed). IsStep bucket (calls.Write request) (Revision waiting.told) b) (sym behind) (write_steps bucket request waiting.told ready.next config accepts (waits.told ∙ told)));
         frame = subst (λ (bytes : List ℕ). IsFrameOf filed.journal.value (did (Wrote (write_for (asked request) waiting.told))) bytes) (sym waits.bytes) (frame waiting.told);
         recorded = done;

@@ -3,7 +3,7 @@ use Rattle.std.specs.Prelude.{◌≡◌, ℕ, ◌<◌, Bool, true, false, List, 
 use Rattle.kv_model.specs.Answers.{Answer, Revision}
 use Rattle.kv_model.specs.Given.{Item as Given}
 use Rattle.kv_model.specs.declared.call.Call.{Call}
-use Rattle.kv_c.specs.declared.handing.Item.{Item}
+use Rattle.kv_c.specs.declared.item.Item.{Item}
 use Rattle.kv_c.specs.Codes.{listed}
 use Rattle.kv_c.specs.Handing.{IsEntry}
 use Rattle.kv_c.specs.Feeding.{Fed, HandsNext, HasHanded, IsRefreshed, Opens, lags, next_of}
@@ -23,8 +23,8 @@ use Rattle.kv_store.specs.Stored.{Stored}
 use Rattle.kv_model.specs.State.{State, may_compact}
 use Rattle.kv_single.specs.Stepping.{IsStep}
 use Rattle.kv_model.specs.declared.call.Call.TheVariants as calls
-use Rattle.kv_c.specs.declared.asking.Limits.{Limits}
-use Rattle.kv_c.specs.declared.asking.Wanted.{Wanted}
+use Rattle.kv_c.specs.declared.request.Limits.{Limits}
+use Rattle.kv_c.specs.declared.request.Wanted.{Wanted}
 use Rattle.kv_model.specs.Configuration.{Configuration}
 use Rattle.kv_model.specs.Requests.{Asked, asked, key_of}
 use Rattle.kv_model.specs.declared.request.Request.{Request}

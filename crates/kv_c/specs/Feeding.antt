@@ -1,7 +1,7 @@
 -- What a feed hands out: what its watch is given by the versions that it goes on to.
 use Rattle.std.specs.Prelude.{◌≡◌, ℕ, ◌+◌, Bool, false, ◌||◌, nat_lt, List, Option, length}
 use Rattle.std.specs.Option.{option_len}
-use Rattle.kv_c.specs.declared.handing.Item.{Item as Told}
+use Rattle.kv_c.specs.declared.item.Item.{Item as Told}
 use Rattle.kv_c.specs.Handing.{told}
 use Rattle.kv_model.specs.Acts.{Act, IsPrefix, writes_of}
 use Rattle.kv_model.specs.Answers.{answer_item}

@@ -1,8 +1,8 @@
 -- What C reads from an item and the memory that it gave.
 use Rattle.std.specs.Prelude.{◌≡◌, ℕ, Option, List, Some, None, length, slice_get, take, ◌==◌, if◌then◌else◌}
 use Rattle.kv_model.specs.Answers.{Answer, AnsweredEntry, Marker, Empty, Numbers as Told}
-use Rattle.kv_c.specs.declared.handing.Item.{Item}
-use Rattle.kv_c.specs.declared.numbers.Numbers.{Numbers}
+use Rattle.kv_c.specs.declared.item.Item.{Item}
+use Rattle.kv_c.specs.declared.status.Numbers.{Numbers}
 use Rattle.kv_model.specs.Acts.{Write, is_put}
 use Rattle.kv_model.specs.declared.write.Op.{Op}
 use Rattle.kv_model.specs.declared.write.Op.TheVariants.{Put, Delete, Purge}

@@ -1,5 +1,5 @@
 -- What a call makes of a bucket with a file, and what settling it does, or giving it up.
-use Rattle.std.specs.Prelude.{◌≡◌, ◌≢◌, ℕ, ◌<◌, ◌^◌, Bool, true, false, List, [], ◌∷◌, ◌++◌, Option, Some, None, drop, length, map, take}
+use Rattle.std.specs.Prelude.{◌≡◌, ◌≢◌, ℕ, ◌<◌, ◌^◌, ◌&&◌, Bool, true, false, List, [], ◌∷◌, ◌++◌, Option, Some, None, drop, length, map, take}
 use Rattle.kv_c.specs.Calling.{IsWrite}
 use Rattle.kv_c.specs.Filing.{durable_of, is_stopped}
 use Rattle.kv_c.specs.Lending.{lends, never_fails}
@@ -7,8 +7,8 @@ use Rattle.kv_c.specs.Waiting.{Leads, Waiting, bucket_behind}
 use Rattle.kv_c.specs.declared.content.Content.{Content}
 use Rattle.kv_c.specs.declared.content.Content.TheVariants.{Bucket, Made}
 use Rattle.kv_c.specs.declared.filed.Filed.{Filed}
-use Rattle.kv_c.specs.declared.making.Lent.{Lent}
-use Rattle.kv_c.specs.declared.making.Ready.{Ready}
+use Rattle.kv_c.specs.declared.made.Lent.{Lent}
+use Rattle.kv_c.specs.declared.made.Ready.{Ready}
 use Rattle.kv_c.specs.declared.outbox.Outbox.{Outbox}
 use Rattle.kv_durable.specs.Durables.{IsAt, IsRecorded, act_of, batch_of}
 use Rattle.kv_durable.specs.Journals.{AddsFrames, IsFrameOf}
@@ -45,10 +45,12 @@ pub record WaitsFor (ready : Ready) (b : Bucketed) (f : Filed) (w : Waiting) : T
   pub told : w.told ≡ ready.told
   pub number : w.filed.number ≡ f.number
   pub works : w.filed.has_failed ≡ false
+  pub former : w.former ≡ None
   pub added : AddsFrames lends never_fails ready.frames.items f.journal.value w.filed.journal.value
   pub each : f.journal.value.appender.sync ≡ Each → w.filed.journal.value.appender.loose ≡ 0
   pub sync : w.filed.journal.value.appender.sync ≡ f.journal.value.appender.sync
   pub behind : w.syncs.behind ≡ w.filed.journal.value.appender.file.is_clean
+  pub joins : w.joins ≡ (f.journal.value.appender.file.is_clean && w.syncs.behind)
 
 -- the call is settled: the bucket is as the call leaves it
 abbrev pub IsSettled : Waiting → Bucketed → Filed → Type 0
@@ -84,14 +86,17 @@ pub record Waits (b : Bucketed) (f : Filed) (w : Waiting) : Type 0 where
   pub at : w.at ≡ f.journal.value.appender.place
   pub number : w.filed.number ≡ f.number
   pub works : w.filed.has_failed ≡ false
+  pub former : w.former ≡ None
   pub sync : w.filed.journal.value.appender.sync ≡ f.journal.value.appender.sync
   pub synced : f.journal.value.appender.sync ≡ Each → (state : State) (kept loose : List Entry) →
       IsAt lends never_fails state kept loose (durable_of b f) → w.syncs.behind ≡ true
 
 -- What was told and what the shell writes is the frame of the call's record. When it is settled, the bucket is at the state behind
--- the call, and its file has the record.
+-- the call, and its file has the record. Where each act is synced, and so nothing is loose, writes can join it.
 pub record MakesWrite (request : Request) (b : Bucketed) (f : Filed) (w : Waiting) : Type 0 where
   pub waits : Waits b f w
+  pub joins : f.journal.value.appender.sync ≡ Each → (state : State) (kept : List Entry) →
+      IsAt lends never_fails state kept [] (durable_of b f) → w.joins ≡ true
   pub write : IsWrite b (asked request) w.told (bucket_behind w)
   pub frame : IsFrameOf f.journal.value (did (Wrote (write_for (asked request) w.told))) w.bytes
   pub recorded : IsRecorded lends never_fails (λ state. after state (calls.Write request))
@@ -223,6 +228,7 @@ pub record IsOpened (config : Configuration) (mode : Sync) (seed of : ℕ) (byte
   pub behind : waiting.syncs.behind ≡ true
   pub number : waiting.filed.number ≡ of
   pub works : waiting.filed.has_failed ≡ false
+  pub former : waiting.former ≡ None
   pub sync : waiting.filed.journal.value.appender.sync ≡ mode
   pub new : bytes ≡ [] → IsNew lends never_fails config seed (durable_of waiting.bucket waiting.filed) dropped
       × (waiting.bytes ≡ beginning seed config) × (waiting.at ≡ 0)

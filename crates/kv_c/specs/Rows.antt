@@ -9,7 +9,7 @@ use Rattle.kv_model.specs.declared.call.Call.TheVariants as calls
 use Rattle.kv_model.specs.declared.request.Request.{Request}
 
 -- what a call did: where it answered 0 one step of the model, with its answer, or a batch of these requests, of which the
--- first got this revision; where it was given up none, as the bucket's file has failed
+-- first got this revision; where it was given up, or was a checkpoint, none
 pub data Done : Type 0 where
   step : (exchange : Exchange) → Done
   batch : (requests : List Request) → (first : ℕ) → Done

@@ -1,16 +1,17 @@
 //! What a handle holds while it is open.
 
-ghost use Rattle.std.specs.Prelude.{◌≡◌, false, IfNone, IfSome, None, Some, map};
+ghost use Rattle.std.specs.Prelude.{◌≡◌, ℕ, false, IfNone, IfSome, None, Some, map};
 ghost use Rattle.std.specs.Option.{option_copied};
 ghost use Rattle.kv_c.specs.Batching.{gathered};
 ghost use Rattle.kv_c.specs.Calling.{version_in};
+ghost use Rattle.kv_c.specs.Checkpointing.{CanReplace, MakesCheckpoint};
 ghost use Rattle.kv_c.specs.Making.{CanEnd, CanMake, CanSync, IsFiled, IsMade, Makes, MakesEnd, MakesSync, is_filed};
 ghost use Rattle.kv_model.specs.Requests.{asked};
 
 use crate::batch::Batch;
 use crate::feed::Feed;
 use crate::filed::Filed;
-use crate::making::{Made, Ready};
+use crate::made::{Made, Ready};
 use kv_single::{Bucket, Request, Version};
 use std::alloc::Global;
 use std::mem;
@@ -104,6 +105,22 @@ impl Content {
         match mem::replace(self, Content::Batch(Batch::empty(alloc))) {
             Content::Bucket(bucket, filed, opening) => match filed {
                 Some(filed) => *self = Content::Made(Made::ended(bucket, filed, frame), opening),
+                None => *self = Content::Bucket(bucket, None, opening),
+            },
+            other => *self = other,
+        }
+    }
+
+    /// Makes a checkpoint: a file with these bytes takes the place of the bucket's own, which waits for the shell.
+    pub(crate) fn make_checkpoint(&mut self, alloc: Global, next: Filed, bytes: Vec<u8>)
+        ensures { (seed : ℕ) → CanReplace seed self.old next bytes.items →
+            Makes (MakesCheckpoint seed) (Some self.old) (Some self.new) }
+    {
+        match mem::replace(self, Content::Batch(Batch::empty(alloc))) {
+            Content::Bucket(bucket, filed, opening) => match filed {
+                Some(filed) => {
+                    *self = Content::Made(Made::replacing(bucket, filed, next, bytes), opening);
+                }
                 None => *self = Content::Bucket(bucket, None, opening),
             },
             other => *self = other,

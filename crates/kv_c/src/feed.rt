@@ -8,7 +8,7 @@ ghost use Rattle.kv_keys.specs.declared.error.KvError.TheVariants.{Lagged, OutOf
 ghost use Rattle.kv_model.specs.Acts.{Act};
 ghost use Rattle.kv_model.specs.Answers.{answer_item};
 
-use crate::handing::{self, Item};
+use crate::item::{self, Item};
 use kv_single::{Filters, KvError, Options, Version};
 use kv_watch::Watch;
 use std::alloc::Global;
@@ -104,7 +104,7 @@ impl Feed {
         ensures untold { ¬ (result ≡ 0) → ¬ (result ≡ 33) → item.new ≡ item.old }
     {
         let taken = self.watch.peek(&self.present);
-        let done = handing::hand(&taken, keys, values, item);
+        let done = item::hand(&taken, keys, values, item);
         if done == 0 {
             self.watch.pass(&self.present);
         }

@@ -42,6 +42,13 @@ impl Filed {
         self.journal.may_add()
     }
 
+    /// Whether a sync was asked for behind all that was added.
+    pub(crate) fn is_clean(&self) -> bool
+        ensures { result ≡ self.now.journal.value.appender.file.is_clean }
+    {
+        self.journal.file().is_clean()
+    }
+
     /// Adds frames to the journal, and tells when they are synced.
     pub(crate) fn add(&mut self, frames: &[u8]) -> Syncs
         requires goes { is_stopped self.old ≡ false }

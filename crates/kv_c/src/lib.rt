@@ -3,29 +3,22 @@
 //! C keeps a `Handle`; all of its bytes 0, it is closed. Each call gives it back as its clauses say.
 #![tactic(auto)]
 
-mod asking;
 mod batch;
 mod codes;
-mod compacting;
 mod content;
+mod exports;
 mod feed;
-mod feeds;
 mod filed;
-mod files;
-mod gathering;
-mod handing;
 mod handle;
+mod item;
 pub mod laws;
-mod making;
-mod names;
-mod naming;
-mod numbers;
-mod opening;
+mod made;
+mod more;
 mod outbox;
+mod parse;
 mod parts;
-mod reading;
-mod reads;
+mod read;
 mod ready;
+mod request;
 mod slot;
-mod watches;
-mod writes;
+mod status;

@@ -18,7 +18,7 @@ pub struct Outbox {
 }
 
 impl Outbox {
-    ghost use Rattle.std.specs.Prelude.{Some};
+    ghost use Rattle.std.specs.Prelude.{None, Some};
 
     /// A file that had these bytes, all of them on the disk.
     pub(crate) fn of(found: Vec<u8>) -> Outbox
@@ -26,6 +26,17 @@ impl Outbox {
     {
         Outbox {
             found: Some(found),
+            is_clean: true,
+            was_clean: true,
+        }
+    }
+
+    /// A file that the shell is lent the whole of, and brings onto the disk.
+    pub(crate) fn lent() -> Outbox
+        ensures { (result.found ≡ None) × (result.is_clean ≡ true) }
+    {
+        Outbox {
+            found: None,
             is_clean: true,
             was_clean: true,
         }

@@ -23,12 +23,12 @@ ghost use Rattle.kv_single.specs.Held.{Represents};
 ghost use Rattle.kv_single.specs.Stepping.{IsStep};
 
 use crate::filed::Filed;
-use crate::making::Ready;
+use crate::made::Ready;
 use kv_durable::{BatchError, DurableError};
 use kv_single::{BatchRefused, Bucket, KvError, Request, Version};
 
-// No bucket takes a longer value.
-const MOST_VALUE: usize = 1_048_576;
+/// No bucket takes a longer value.
+pub(crate) const MOST_VALUE: usize = 1_048_576;
 
 // The version with one write more. What no bucket takes is refused first, as the rules do.
 fn next_of(bucket: &Bucket, request: &Request) -> Result<Version, KvError>

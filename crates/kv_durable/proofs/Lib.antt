@@ -3,8 +3,10 @@ pub mod Bytes
 pub mod Crashing
 pub mod Starting
 pub mod Readings
+pub mod Rereading
 pub mod Adding
 pub mod Replacing
+pub mod Checkpointing
 pub mod Recording
 pub mod Living
 pub mod Steps
@@ -15,3 +17,4 @@ pub mod Ended
 pub mod Framed
 pub mod Batched
 pub mod Whole
+pub mod Resuming

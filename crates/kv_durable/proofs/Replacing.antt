@@ -1,18 +1,16 @@
 -- A journal whose file is replaced.
-use Rattle.std.proofs.Common.{◌≡◌, ◌⊎◌, ℕ, ◌^◌, ◌<◌, Bool, List, [], refl, sym, ap, ◌∙◌, subst, append-nil, inl, inr}
+use Rattle.std.proofs.Common.{◌≡◌, ◌⊎◌, ℕ, ◌^◌, ◌<◌, Bool, List, [], length, refl, sym, ap, ◌∙◌, subst, append-nil, inl, inr}
 use Rattle.kv_file.specs.Bytes.{Has}
 use Rattle.kv_file.specs.declared.replace.ReplaceFault.{ReplaceFault}
 use Rattle.kv_file.specs.declared.replace.ReplaceFault.TheVariants.{Unchanged, Unknown}
 use Rattle.kv_frames.specs.Frames.{ArePayloads}
 use Rattle.kv_model.specs.Acceptance.{IsLawful}
-use Rattle.kv_model.specs.Acts.{Act}
 use Rattle.kv_model.specs.Configuration.{Configuration}
 use Rattle.kv_model.specs.State.{State}
 use Rattle.kv_single.specs.Held.{Represents}
-use Rattle.kv_store.specs.Standing.{StandsFor}
 use Rattle.kv_journal.specs.Entries.{Entry}
-use Rattle.kv_durable.specs.Bases.{Base, IsLawfulBase, base_payloads, opening, replaced_by}
-use Rattle.kv_durable.specs.Durables.{IsAt}
+use Rattle.kv_durable.specs.Bases.{Base, IsLawfulBase, base_payloads, opening, opening_size, replaced_by}
+use Rattle.kv_durable.specs.Durables.{FitsInFrames, IsAt, IsNewFile, checkpoint_at}
 use Rattle.kv_durable.specs.Files.{file_of, frames_behind}
 use Rattle.kv_durable.specs.Journals.{HasEntries, Keeps}
 use Rattle.kv_durable.specs.declared.durable.Durable.{Durable}
@@ -33,6 +31,12 @@ module _ {F : Type 0} (has : F → List ℕ → List ℕ → Type 0) (usable : F
         payloads = tt;
         bytes = subst (λ (n : ℕ). Has has usable (file_of n base []) [] new.appender) (sym seeded) (subst (λ (w : List ℕ). Has has usable w [] new.appender) whole there);
       }
+
+  pub begins : (base : Base) (file : F) (seed place : ℕ) (bytes : List ℕ) (new : Journal F) → bytes ≡ opening seed base → place ≡ length bytes → has file bytes []
+      → (has file (file_of seed base []) [] → place ≡ length (file_of seed base []) → Keeps has usable base [] [] new) → Keeps has usable base [] [] new
+  begins base file seed place bytes new is long there on =
+      let whole : bytes ≡ file_of seed base [] = is ∙ sym (append-nil (opening seed base)) in
+      on (subst (λ (w : List ℕ). has file w []) whole there) (long ∙ ap length whole)
 
   pub not_replaced : (base : Base) (kept loose : List Entry) (old new : Journal F) → Keeps has usable base kept loose old → new.framing ≡ old.framing → new.config ≡ old.config
       → ((k l : List ℕ) → Has has usable k l old.appender → Has has usable k l new.appender) → Keeps has usable base kept loose new
@@ -60,13 +64,6 @@ module _ {F : Type 0} (has : F → List ℕ → List ℕ → Type 0) (usable : F
         | inr there ↦ inr (subst (λ (w : List ℕ). has file w []) (is ∙ sym (append-nil (opening seed base))) there)
       ]
 
-  -- what is known of the bytes of a checkpoint of what a bucket stands for
-  abbrev pub AreOf : Durable F → ℕ → List ℕ → Type 0
-  AreOf durable seed bytes = (acts : List Act) → StandsFor acts durable.bucket.version → durable.bucket.version.config ≡ durable.journal.config.config → bytes ≡ opening seed (replaced_by durable.journal.config.config acts)
-
-  abbrev pub AreFit : Durable F → Type 0
-  AreFit durable = (acts : List Act) → StandsFor acts durable.bucket.version → durable.bucket.version.config ≡ durable.journal.config.config → ArePayloads (base_payloads (replaced_by durable.journal.config.config acts))
-
   module _ (state : State) (kept loose : List Entry) (old : Durable F) (at : IsAt has usable state kept loose old) where
     own_config : old.journal.config.config ≡ state.config
     own_config = at.keeps.own ∙ at.config
@@ -74,14 +71,18 @@ module _ {F : Type 0} (has : F → List ℕ → List ℕ → Type 0) (usable : F
     same_config : old.bucket.version.config ≡ old.journal.config.config
     same_config = at.represents.config ∙ sym own_config
 
-    pub bytes_are : (seed : ℕ) (bytes : List ℕ) → AreOf old seed bytes → bytes ≡ opening seed (replaced_by state.config state.acts)
+    pub bytes_are : (seed : ℕ) (bytes : List ℕ) → IsNewFile old seed bytes → bytes ≡ opening seed (checkpoint_at state)
     bytes_are seed bytes are = subst (λ (c : Configuration). bytes ≡ opening seed (replaced_by c state.acts)) own_config (are state.acts at.represents.version same_config)
 
-    pub next_at : (new : Durable F) (seed : ℕ) (bytes : List ℕ) → AreOf old seed bytes → AreFit old → new.bucket ≡ old.bucket
+    -- how many they are
+    pub size_is : (seed named : ℕ) (bytes : List ℕ) → IsNewFile old seed bytes → seed ≡ named → length bytes ≡ opening_size named (checkpoint_at state)
+    size_is seed named bytes are same = ap length (bytes_are seed bytes are) ∙ ap (λ (n : ℕ). opening_size n (checkpoint_at state)) same
+
+    pub next_at : (new : Durable F) (seed : ℕ) (bytes : List ℕ) → IsNewFile old seed bytes → FitsInFrames old → new.bucket ≡ old.bucket
         → ((was base : Base) (ks ls : List Entry) → Keeps has usable was ks ls old.journal → base.config ≡ was.config → IsLawfulBase base → ArePayloads (base_payloads base) → bytes ≡ opening seed base → Keeps has usable base [] [] new.journal)
-        → (next : IsAt has usable state [] [] new) × (next.base ≡ replaced_by state.config state.acts)
+        → (next : IsAt has usable state [] [] new) × (next.base ≡ checkpoint_at state)
     next_at new seed bytes are fit bucket on =
-        let base = replaced_by state.config state.acts in
+        let base = checkpoint_at state in
         let lawful = subst (λ (c : Configuration). IsLawful c state.acts) at.represents.config at.represents.version.lawful in
         let first = subst (λ (c : Configuration). ArePayloads (base_payloads (replaced_by c state.acts))) own_config (fit state.acts at.represents.version same_config) in (
           record {
@@ -107,10 +108,10 @@ module _ {F : Type 0} (has : F → List ℕ → List ℕ → Type 0) (usable : F
       refl,
     )
 
-    pub left_there : (file : F) (seed : ℕ) (bytes : List ℕ) → AreOf old seed bytes
+    pub left_there : (file : F) (seed : ℕ) (bytes : List ℕ) → IsNewFile old seed bytes
         → ((was base : Base) (ks ls : List Entry) → Keeps has usable was ks ls old.journal → bytes ≡ opening seed base → HasEntries has old.journal.framing.seed was ks ls file ⊎ HasEntries has seed base [] [] file)
-        → HasEntries has old.journal.framing.seed at.base kept loose file ⊎ HasEntries has seed (replaced_by state.config state.acts) [] [] file
-    left_there file seed bytes are on = on at.base (replaced_by state.config state.acts) kept loose at.keeps (bytes_are seed bytes are)
+        → HasEntries has old.journal.framing.seed at.base kept loose file ⊎ HasEntries has seed (checkpoint_at state) [] [] file
+    left_there file seed bytes are on = on at.base (checkpoint_at state) kept loose at.keeps (bytes_are seed bytes are)
 
 pub by_fault : {P : Type 0} (fault : ReplaceFault) → (fault ≡ Unchanged → P) → (fault ≡ Unknown → P) → P
 by_fault Unchanged here there = here refl

@@ -33,6 +33,10 @@ base_payloads base = option_map_or (λ acts. checkpoint_payloads (checkpoint_of 
 abbrev pub opening : ℕ → Base → List ℕ
 opening seed base = beginning seed base.config ++ frames seed (length (beginning seed base.config)) (base_payloads base)
 
+-- how many bytes a file with this seed has that begins so, and has nothing behind it
+abbrev pub opening_size : ℕ → Base → ℕ
+opening_size seed base = length (opening seed base)
+
 -- the acts could be accepted one behind the other
 abbrev pub IsLawfulBase : Base → Type 0
 IsLawfulBase base = IsLawful base.config (acts_before base)

@@ -1,5 +1,5 @@
 -- What a durable bucket is at, and what a call makes of it.
-use Rattle.std.specs.Prelude.{◌≡◌, ℕ, Bool, List, [], ◌∷◌, ◌++◌, Result, Ok, Err, map, ⊤}
+use Rattle.std.specs.Prelude.{◌≡◌, ◌⊎◌, ℕ, Bool, List, [], ◌∷◌, ◌++◌, Result, Ok, Err, map, ⊤}
 use Rattle.kv_file.specs.Adding.{Adds}
 use Rattle.kv_file.specs.declared.appender.Sync.TheVariants.{Each}
 use Rattle.kv_model.specs.Acts.{Act, Wrote, Write}
@@ -11,10 +11,11 @@ use Rattle.kv_store.specs.Standing.{StandsFor}
 use Rattle.kv_store.specs.Stored.{Stored}
 use Rattle.kv_model.specs.State.{State}
 use Rattle.kv_single.specs.Held.{Bucketed, Represents}
+use Rattle.kv_frames.specs.Frames.{ArePayloads}
 use Rattle.kv_journal.specs.Entries.{Entry, acts_of}
-use Rattle.kv_durable.specs.Bases.{Base, acts_before}
+use Rattle.kv_durable.specs.Bases.{Base, acts_before, base_payloads, opening, replaced_by}
 use Rattle.kv_journal.specs.Records.{Content, did_all}
-use Rattle.kv_durable.specs.Journals.{IsLeft, Keeps, told_next}
+use Rattle.kv_durable.specs.Journals.{HasEntries, IsLeft, Keeps, told_next}
 use Rattle.kv_durable.specs.declared.durable.Durable.{Durable}
 use Rattle.kv_durable.specs.declared.error.DurableError.{DurableError}
 use Rattle.kv_durable.specs.declared.error.DurableError.TheVariants.{Refused, FileFault}
@@ -53,6 +54,33 @@ IsRecorded has usable later told old new = (state : State) (kept loose : List En
 abbrev pub IsHanded : {F : Type 0} → (F → List ℕ → List ℕ → Type 0) → (F → Bool) → (State → List Content) → Durable F → Durable F → Type 0
 IsHanded has usable told old new = (state : State) (kept loose : List Entry) (at : IsAt has usable state kept loose old) →
     IsLeft has old.journal.framing.seed at.base kept (loose ++ told_next old.journal (told state)) new.journal.appender.file
+
+-- the bytes are a whole file with this seed that has what the bucket stores, and none of the acts that led to it
+abbrev pub IsNewFile : {F : Type 0} → Durable F → ℕ → List ℕ → Type 0
+IsNewFile durable seed bytes = (acts : List Act) → StandsFor acts durable.bucket.version → durable.bucket.version.config ≡ durable.journal.config.config →
+    bytes ≡ opening seed (replaced_by durable.journal.config.config acts)
+
+-- each part of such a file fits in a frame
+abbrev pub FitsInFrames : {F : Type 0} → Durable F → Type 0
+FitsInFrames durable = (acts : List Act) → StandsFor acts durable.bucket.version → durable.bucket.version.config ≡ durable.journal.config.config →
+    ArePayloads (base_payloads (replaced_by durable.journal.config.config acts))
+
+-- that of a file which begins with a checkpoint of a state
+abbrev pub checkpoint_at : State → Base
+checkpoint_at state = replaced_by state.config state.acts
+
+-- A call was made, and the file behind it is a checkpoint: the bucket is at the state behind the call, and the file has nothing
+-- but what it stores there, all of it on the disk.
+abbrev pub IsReplaced : {F : Type 0} → (F → List ℕ → List ℕ → Type 0) → (F → Bool) → (State → State) → Durable F → Durable F → Type 0
+IsReplaced has usable later old new = (state : State) (kept loose : List Entry) → IsAt has usable state kept loose old →
+    (next : IsAt has usable (later state) [] [] new) × (next.base ≡ checkpoint_at (later state))
+
+-- A call was recorded, and then a checkpoint has failed: the file has what was recorded, or it is the whole checkpoint with this
+-- seed, of the state behind the call.
+abbrev pub HasEither : {F : Type 0} → (F → List ℕ → List ℕ → Type 0) → (F → Bool) → (State → State) → (State → List Content) → (seed : ℕ) → Durable F → F → Type 0
+HasEither has usable later told seed old file = (state : State) (kept loose : List Entry) (at : IsAt has usable state kept loose old) →
+    (k : List Entry) × (l : List Entry) × Adds kept loose (told_next old.journal (told state)) k l × (old.journal.appender.sync ≡ Each → l ≡ [])
+    × (HasEntries has old.journal.framing.seed at.base k l file ⊎ HasEntries has seed (checkpoint_at (later state)) [] [] file)
 
 -- it is a refusal of the rules or of memory, or FileFault
 abbrev pub IsRefusal : DurableError → Type 0

@@ -39,6 +39,10 @@ entries_at loose (content ∷ more) = record { loose = loose; content = content 
 abbrev pub told_next : {F : Type 0} → Journal F → List Content → List Entry
 told_next journal contents = entries_at (loose_ahead journal) contents
 
+-- where a journal ends behind the entries that tell this next
+abbrev pub place_behind : {F : Type 0} → Journal F → List Content → ℕ
+place_behind journal contents = journal.appender.place + length (frames journal.framing.seed journal.appender.place (payloads_of (told_next journal contents)))
+
 -- these entries can be added behind those
 abbrev pub CanFollow : Base → (before entries : List Entry) → Type 0
 CanFollow base before entries = AreLawful base.config (acts_before base ++ acts_of before) entries × ArePayloads (payloads_of entries)

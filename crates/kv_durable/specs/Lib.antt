@@ -7,3 +7,4 @@ pub mod Starts
 pub mod Openings
 pub mod Endings
 pub mod Lives
+pub mod Resuming

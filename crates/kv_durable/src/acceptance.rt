@@ -1,6 +1,6 @@
 //! The one way in which something is accepted: what it leads to is made apart, added to the file, and only then put in place.
 
-ghost use Rattle.std.specs.Prelude.{◌≡◌, ◌<◌, ◌^◌, ◌&&◌, ℕ, List, true, is_ok, length, OnErr, OnOk};
+ghost use Rattle.std.specs.Prelude.{◌≡◌, ◌<◌, ◌≤◌, ◌^◌, ◌&&◌, ℕ, List, true, is_ok, length, OnErr, OnOk};
 ghost use Rattle.kv_file.specs.declared.appender.Sync.TheVariants.{Each, Every};
 ghost use Rattle.kv_model.specs.declared.call.Call.{Call as ACall};
 ghost use Rattle.kv_single.specs.Batches.{LeadThere};
@@ -33,6 +33,7 @@ impl<F: JournalFile> Durable<F> {
         ensures framing { self.new.journal.framing ≡ self.old.journal.framing }
         ensures sync { self.new.journal.appender.sync ≡ self.old.journal.appender.sync }
         ensures usable { F.usable self.new.journal.appender.file ≡ (F.usable self.old.journal.appender.file && is_ok result) }
+        ensures count { F.faults self.old.journal.appender.file ≤ F.faults self.new.journal.appender.file }
         ensures failed { OnErr result (F.usable self.old.journal.appender.file ≡ true →
             F.faults self.old.journal.appender.file < F.faults self.new.journal.appender.file) }
     {

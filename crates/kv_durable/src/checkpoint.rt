@@ -10,13 +10,14 @@ ghost use Rattle.kv_model.specs.Acts.{Act};
 ghost use Rattle.kv_model.specs.State.{State};
 ghost use Rattle.kv_store.specs.Standing.{StandsFor};
 ghost use Rattle.kv_durable.specs.Bases.{base_payloads, opening, replaced_by};
-ghost use Rattle.kv_durable.specs.Durables.{IsAt, IsRefusal};
-ghost use Rattle.kv_durable.specs.Journals.{HasEntries, is_stopped};
+ghost use Rattle.kv_durable.specs.Durables.{FitsInFrames, IsAt, IsNewFile, IsRefusal, IsReplaced, checkpoint_at};
+ghost use Rattle.kv_durable.specs.Journals.{HasEntries, Keeps, is_stopped};
 ghost use Rattle.kv_durable.specs.declared.error.DurableError.TheVariants.{FileFault, Refused};
 
 use crate::config::OwnConfig;
 use crate::durable::Durable;
 use crate::error::DurableError;
+use crate::journal::Journal;
 use kv_file::{JournalFile, ReplaceableFile};
 use kv_frames::Framing;
 use kv_journal::{push_beginning, push_checkpoint};
@@ -43,6 +44,53 @@ fn file_of(
 }
 
 impl<F: JournalFile> Durable<F> {
+    // The bytes of a file that has what the bucket stores.
+    pub(crate) fn new_file(&self, framing: &Framing) -> Result<Vec<u8>, DurableError>
+        ensures items { IfOk result (λ v. IsNewFile self.now framing.now.seed v.items) }
+        ensures payloads { OnOk result (FitsInFrames self.now) }
+        ensures err { IfErr result (λ e. e ≡ Refused OutOfMemory) }
+    {
+        let bucket = self.bucket.single();
+        file_of(
+            bucket.alloc(),
+            framing,
+            &self.journal.config,
+            bucket.version(),
+        )
+    }
+
+    // Puts such a file in the place of the old one.
+    pub(crate) fn replace_by<P>(
+        &mut self,
+        place: &P,
+        framing: Framing,
+        bytes: Vec<u8>,
+    ) -> Result<(), DurableError>
+    where
+        F: ReplaceableFile<P>,
+        requires new { IsNewFile self.old framing.seed bytes.items }
+        requires fits { FitsInFrames self.old }
+        ensures ok { OnOk result (IsReplaced F.has F.usable (λ state. state) self.old self.new) }
+        ensures seed { OnOk result (self.new.journal.framing.seed ≡ framing.seed) }
+        ensures none { OnOk result (self.new.journal.appender.waiting ≡ 0) }
+        ensures bucket { self.new.bucket ≡ self.old.bucket }
+        ensures goes_on { OnErr result (is_stopped F.usable self.new.journal ≡ false →
+            (state : State) (kept loose : List Entry) (at : IsAt F.has F.usable state kept loose self.old) →
+            (next : IsAt F.has F.usable state kept loose self.new) × (next.base ≡ at.base)) }
+        ensures left { OnErr result ((state : State) (kept loose : List Entry) (at : IsAt F.has F.usable state kept loose self.old) →
+            HasEntries F.has self.old.journal.framing.seed at.base kept loose self.new.journal.appender.file
+            ⊎ HasEntries F.has framing.seed (checkpoint_at state) [] [] self.new.journal.appender.file) }
+        ensures err { IfErr result (λ e. e ≡ FileFault) }
+        ensures failed { OnErr result (F.usable self.old.journal.appender.file ≡ true →
+            F.faults self.old.journal.appender.file < F.faults self.new.journal.appender.file) }
+        ensures same { OnErr result (self.new.journal.framing ≡ self.old.journal.framing) }
+        ensures place { OnErr result (self.new.journal.appender.place ≡ self.old.journal.appender.place) }
+        ensures sync { self.new.journal.appender.sync ≡ self.old.journal.appender.sync }
+    {
+        self.journal.replace(place, framing, bytes)?;
+        Ok(())
+    }
+
     /// Replaces the file, where it lies in such a place, by one with this seed that has what the bucket stores, and none of the
     /// acts that led to it. Choose the seed at random, and another for each file: a disk can leave blocks of the old file in
     /// the new one. Whatever a crash leaves, it is the old file or the whole new one, and both are of the same bucket.
@@ -54,8 +102,7 @@ impl<F: JournalFile> Durable<F> {
     pub fn checkpoint<P>(&mut self, place: &P, seed: u64) -> Result<(), DurableError>
     where
         F: ReplaceableFile<P>,
-        ensures ok { OnOk result ((state : State) (kept loose : List Entry) → IsAt F.has F.usable state kept loose self.old →
-            (next : IsAt F.has F.usable state [] [] self.new) × (next.base ≡ replaced_by state.config state.acts)) }
+        ensures ok { OnOk result (IsReplaced F.has F.usable (λ state. state) self.old self.new) }
         ensures seed { OnOk result (self.new.journal.framing.seed ≡ seed) }
         ensures bucket { self.new.bucket ≡ self.old.bucket }
         ensures goes_on { OnErr result (is_stopped F.usable self.new.journal ≡ false →
@@ -63,7 +110,7 @@ impl<F: JournalFile> Durable<F> {
             (next : IsAt F.has F.usable state kept loose self.new) × (next.base ≡ at.base)) }
         ensures left { OnErr result ((state : State) (kept loose : List Entry) (at : IsAt F.has F.usable state kept loose self.old) →
             HasEntries F.has self.old.journal.framing.seed at.base kept loose self.new.journal.appender.file
-            ⊎ HasEntries F.has seed (replaced_by state.config state.acts) [] [] self.new.journal.appender.file) }
+            ⊎ HasEntries F.has seed (checkpoint_at state) [] [] self.new.journal.appender.file) }
         ensures refused { IfErr result (λ e. (x : AnError) → e ≡ Refused x → x ≡ OutOfMemory) }
         ensures untouched { IfErr result (λ e. (x : AnError) → e ≡ Refused x → self.new ≡ self.old) }
         ensures fault { IsErrOf result FileFault → (is_stopped F.usable self.old.journal ≡ true)
@@ -74,14 +121,36 @@ impl<F: JournalFile> Durable<F> {
     {
         self.journal.may_add()?;
         let framing = Framing::new(seed);
-        let bucket = self.bucket.single();
-        let bytes = file_of(
-            bucket.alloc(),
-            &framing,
-            &self.journal.config,
-            bucket.version(),
-        )?;
-        self.journal.replace(place, framing, bytes)?;
-        Ok(())
+        let bytes = self.new_file(&framing)?;
+        self.replace_by(place, framing, bytes)
+    }
+}
+
+impl<F: JournalFile + Drop> Journal<F> {
+    /// The journal of another file, which has this seed and what the version stores in place of the acts that led to it, and the
+    /// bytes of that file. Whoever calls it brings these onto the disk, and the file into the place of this journal's; until then
+    /// this one is in use. Choose the seed as for `Durable::checkpoint`.
+    pub fn checkpointed(
+        &self,
+        alloc: Global,
+        file: F,
+        seed: u64,
+        version: &Version,
+    ) -> Result<(Journal<F>, Vec<u8>), DurableError>
+        ensures bytes { IfOk result (λ r. (acts : List Act) → StandsFor acts version.now → version.now.config ≡ self.now.config.config →
+            r.1.items ≡ opening seed (replaced_by self.now.config.config acts)) }
+        ensures keeps { IfOk result (λ r. (acts : List Act) → StandsFor acts version.now → version.now.config ≡ self.now.config.config →
+            F.usable file ≡ true → F.has file r.1.items [] → Keeps F.has F.usable (replaced_by self.now.config.config acts) [] [] r.0) }
+        ensures seed { IfOk result (λ r. r.0.framing.seed ≡ seed) }
+        ensures file { IfOk result (λ r. r.0.appender.file ≡ file) }
+        ensures sync { IfOk result (λ r. r.0.appender.sync ≡ self.now.appender.sync) }
+        ensures err { IfErr result (λ e. e ≡ Refused OutOfMemory) }
+    {
+        let other = Framing::new(seed);
+        let bytes = file_of(alloc, &other, &self.config, version)?;
+        let config = OwnConfig::copy_of(alloc, &self.config.config)?;
+        let place = bytes.len() as u64;
+        let journal = Journal::new(file, other, config, place, self.appender.mode());
+        Ok((journal, bytes))
     }
 }

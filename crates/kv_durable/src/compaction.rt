@@ -1,6 +1,6 @@
 //! Seals and compactions of a durable bucket.
 
-ghost use Rattle.std.specs.Prelude.{◌≡◌, ◌⊎◌, ◌<◌, ◌^◌, ◌∷◌, [], ℕ, true, false, Ok, Err, length, IfErr, IfOk, IsErrOf, OnErr, OnOk};
+ghost use Rattle.std.specs.Prelude.{◌≡◌, ◌⊎◌, ◌<◌, ◌≤◌, ◌^◌, ◌∷◌, [], ℕ, true, false, Ok, Err, length, IfErr, IfOk, IsErrOf, OnErr, OnOk};
 ghost use Rattle.kv_keys.specs.Outcome.{Refuses};
 ghost use Rattle.kv_keys.specs.declared.error.KvError.{KvError as AnError};
 ghost use Rattle.kv_keys.specs.declared.error.KvError.TheVariants.{OutOfMemory};
@@ -96,6 +96,8 @@ impl<F: JournalFile> Durable<F> {
             (λ _. did (ACompaction floor) ∷ []) self.old self.new) }
         ensures every { OnOk result ((n : ℕ) → self.old.journal.appender.sync ≡ Every n → 0 < n →
             self.new.journal.appender.waiting < n) }
+        ensures still { OnOk result (F.usable self.new.journal.appender.file ≡ true) }
+        ensures count { F.faults self.old.journal.appender.file ≤ F.faults self.new.journal.appender.file }
         ensures refused { IfErr result (λ e. (x : AnError) → e ≡ Refused x → (state : State) →
             Represents state self.old.bucket → Refuses x (may_compact floor state)) }
         ensures untouched { IfErr result (λ e. (x : AnError) → e ≡ Refused x → self.new ≡ self.old) }

@@ -16,7 +16,8 @@ pub enum DurableError {
     /// The rules refuse it, or memory does. The file was not touched.
     #[error("{0}")]
     Refused(KvError),
-    /// The file has failed, now or at an earlier call, or has 2^62 bytes. Nothing is added to it any more.
+    /// The file has failed, now or at an earlier call, or has 2^62 bytes. Nothing is added to it any more, unless it was a
+    /// checkpoint that failed and left the old file in use.
     #[error("FileFault")]
     FileFault,
     /// The file was damaged after it had come onto the disk, or is no journal. Its bytes are good up to this place.

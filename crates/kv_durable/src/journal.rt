@@ -173,6 +173,7 @@ impl<F: JournalFile> Journal<F> {
             base.config ≡ was.config → IsLawfulBase base → ArePayloads (base_payloads base) →
             bytes.items ≡ opening framing.seed base → Keeps F.has F.usable base [] [] self.new) }
         ensures framing { OnOk result (self.new.framing ≡ framing) }
+        ensures none { OnOk result (self.new.appender.waiting ≡ 0) }
         ensures unchanged { IsErrOf result Unchanged → (base : Base) (kept loose : List Entry) →
             Keeps F.has F.usable base kept loose self.old → Keeps F.has F.usable base kept loose self.new }
         ensures unknown { IsErrOf result Unknown → (was base : Base) (kept loose : List Entry) → Keeps F.has F.usable was kept loose self.old →
@@ -181,6 +182,7 @@ impl<F: JournalFile> Journal<F> {
             ⊎ HasEntries F.has framing.seed base [] [] self.new.appender.file }
         ensures stops { IsErrOf result Unknown → is_stopped F.usable self.new ≡ true }
         ensures stays { OnErr result (self.new.framing ≡ self.old.framing) }
+        ensures place { OnErr result (self.new.appender.place ≡ self.old.appender.place) }
         ensures sync { self.new.appender.sync ≡ self.old.appender.sync }
         ensures failed { OnErr result (F.usable self.old.appender.file ≡ true →
             F.faults self.old.appender.file < F.faults self.new.appender.file) }

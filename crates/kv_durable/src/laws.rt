@@ -2,12 +2,16 @@
 //! goes on with (`recover`), and over bytes between two lists of entries (`IsBetween`), which each call leaves, whether it was
 //! answered or the file failed, and at each moment before.
 
-ghost use Rattle.std.specs.Prelude.{◌≡◌, ◌⊎◌, ◌<◌, ◌^◌, ◌++◌, ◌∷◌, [], ℕ, List, Ok, map};
+ghost use Rattle.std.specs.Prelude.{◌≡◌, ◌⊎◌, ◌<◌, ◌≤◌, ◌^◌, ◌++◌, ◌∷◌, [], ℕ, Bool, List, Ok, length, map, true};
+ghost use Rattle.std.specs.List.Sorted.{IsStrictlyIncreasing};
 ghost use Rattle.kv_file.specs.File.{MayLeave};
 ghost use Rattle.kv_frames.specs.Frames.{ArePayloads};
-ghost use Rattle.kv_model.specs.Acts.{IsPrefix, Wrote, Write};
+ghost use Rattle.kv_keys.specs.Matching.{any_matches};
+ghost use Rattle.kv_model.specs.Acceptance.{IsLawful};
+ghost use Rattle.kv_model.specs.Acts.{Act, IsPrefix, Wrote, Write, floor_of, writes_of};
 ghost use Rattle.kv_model.specs.Batches.{accept_all, after_all, after_batch};
 ghost use Rattle.kv_model.specs.Configuration.{Configuration, IsLegal};
+ghost use Rattle.kv_model.specs.Given.{given, item_revisions};
 ghost use Rattle.kv_journal.specs.Entries.{AreLawful, Entry, acts_of, payloads_of};
 ghost use Rattle.kv_model.specs.Requests.{asked};
 ghost use Rattle.kv_model.specs.State.{State, empty};
@@ -20,6 +24,7 @@ ghost use Rattle.kv_durable.specs.Files.{HasForgery, IsBeginning, IsBetween, Rea
 ghost use Rattle.kv_durable.specs.Journals.{told_next};
 ghost use Rattle.kv_durable.specs.Lives.{ComesBack, Follows, GoesOn, IsAllOrNone, Lives, lived};
 ghost use Rattle.kv_durable.specs.Openings.{IsNew, IsReopened};
+ghost use Rattle.kv_durable.specs.Resuming.{entry_got, from_behind, known_by};
 ghost use Rattle.kv_durable.specs.declared.durable.Durable.{Durable};
 
 use kv_file::JournalFile;
@@ -151,4 +156,21 @@ pub fn each_call_goes_on<F: JournalFile>()
     ensures others { (later : State → State) (old new : Durable F) → ((state : State) → Represents state old.bucket →
         Represents (later state) new.bucket × ((later state).acts ≡ state.acts) × ((later state).config ≡ state.config)) →
         new.journal ≡ old.journal → GoesOn F.has F.usable later old new }
+{}
+
+/// A client goes on from where it was. It was handed all up to a revision, the last of the acts that it has seen, and watches
+/// from the next one on: in the same life, or in a later one whose acts begin with these. Nothing comes twice. And where the
+/// floor is not above that revision when the watch is opened, the client knows of each key what a get answers, by what it knew
+/// and what it is handed.
+pub fn a_client_goes_on()
+    ensures nothing_twice { (config : Configuration) (h : ℕ) (seen began acts : List Act) (filters : List (List ℕ)) (headers_only : Bool) →
+        IsLawful config acts → IsPrefix seen began → IsPrefix began acts →
+        IsStrictlyIncreasing (length (writes_of seen)
+        ∷ item_revisions (given h began acts filters (from_behind (length (writes_of seen)) headers_only))) }
+    ensures knows { (config : Configuration) (seen began acts : List Act) (filters : List (List ℕ)) (headers_only : Bool) (key : List ℕ) →
+        IsLegal config → IsLawful config acts → IsPrefix seen began → IsPrefix began acts →
+        floor_of began ≤ length (writes_of seen) → any_matches filters key ≡ true →
+        known_by key (entry_got headers_only key seen)
+        (given config.history began acts filters (from_behind (length (writes_of seen)) headers_only))
+        ≡ entry_got headers_only key acts }
 {}

@@ -2,7 +2,7 @@
 use Rattle.std.proofs.Common.{◌≡◌, ◌⊎◌, ℕ, List, Option, Result, Ok, Err, refl, sym, subst, inl, inr}
 use Rattle.std.specs.Prelude.{⊤, IfErr, OnOk}
 use Rattle.kv_keys.specs.declared.error.KvError.{KvError}
-use Rattle.kv_keys.specs.declared.error.KvError.TheVariants.{OutOfMemory, BadBucket, BadConfig, BadKey, BadFilter, OptionsClash, ValueTooLarge, Sealed, JournalFull, KeyExists, WrongLastRevision, KeyNotFound, NoSuchWatch, TooManyWatches, NoReader, BadCommand, ReadFault, WriteFault, BadFloor, WatchBehind, Lagged}
+use Rattle.kv_keys.specs.declared.error.KvError.TheVariants.{OutOfMemory, ReadFault, WriteFault}
 use Rattle.kv_script.specs.declared.form.Form.{Form}
 use Rattle.kv_replay.specs.Faults.{IsRunFault}
 use Rattle.kv_replay.specs.Replaying.{RanFrom}
@@ -26,26 +26,9 @@ module _ (form : Form) (session : Session) (unread left held holds : Option (Lis
 
   by_fault : (x : KvError) → IsRunFault x → Ran (run_err x) → By (Refused x)
   by_fault OutOfMemory fault ran = inr (ran.memory refl)
-  by_fault BadBucket fault ran = absurd fault
-  by_fault BadConfig fault ran = absurd fault
-  by_fault BadKey fault ran = absurd fault
-  by_fault BadFilter fault ran = absurd fault
-  by_fault OptionsClash fault ran = absurd fault
-  by_fault ValueTooLarge fault ran = absurd fault
-  by_fault Sealed fault ran = absurd fault
-  by_fault JournalFull fault ran = absurd fault
-  by_fault KeyExists fault ran = absurd fault
-  by_fault (WrongLastRevision last) fault ran = absurd fault
-  by_fault KeyNotFound fault ran = absurd fault
-  by_fault NoSuchWatch fault ran = absurd fault
-  by_fault TooManyWatches fault ran = absurd fault
-  by_fault NoReader fault ran = absurd fault
-  by_fault BadCommand fault ran = absurd fault
   by_fault ReadFault fault ran = ran.read_fault refl
   by_fault WriteFault fault ran = ran.write_fault refl
-  by_fault BadFloor fault ran = absurd fault
-  by_fault (WatchBehind watch) fault ran = absurd fault
-  by_fault (Lagged floor) fault ran = absurd fault
+  by_fault _ fault ran = absurd fault
 
   -- all was answered, and then the file failed, or memory ran out
   unclosed : (e : DurableError) → IsUnclosed e → Ran run_ok → By e

@@ -166,7 +166,7 @@ module _ (config : Configuration) (acts : List Act) where
             ∙ ap (λ (r : Result ℕ KvError). outside (after_compact (state_at config acts) r)) (ap (λ (b : Bool). cond b (Err BadFloor) (Ok floor)) h),
       )
 
-acts_lead : (config : Configuration) (before acts : List Act) → IsLegal config → LawfulFrom config before acts → IsWithin config before → AllByRecursion IsOfBytes acts
+pub acts_lead : (config : Configuration) (before acts : List Act) → IsLegal config → LawfulFrom config before acts → IsWithin config before → AllByRecursion IsOfBytes acts
     → AllByRecursion IsLine (map act_line acts) × (behind Next (outside (state_at config before)) (map act_line acts) ≡ outside (state_at config (before ++ acts)))
 acts_lead config before [] legal h within bytes = (tt, ap (λ (acts : List Act). outside (state_at config acts)) (sym (append-nil before)))
 acts_lead config before (act ∷ acts) legal h within bytes =
@@ -287,7 +287,7 @@ lines_join : (xs ys : List (List ℕ)) → AllByRecursion IsLine xs → AllByRec
 lines_join [] ys h k = k
 lines_join (x ∷ xs) ys h k = (h.0, lines_join xs ys h.1 k)
 
-abbrev Leads : Configuration → (before acts : List Act) → List (List ℕ) → Type 0
+abbrev pub Leads : Configuration → (before acts : List Act) → List (List ℕ) → Type 0
 Leads config before acts lines = AllByRecursion IsLine lines × (behind Next (outside (state_at config before)) lines ≡ outside (state_at config (before ++ acts)))
 
 all_lead : (config : Configuration) (before acts : List Act) → IsLegal config → LawfulFrom config before acts → IsWithin config before → AllByRecursion IsOfBytes acts
@@ -317,10 +317,12 @@ entries_lead config before (entry ∷ entries) legal h within bytes =
           ∙ ap (λ (xs : List Act). outside (state_at config xs)) (append_assoc before acts (acts_of entries)),
     )
 
-pub dump_leads : (config : Configuration) (entries : List Entry) → IsLegal config → AreLawful config [] entries → AllByRecursion IsOfBytes (acts_of entries)
-    → (state_behind Base64 (fresh config) (dump_text entries)).acts ≡ acts_of entries
-dump_leads config entries legal h bytes =
-    let all = entries_lead config [] entries legal h (omega arith) bytes in
-    let lines = commands_of entries in
+-- from the beginning of a script
+pub commands_lead : (config : Configuration) (acts : List Act) (lines : List (List ℕ)) → Leads config [] acts lines → (state_behind Base64 (fresh config) (lines_text lines)).acts ≡ acts
+commands_lead config acts lines all =
     ap (λ (s : Session). s.state.acts)
     (ap (behind Next (fresh config)) (lines_back lines all.0) ∙ behind-append (fresh config) lines ([] ∷ []) ∙ empty_line (behind Next (fresh config) lines) ∙ all.1)
+
+pub dump_leads : (config : Configuration) (entries : List Entry) → IsLegal config → AreLawful config [] entries → AllByRecursion IsOfBytes (acts_of entries)
+    → (state_behind Base64 (fresh config) (dump_text entries)).acts ≡ acts_of entries
+dump_leads config entries legal h bytes = commands_lead config (acts_of entries) (commands_of entries) (entries_lead config [] entries legal h (omega arith) bytes)

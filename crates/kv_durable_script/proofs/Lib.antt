@@ -7,3 +7,7 @@ pub mod Pouring
 pub mod Words
 pub mod Asking
 pub mod Leading
+pub mod Renumbered
+pub mod Anew
+pub mod StoredLines
+pub mod Scripting

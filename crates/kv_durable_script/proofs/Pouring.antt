@@ -2,7 +2,7 @@
 use Rattle.std.proofs.Common.{◌≡◌, ℕ, ◌+◌, List, [], ◌∷◌, ◌++◌, length, take, Option, refl, sym, ap, ◌∙◌, subst, append_assoc, append-nil}
 use Rattle.std.specs.List.{AllByRecursion}
 use Rattle.std.specs.Io.KnownBytes.{Appends}
-use Rattle.std.proofs.KnownBytes.{Appends-trans}
+use Rattle.std.proofs.KnownBytes.{Appends-nil, Appends-trans}
 use Rattle.kv_frames.specs.Frames.{BeginsWhole, IsPayload, Splits, frame, frames, place_after}
 use Rattle.kv_frames.proofs.Reading.{behind}
 use Rattle.kv_journal.specs.Entries.{Entry, payload_of, payloads_of}
@@ -116,3 +116,7 @@ all_poured seed place bytes rest entries held before holds out r none = by r.lef
 pub all_went : (text before out : List ℕ) (held mid holds : Option (List ℕ)) → before ≡ [] → Pours text held before mid out → Appends mid holds out → Appends held holds text
 all_went text before out held mid holds none poured went =
     subst (Appends held holds) (sym poured.parts ∙ ap (λ (w : List ℕ). w ++ text) none) (Appends-trans held mid holds poured.gone out poured.written went)
+
+-- nothing went yet
+pub nothing_put : (all : List ℕ) (held : Option (List ℕ)) → Puts all held held
+nothing_put all held = record { front = []; rest = all; parts = refl; written = Appends-nil held }

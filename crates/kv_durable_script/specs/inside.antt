@@ -1,1 +1,2 @@
 pub mod Dumpable
+pub mod StoredText

@@ -8,17 +8,19 @@ ghost use Rattle.std.specs.Io.{StartsWith};
 ghost use Rattle.kv_keys.specs.Outcome.{Refuses};
 ghost use Rattle.kv_keys.specs.declared.error.KvError.{KvError as AnError};
 ghost use Rattle.kv_keys.specs.declared.error.KvError.TheVariants.{WriteFault};
-ghost use Rattle.kv_model.specs.Configuration.{configure};
+ghost use Rattle.kv_model.specs.Configuration.{IsLegal, configure};
 ghost use Rattle.kv_journal.specs.Entries.{Entry, payloads_of};
 ghost use Rattle.kv_replay.specs.Faults.{IsWriteOrMemory};
 ghost use Rattle.kv_replay.specs.inside.Written.{Pours, Puts};
 ghost use Rattle.kv_durable.specs.Bases.{fresh};
 ghost use Rattle.kv_durable.specs.Files.{Reads};
-ghost use Rattle.kv_durable.specs.declared.error.DurableError.TheVariants.{FileBusy, FileFault, Refused};
+ghost use Rattle.kv_durable.specs.declared.error.DurableError.TheVariants.{FileBusy, FileFault, HasCheckpoint, Refused};
 ghost use Rattle.kv_durable_script.specs.Dumps.{dump_text};
+ghost use Rattle.kv_durable_script.specs.Scripts.{IsScript};
 ghost use Rattle.kv_durable_script.specs.inside.Dumpable.{CanDumpEntry};
 
 use crate::lines::push_entry;
+use crate::stored::write_stored;
 use kv_durable::{DurableError, recover};
 use kv_frames::Framing;
 use kv_journal::begin;
@@ -88,13 +90,41 @@ fn behind(bytes: &[u8], place: u64) -> &[u8]
     &bytes[place as usize..]
 }
 
+// Writes the script of bytes that begin with no checkpoint, which was recovered of them.
+fn write_plain<K: Output>(
+    alloc: Global,
+    config: &Config,
+    bytes: &[u8],
+    sink: &mut K,
+) -> Result<(), KvError>
+    requires short { length bytes.now < 2 ^ 63 }
+    requires legal { IsLegal config.now }
+    ensures same { K.goes_on sink.old sink.new }
+    ensures ok { OnOk result ((seed : ℕ) (entries : List Entry) (rest : List ℕ) → Reads (fresh config.now) bytes.now seed entries rest →
+        Appends (K.held sink.old) (K.held sink.new) (dump_text entries)) }
+    ensures early { OnErr result ((seed : ℕ) (entries : List Entry) (rest : List ℕ) → Reads (fresh config.now) bytes.now seed entries rest →
+        Puts (dump_text entries) (K.held sink.old) (K.held sink.new)) }
+    ensures write_fault { IsErrOf result WriteFault → K.failed_between sink.old sink.new }
+    ensures fault { IfErr result IsWriteOrMemory }
+{
+    let Ok(begun) = begin(alloc, bytes, config) else {
+        return Err(KvError::OutOfMemory);
+    };
+    let entries = behind(bytes, begun.place);
+    write_entries(alloc, &begun.framing, begun.place, entries, sink)
+}
+
 /// Writes the script of the bytes of a file: the commands of its entries, one a line, in order. `put` has its value in base64;
 /// of a batch `batch N` stands before its lines. A create and an update stand there as puts. On a new bucket of the same
 /// configuration the script leads to the same acts: each entry with its revision, what was freed, and the seal. It answers how
 /// many bytes behind the last whole frame it left out.
 ///
-/// The bytes are read as by [`Durable::open`](crate::Durable), and refused as there; and where they begin with a checkpoint, as
-/// HasCheckpoint: no script leads to the acts in whose place that stands.
+/// No script leads to the acts in whose place a checkpoint stands. So where the bytes begin with one, the script is that of what
+/// the bucket stores: a command for each stored write, in the order of revisions, and `seal` at the end if writes have ended. On a
+/// new bucket of the same configuration it leads to these writes, and each key has the same history but for the revisions, which
+/// begin at 1 there.
+///
+/// The bytes are read as by [`Durable::open`](crate::Durable), and refused as there.
 pub fn dump<K: Output>(
     alloc: Global,
     config: &Config,
@@ -104,26 +134,22 @@ pub fn dump<K: Output>(
     requires { length bytes.now < 2 ^ 63 }
     ensures same { K.goes_on sink.old sink.new }
     // What stands in the bytes was written.
-    ensures ok { IfOk result (λ left_out. (seed : ℕ) × (entries : List Entry) × (rest : List ℕ)
-        × Reads (fresh config.now) bytes.now seed entries rest × (left_out ≡ length rest)
-        × Appends (K.held sink.old) (K.held sink.new) (dump_text entries)) }
+    ensures ok { IfOk result (λ left_out. (text : List ℕ) × (script : IsScript config.now bytes.now text)
+        × (left_out ≡ length script.rest) × Appends (K.held sink.old) (K.held sink.new) text) }
     // Or nothing was; or a beginning of it, until the sink failed or memory ran out.
     ensures early { IfErr result (λ e. (sink.new ≡ sink.old) ⊎ (((x : AnError) × (e ≡ Refused x) × IsWriteOrMemory x)
-        × ((seed : ℕ) × (entries : List Entry) × (rest : List ℕ) × Reads (fresh config.now) bytes.now seed entries rest
-        × (text : List ℕ) × StartsWith (dump_text entries) text × Appends (K.held sink.old) (K.held sink.new) text))) }
+        × ((whole : List ℕ) × IsScript config.now bytes.now whole
+        × (text : List ℕ) × StartsWith whole text × Appends (K.held sink.old) (K.held sink.new) text))) }
     ensures refused { IfErr result (λ e. (x : AnError) → e ≡ Refused x → (x ≡ WriteFault) ⊎ Refuses x (configure config.now)) }
     ensures write_fault { IsErrOf result (Refused WriteFault) → K.failed_between sink.old sink.new }
-    ensures no_fault { IfErr result (λ e. (e ≢ FileFault) × (e ≢ FileBusy)) }
+    ensures no_fault { IfErr result (λ e. (e ≢ FileFault) × (e ≢ FileBusy) × (e ≢ HasCheckpoint)) }
 {
     config.check()?;
     let recovered = recover(alloc, config, bytes)?;
     if recovered.checkpointed {
-        return Err(DurableError::HasCheckpoint);
+        write_stored(alloc, &recovered.version, sink)?;
+        return Ok(recovered.dropped);
     }
-    let Ok(begun) = begin(alloc, bytes, config) else {
-        return Err(DurableError::Refused(KvError::OutOfMemory));
-    };
-    let entries = behind(bytes, begun.place);
-    write_entries(alloc, &begun.framing, begun.place, entries, sink)?;
+    write_plain(alloc, config, bytes, sink)?;
     Ok(recovered.dropped)
 }

@@ -5,6 +5,7 @@ mod dumping;
 pub mod laws;
 mod lines;
 mod running;
+mod stored;
 mod target;
 
 pub use dumping::dump;

@@ -44,17 +44,36 @@ fn push_put(alloc: Global, out: &mut Vec<u8>, key: &str, value: &[u8]) -> Result
     push_value(alloc, out, value)
 }
 
-// The command of the write that a request asks for.
-fn push_request(alloc: Global, out: &mut Vec<u8>, request: &Request) -> Result<(), AllocError>
-    ensures { OnOk result (out.new.items ≡ out.old.items
-        ++ write_line (op_of (asked request.now)) (key_of (asked request.now)) (value_of (asked request.now))) }
+// The command of a write.
+fn push_command(
+    alloc: Global,
+    out: &mut Vec<u8>,
+    op: Op,
+    key: &str,
+    value: &[u8],
+) -> Result<(), AllocError>
+    ensures { OnOk result (out.new.items ≡ out.old.items ++ write_line op key.now value.now) }
 {
-    let key = request.key().as_str();
-    match request.op() {
-        Op::Put => push_put(alloc, out, key, request.value()),
+    match op {
+        Op::Put => push_put(alloc, out, key, value),
         Op::Delete => push_words(out, b"delete ", key),
         Op::Purge => push_words(out, b"purge ", key),
     }
+}
+
+/// Appends the command of a write, and the end of the line.
+pub(crate) fn push_line(
+    alloc: Global,
+    out: &mut Vec<u8>,
+    op: Op,
+    key: &str,
+    value: &[u8],
+) -> Result<(), AllocError>
+    ensures { OnOk result (out.new.items ≡ out.old.items ++ lines_text (write_line op key.now value.now ∷ [])) }
+{
+    push_command(alloc, out, op, key, value)?;
+    out.push(b'\n')?;
+    Ok(())
 }
 
 // A word, a number behind it, and the end of the line.
@@ -71,14 +90,18 @@ fn push_number(
     out.extend_from_slice(line.as_bytes())
 }
 
-// The command of a request, and the end of the line.
+// The command of the write that a request asks for, and the end of the line.
 fn push_write(alloc: Global, out: &mut Vec<u8>, request: &Request) -> Result<(), AllocError>
     ensures { OnOk result (out.new.items ≡ out.old.items
         ++ lines_text (write_line (op_of (asked request.now)) (key_of (asked request.now)) (value_of (asked request.now)) ∷ [])) }
 {
-    push_request(alloc, out, request)?;
-    out.push(b'\n')?;
-    Ok(())
+    push_line(
+        alloc,
+        out,
+        request.op(),
+        request.key().as_str(),
+        request.value(),
+    )
 }
 
 // The line of a record; a clean end has none.

@@ -63,6 +63,9 @@ fn close<F: JournalFile>(durable: Durable<F>, run: Result<(), DurableError>) -> 
 /// Each act is in the file before its answer is written, and on the disk where its bucket's [`Sync`](crate::Sync) says so. The
 /// answers to all lines that are known so far are written before more is asked for. Where the file fails the run ends, behind the
 /// answers to the lines before.
+///
+/// A file that begins with a checkpoint is run on as any other. The run then begins at the state of the acts in whose place that
+/// stands, whatever lawful acts these are, and of the entries behind it.
 pub fn run_durable<F: JournalFile, S: BoundedInput, K: Output>(
     alloc: Global,
     durable: Durable<F>,

@@ -8,7 +8,7 @@ use std::alloc::Global;
 use std::process::Abort;
 use std::test::Fail;
 
-const NEXT_SEED: u64 = 0xFEDC_BA98_7654_3210;
+pub(crate) const NEXT_SEED: u64 = 0xFEDC_BA98_7654_3210;
 
 // A bucket behind so many steps, on a file of which so many calls go well: two make it, and each step is two.
 fn behind(alloc: Global, steps: usize, calls: u64) -> Result<Bucket, DurableError> {
@@ -21,12 +21,12 @@ fn behind(alloc: Global, steps: usize, calls: u64) -> Result<Bucket, DurableErro
     Ok(bucket)
 }
 
-fn are_same(rt: &impl Abort, first: &Bucket, second: &Bucket) {
+pub(crate) fn are_same(rt: &impl Abort, first: &Bucket, second: &Bucket) {
     assert!(rt; is_same(first.bucket().version(), second.bucket().version()));
 }
 
 // What the file of a bucket is opened as: the same bucket.
-fn same_again(
+pub(crate) fn same_again(
     rt: &impl Abort,
     alloc: Global,
     bucket: &Bucket,

@@ -25,6 +25,8 @@ mod replaced;
 #[cfg(test)]
 mod sample;
 #[cfg(test)]
+mod shrinking;
+#[cfg(test)]
 mod system;
 #[cfg(test)]
 mod twice;

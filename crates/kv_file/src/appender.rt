@@ -73,6 +73,13 @@ impl<F: JournalFile> Appender<F> {
         file
     }
 
+    /// When what is added is brought onto the disk.
+    pub fn mode(&self) -> Sync
+        ensures { result ≡ self.now.sync }
+    {
+        self.sync
+    }
+
     /// Where the file ends.
     pub fn place(&self) -> u64
         ensures { result ≡ self.now.place }

@@ -3,7 +3,7 @@
 use crate::fault::Fault;
 use crate::keys::{VALUE, deletes, filters_of, one_filter, puts, spread};
 use crate::plan::Plan;
-use crate::series::{Name, Series};
+use crate::series::{Name, Series, measured};
 use crate::subject::{empty, fill, grow, time_writes};
 use crate::{long, reading, watching};
 use kv_single::{Bucket, Filter, Key};
@@ -155,11 +155,12 @@ fn figure<R: Clock + Print>(
     what: What,
 ) -> Result<(), Fault> {
     let name = Name::time("calls", text(what), "");
-    let mut series = Series::new(alloc, name, plan);
-    for _ in 0..plan.rounds {
-        series.add(measure(rt, alloc, bucket, plan, asked, what)?)?;
-    }
-    series.tell(rt)
+    let tenths = measured(
+        alloc,
+        plan.rounds,
+        || measure(rt, alloc, bucket, plan, asked, what),
+    )?;
+    Series::of(name, plan, tenths).tell(rt)
 }
 
 // The time of a put of a new key, in a bucket that is let go.
@@ -171,11 +172,8 @@ fn growth<R: Clock>(rt: &R, alloc: Global, keys: usize) -> Result<u64, Fault> {
 // Each round grows a bucket of its own.
 fn growths<R: Clock + Print>(rt: &R, alloc: Global, plan: Plan) -> Result<(), Fault> {
     let name = Name::time("calls", "put, new key", "");
-    let mut series = Series::new(alloc, name, plan);
-    for _ in 0..plan.rounds {
-        series.add(growth(rt, alloc, plan.keys)?)?;
-    }
-    series.tell(rt)
+    let tenths = measured(alloc, plan.rounds, || growth(rt, alloc, plan.keys))?;
+    Series::of(name, plan, tenths).tell(rt)
 }
 
 // The figures of these calls, of a bucket that has its keys.

@@ -1,7 +1,7 @@
 //! Keys of one place, as somebody can choose them who knows the hash.
 
 use crate::fault::{Answer, Fault, check};
-use crate::keys::{VALUE, place, puts};
+use crate::keys::{VALUE, keys_by, place, puts};
 use crate::plan::Plan;
 use crate::reading;
 use crate::series::{Name, Series};
@@ -42,27 +42,14 @@ fn key(alloc: Global, number: usize) -> Result<Key, Fault> {
     Ok(key)
 }
 
-fn add_key(alloc: Global, keys: &mut Vec<Key>, number: usize) -> Result<(), Fault> {
-    keys.push(key(alloc, number)?)?;
-    Ok(())
-}
-
 // The keys of the numbers from one on, up to another.
 fn keys(alloc: Global, from: usize, to: usize) -> Result<Vec<Key>, Fault> {
-    let mut keys = Vec::new(alloc);
-    for number in from..to {
-        add_key(alloc, &mut keys, number)?;
-    }
-    Ok(keys)
+    keys_by(alloc, from, to, |number| key(alloc, number))
 }
 
 // Some of so many keys, spread over them.
 fn spread(alloc: Global, count: usize, asked: usize) -> Result<Vec<Key>, Fault> {
-    let mut keys = Vec::new(alloc);
-    for turn in 0..asked {
-        add_key(alloc, &mut keys, place(turn, count))?;
-    }
-    Ok(keys)
+    keys_by(alloc, 0, asked, |turn| key(alloc, place(turn, count)))
 }
 
 // That they really share a place.

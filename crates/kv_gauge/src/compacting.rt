@@ -4,7 +4,7 @@ use crate::clock::{each, since};
 use crate::fault::{Answer, Fault, check};
 use crate::keys::{VALUE, key};
 use crate::plan::Plan;
-use crate::series::{Name, Series};
+use crate::series::{Name, Series, measured};
 use crate::subject::{empty, overwrite};
 use kv_single::Bucket;
 use std::alloc::Global;
@@ -56,11 +56,9 @@ fn compactions<R: Clock + Print>(
     what: &'static str,
     keys: usize,
 ) -> Result<(), Fault> {
-    let mut series = Series::new(alloc, Name::time("compact", what, ""), plan);
-    for _ in 0..plan.rounds {
-        series.add(measure(rt, alloc, keys, plan.keys)?)?;
-    }
-    series.tell(rt)
+    let name = Name::time("compact", what, "");
+    let tenths = measured(alloc, plan.rounds, || measure(rt, alloc, keys, plan.keys))?;
+    Series::of(name, plan, tenths).tell(rt)
 }
 
 /// Measures compactions of so many stored writes, to a thousand keys and to as many keys.

@@ -26,18 +26,26 @@ pub fn key(alloc: Global, number: usize) -> Result<Key, Fault> {
     Ok(key)
 }
 
-fn add_key(alloc: Global, keys: &mut Vec<Key>, number: usize) -> Result<(), Fault> {
-    keys.push(key(alloc, number)?)?;
-    Ok(())
+/// The keys that are made of the numbers from one on, up to another.
+pub fn keys_by<F: FnMut(usize) -> Result<Key, Fault>>(
+    alloc: Global,
+    from: usize,
+    to: usize,
+    key: F,
+) -> Result<Vec<Key>, Fault>
+    requires { F.IsAlwaysCallable key }
+{
+    let mut key = key;
+    let mut keys = Vec::new(alloc);
+    for number in from..to {
+        keys.push(key(number)?)?;
+    }
+    Ok(keys)
 }
 
 /// The keys of the numbers from one on, up to another.
 pub fn keys(alloc: Global, from: usize, to: usize) -> Result<Vec<Key>, Fault> {
-    let mut keys = Vec::new(alloc);
-    for number in from..to {
-        add_key(alloc, &mut keys, number)?;
-    }
-    Ok(keys)
+    keys_by(alloc, from, to, |number| key(alloc, number))
 }
 
 /// A number among so many, spread over them.
@@ -52,11 +60,7 @@ pub fn place(turn: usize, count: usize) -> usize
 
 /// Some keys among so many, spread over them, in the order in which they are asked for.
 pub fn spread(alloc: Global, count: usize, asked: usize) -> Result<Vec<Key>, Fault> {
-    let mut keys = Vec::new(alloc);
-    for turn in 0..asked {
-        add_key(alloc, &mut keys, place(turn, count))?;
-    }
-    Ok(keys)
+    keys_by(alloc, 0, asked, |turn| key(alloc, place(turn, count)))
 }
 
 /// A put of these bytes to a key.
@@ -77,32 +81,30 @@ pub fn delete(alloc: Global, key: &Key) -> Result<Request, Fault> {
     Ok(Request::Delete { key, last: None })
 }
 
-fn add_put(alloc: Global, requests: &mut Vec<Request>, key: &Key) -> Result<(), Fault> {
-    requests.push(put(alloc, key)?)?;
-    Ok(())
+/// What is asked of each key.
+pub fn requests_of<F: FnMut(&Key) -> Result<Request, Fault>>(
+    alloc: Global,
+    keys: &[Key],
+    ask: F,
+) -> Result<Vec<Request>, Fault>
+    requires { F.IsAlwaysCallable ask }
+{
+    let mut ask = ask;
+    let mut requests = Vec::new(alloc);
+    for key in keys {
+        requests.push(ask(key)?)?;
+    }
+    Ok(requests)
 }
 
 /// A put to each key.
 pub fn puts(alloc: Global, keys: &[Key]) -> Result<Vec<Request>, Fault> {
-    let mut requests = Vec::new(alloc);
-    for key in keys {
-        add_put(alloc, &mut requests, key)?;
-    }
-    Ok(requests)
-}
-
-fn add_delete(alloc: Global, requests: &mut Vec<Request>, key: &Key) -> Result<(), Fault> {
-    requests.push(delete(alloc, key)?)?;
-    Ok(())
+    requests_of(alloc, keys, |key| put(alloc, key))
 }
 
 /// A delete of each key.
 pub fn deletes(alloc: Global, keys: &[Key]) -> Result<Vec<Request>, Fault> {
-    let mut requests = Vec::new(alloc);
-    for key in keys {
-        add_delete(alloc, &mut requests, key)?;
-    }
-    Ok(requests)
+    requests_of(alloc, keys, |key| delete(alloc, key))
 }
 
 fn add_filter(alloc: Global, filters: &mut Vec<Filter>, text: &str) -> Result<(), Fault> {

@@ -1,10 +1,10 @@
 //! Gets and puts of values that are too long to lie beside their revisions, and take a block of their own.
 
 use crate::fault::Fault;
-use crate::keys::{key, put_of, spread};
+use crate::keys::{key, put_of, requests_of, spread};
 use crate::plan::Plan;
 use crate::reading;
-use crate::series::{Name, Series};
+use crate::series::{Name, Series, measured};
 use crate::subject::{empty, time_writes};
 use kv_single::{Bucket, Key, Request};
 use std::alloc::Global;
@@ -14,17 +14,8 @@ use std::rt::Clock;
 const LONG: &'static [u8] =
     b"0123456789012345678901234567890123456789012345678901234567890123456789012345678901234567890123456789";
 
-fn add_put(alloc: Global, requests: &mut Vec<Request>, key: &Key) -> Result<(), Fault> {
-    requests.push(put_of(alloc, key, LONG)?)?;
-    Ok(())
-}
-
 fn puts(alloc: Global, keys: &[Key]) -> Result<Vec<Request>, Fault> {
-    let mut requests = Vec::new(alloc);
-    for key in keys {
-        add_put(alloc, &mut requests, key)?;
-    }
-    Ok(requests)
+    requests_of(alloc, keys, |key| put_of(alloc, key, LONG))
 }
 
 fn write(alloc: Global, bucket: &mut Bucket, number: usize) -> Result<(), Fault> {
@@ -50,11 +41,12 @@ fn tell_gets<R: Clock + Print>(
     asked: &[Key],
 ) -> Result<(), Fault> {
     let name = Name::time("calls", "get, a value of 100 bytes", "");
-    let mut series = Series::new(alloc, name, plan);
-    for _ in 0..plan.rounds {
-        series.add(reading::gets(rt, bucket.version(), asked, LONG.len())?)?;
-    }
-    series.tell(rt)
+    let tenths = measured(
+        alloc,
+        plan.rounds,
+        || reading::gets(rt, bucket.version(), asked, LONG.len()),
+    )?;
+    Series::of(name, plan, tenths).tell(rt)
 }
 
 fn tell_puts<R: Clock + Print>(
@@ -66,11 +58,12 @@ fn tell_puts<R: Clock + Print>(
 ) -> Result<(), Fault> {
     let requests = puts(alloc, asked)?;
     let name = Name::time("calls", "put, key that is there, a value of 100 bytes", "");
-    let mut series = Series::new(alloc, name, plan);
-    for _ in 0..plan.rounds {
-        series.add(time_writes(rt, bucket, requests.as_slice())?)?;
-    }
-    series.tell(rt)
+    let tenths = measured(
+        alloc,
+        plan.rounds,
+        || time_writes(rt, bucket, requests.as_slice()),
+    )?;
+    Series::of(name, plan, tenths).tell(rt)
 }
 
 /// Measures gets and puts.

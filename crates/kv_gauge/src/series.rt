@@ -56,6 +56,11 @@ impl Series {
         }
     }
 
+    /// The series of what its rounds gave.
+    pub fn of(name: Name, plan: Plan, tenths: Vec<u64>) -> Series {
+        Series { name, plan, tenths }
+    }
+
     /// Adds what a round gave.
     pub fn add(&mut self, tenths: u64) -> Result<(), Fault> {
         self.tenths.push(tenths)?;
@@ -84,6 +89,22 @@ impl Series {
             self.name.unit,
         )
     }
+}
+
+/// What so many rounds gave.
+pub fn measured<F: FnMut() -> Result<u64, Fault>>(
+    alloc: Global,
+    rounds: usize,
+    round: F,
+) -> Result<Vec<u64>, Fault>
+    requires { F.IsAlwaysCallable round }
+{
+    let mut round = round;
+    let mut tenths = Vec::new(alloc);
+    for _ in 0..rounds {
+        tenths.push(round()?)?;
+    }
+    Ok(tenths)
 }
 
 fn write_name<R: Print>(rt: &R, name: Name, keys: usize) -> Result<(), Fault> {

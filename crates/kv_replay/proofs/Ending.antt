@@ -7,7 +7,7 @@ use Rattle.std.proofs.lemmas.Result.{IfErr-weaker}
 use Rattle.kv_keys.specs.Grammar.{is_name}
 use Rattle.kv_keys.specs.Outcome.{Refuses}
 use Rattle.kv_keys.specs.declared.error.KvError.{KvError}
-use Rattle.kv_keys.specs.declared.error.KvError.TheVariants.{OutOfMemory, BadBucket, BadConfig, BadKey, BadFilter, OptionsClash, ValueTooLarge, Sealed, JournalFull, KeyExists, WrongLastRevision, KeyNotFound, NoSuchWatch, TooManyWatches, NoReader, BadCommand, ReadFault, WriteFault, BadFloor, WatchBehind, Lagged}
+use Rattle.kv_keys.specs.declared.error.KvError.TheVariants.{OutOfMemory, BadBucket, BadConfig, ReadFault, WriteFault}
 use Rattle.kv_script.specs.declared.form.Form.{Form}
 use Rattle.kv_replay.specs.Faults.{IsRunFault, EndsRun}
 use Rattle.kv_replay.specs.Replaying.{Ran, RanFrom}
@@ -18,50 +18,14 @@ use Rattle.kv_model.specs.Configuration.{Configuration, configure, has_legal_num
 -- want of memory or a failed device, under a legal configuration
 pub ends_run : {X : Type 0} (e : KvError) (outcome : Result X KvError) → IsRunFault e → IsOk outcome → EndsRun e outcome
 ends_run {X} OutOfMemory outcome fault legal = legal
-ends_run {X} BadBucket outcome fault legal = absurd fault
-ends_run {X} BadConfig outcome fault legal = absurd fault
-ends_run {X} BadKey outcome fault legal = absurd fault
-ends_run {X} BadFilter outcome fault legal = absurd fault
-ends_run {X} OptionsClash outcome fault legal = absurd fault
-ends_run {X} ValueTooLarge outcome fault legal = absurd fault
-ends_run {X} Sealed outcome fault legal = absurd fault
-ends_run {X} JournalFull outcome fault legal = absurd fault
-ends_run {X} KeyExists outcome fault legal = absurd fault
-ends_run {X} (WrongLastRevision last) outcome fault legal = absurd fault
-ends_run {X} KeyNotFound outcome fault legal = absurd fault
-ends_run {X} NoSuchWatch outcome fault legal = absurd fault
-ends_run {X} TooManyWatches outcome fault legal = absurd fault
-ends_run {X} NoReader outcome fault legal = absurd fault
-ends_run {X} BadCommand outcome fault legal = absurd fault
 ends_run {X} ReadFault outcome fault legal = legal
 ends_run {X} WriteFault outcome fault legal = legal
-ends_run {X} BadFloor outcome fault legal = absurd fault
-ends_run {X} (WatchBehind watch) outcome fault legal = absurd fault
-ends_run {X} (Lagged floor) outcome fault legal = absurd fault
+ends_run {X} _ outcome fault legal = absurd fault
 
 -- a refusal is want of memory, or the one that the rules give
 pub by_cause : {X : Type 0} (e : KvError) (outcome : Result X KvError) → Refuses e outcome → ((e ≡ OutOfMemory) × IsOk outcome) ⊎ (outcome ≡ Err e)
 by_cause {X} OutOfMemory outcome h = inl (refl, h)
-by_cause {X} BadBucket outcome h = inr h
-by_cause {X} BadConfig outcome h = inr h
-by_cause {X} BadKey outcome h = inr h
-by_cause {X} BadFilter outcome h = inr h
-by_cause {X} OptionsClash outcome h = inr h
-by_cause {X} ValueTooLarge outcome h = inr h
-by_cause {X} Sealed outcome h = inr h
-by_cause {X} JournalFull outcome h = inr h
-by_cause {X} KeyExists outcome h = inr h
-by_cause {X} (WrongLastRevision last) outcome h = inr h
-by_cause {X} KeyNotFound outcome h = inr h
-by_cause {X} NoSuchWatch outcome h = inr h
-by_cause {X} TooManyWatches outcome h = inr h
-by_cause {X} NoReader outcome h = inr h
-by_cause {X} BadCommand outcome h = inr h
-by_cause {X} ReadFault outcome h = inr h
-by_cause {X} WriteFault outcome h = inr h
-by_cause {X} BadFloor outcome h = inr h
-by_cause {X} (WatchBehind watch) outcome h = inr h
-by_cause {X} (Lagged floor) outcome h = inr h
+by_cause {X} _ outcome h = inr h
 
 unfoldable pub error_of : {X : Type 0} → KvError → Result X KvError → KvError
 error_of {X} d (Ok x) = d

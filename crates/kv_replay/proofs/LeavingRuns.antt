@@ -4,7 +4,7 @@ use Rattle.std.specs.Io.KnownBytes.{Appends, Consumes, Keeps}
 use Rattle.std.proofs.KnownBytes.{Appends-nil, Appends-trans, Consumes-kept, Consumes-nil, Consumes-trans}
 use Rattle.std.proofs.lemmas.Bool.{cases_Bool}
 use Rattle.kv_keys.specs.declared.error.KvError.{KvError}
-use Rattle.kv_keys.specs.declared.error.KvError.TheVariants.{OutOfMemory, BadBucket, BadConfig, BadKey, BadFilter, OptionsClash, ValueTooLarge, Sealed, JournalFull, KeyExists, WrongLastRevision, KeyNotFound, NoSuchWatch, TooManyWatches, NoReader, BadCommand, ReadFault, WriteFault, BadFloor, WatchBehind, Lagged}
+use Rattle.kv_keys.specs.declared.error.KvError.TheVariants.{OutOfMemory, WriteFault}
 use Rattle.kv_script.specs.declared.form.Form.{Form}
 use Rattle.kv_single.specs.Held.{Bucketed, Represents}
 use Rattle.kv_replay.specs.Faults.{IsWriteOrMemory}
@@ -22,26 +22,8 @@ use Rattle.kv_replay.proofs.Turns.{line_text-long, line_next-long}
 -- an error that is no want of memory is one of the sink
 pub only_write : (e : KvError) → IsWriteOrMemory e → (e ≡ OutOfMemory → ⊥) → e ≡ WriteFault
 only_write OutOfMemory fault other = absurd (other refl)
-only_write BadBucket fault other = absurd fault
-only_write BadConfig fault other = absurd fault
-only_write BadKey fault other = absurd fault
-only_write BadFilter fault other = absurd fault
-only_write OptionsClash fault other = absurd fault
-only_write ValueTooLarge fault other = absurd fault
-only_write Sealed fault other = absurd fault
-only_write JournalFull fault other = absurd fault
-only_write KeyExists fault other = absurd fault
-only_write (WrongLastRevision last) fault other = absurd fault
-only_write KeyNotFound fault other = absurd fault
-only_write NoSuchWatch fault other = absurd fault
-only_write TooManyWatches fault other = absurd fault
-only_write NoReader fault other = absurd fault
-only_write BadCommand fault other = absurd fault
-only_write ReadFault fault other = absurd fault
 only_write WriteFault fault other = refl
-only_write BadFloor fault other = absurd fault
-only_write (WatchBehind watch) fault other = absurd fault
-only_write (Lagged floor) fault other = absurd fault
+only_write _ fault other = absurd fault
 
 next_empty : (form : Form) (s : Session) → line_next form s [] ≡ s
 unfolding line_next turn

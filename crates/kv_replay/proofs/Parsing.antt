@@ -2,7 +2,7 @@
 use Rattle.std.proofs.Common.{◌≡◌, ◌≢◌, ℕ, true, false, List, [], Result, Ok, Err, refl, subst}
 use Rattle.std.specs.Prelude.{OnOk}
 use Rattle.kv_keys.specs.declared.error.KvError.{KvError}
-use Rattle.kv_keys.specs.declared.error.KvError.TheVariants.{OutOfMemory, BadBucket, BadConfig, BadKey, BadFilter, OptionsClash, ValueTooLarge, Sealed, JournalFull, KeyExists, WrongLastRevision, KeyNotFound, NoSuchWatch, TooManyWatches, NoReader, BadCommand, ReadFault, WriteFault, BadFloor, WatchBehind, Lagged}
+use Rattle.kv_keys.specs.declared.error.KvError.TheVariants.{OutOfMemory}
 use Rattle.kv_model.specs.State.{State}
 use Rattle.kv_script.specs.Commands.{Meaning, Fails, is_skipped, line_command}
 use Rattle.kv_script.specs.declared.form.Form.{Form}
@@ -22,26 +22,7 @@ line_steps-read form state line outcome reads is = rw (reads, is) refl
 -- a refusal for its own cause is that of the grammar
 pub refused_by : (error : KvError) (outcome : Result Meaning KvError) → Fails error outcome → error ≢ OutOfMemory → outcome ≡ Err error
 refused_by OutOfMemory outcome fails is = absurd (is refl)
-refused_by BadBucket outcome fails is = fails
-refused_by BadConfig outcome fails is = fails
-refused_by BadKey outcome fails is = fails
-refused_by BadFilter outcome fails is = fails
-refused_by OptionsClash outcome fails is = fails
-refused_by ValueTooLarge outcome fails is = fails
-refused_by Sealed outcome fails is = fails
-refused_by JournalFull outcome fails is = fails
-refused_by KeyExists outcome fails is = fails
-refused_by (WrongLastRevision last) outcome fails is = fails
-refused_by KeyNotFound outcome fails is = fails
-refused_by NoSuchWatch outcome fails is = fails
-refused_by TooManyWatches outcome fails is = fails
-refused_by NoReader outcome fails is = fails
-refused_by BadCommand outcome fails is = fails
-refused_by ReadFault outcome fails is = fails
-refused_by WriteFault outcome fails is = fails
-refused_by BadFloor outcome fails is = fails
-refused_by (WatchBehind watch) outcome fails is = fails
-refused_by (Lagged floor) outcome fails is = fails
+refused_by _ outcome fails is = fails
 
 pub other_than_memory : (error : KvError) → IsRefusal error → error ≢ OutOfMemory
 other_than_memory error is = λ memory. subst IsRefusal memory is

@@ -5,7 +5,7 @@ use Rattle.std.proofs.lemmas.Simd.{map-map}
 use Rattle.std.specs.Option.{ok_or}
 use Rattle.kv_keys.specs.Outcome.{Refuses}
 use Rattle.kv_keys.specs.declared.error.KvError.{KvError}
-use Rattle.kv_keys.specs.declared.error.KvError.TheVariants.{OutOfMemory, BadBucket, BadConfig, BadKey, BadFilter, OptionsClash, ValueTooLarge, Sealed, JournalFull, KeyExists, WrongLastRevision, KeyNotFound, NoSuchWatch, TooManyWatches, NoReader, BadCommand, ReadFault, WriteFault, BadFloor, WatchBehind, Lagged}
+use Rattle.kv_keys.specs.declared.error.KvError.TheVariants.{OutOfMemory, KeyNotFound}
 use Rattle.kv_model.specs.Acts.{Write}
 use Rattle.kv_model.specs.Answers.{Entries}
 use Rattle.kv_model.specs.State.{or_refused, read_entry}
@@ -31,23 +31,4 @@ by_outcome form bucket (Some ws) error is = absurd (let no : ⊥ = cc in no)
 -- the refusal of a history
 pub history_refused : (form : Form) (bucket : List ℕ) (found : Option (List Write)) (error : KvError) → Refuses error (ok_or found KeyNotFound) → IsRefusal error → refusal_text error ≡ history_answer form bucket found
 history_refused form bucket found OutOfMemory refuses is = absurd is
-history_refused form bucket found BadBucket refuses is = by_outcome form bucket found BadBucket refuses
-history_refused form bucket found BadConfig refuses is = by_outcome form bucket found BadConfig refuses
-history_refused form bucket found BadKey refuses is = by_outcome form bucket found BadKey refuses
-history_refused form bucket found BadFilter refuses is = by_outcome form bucket found BadFilter refuses
-history_refused form bucket found OptionsClash refuses is = by_outcome form bucket found OptionsClash refuses
-history_refused form bucket found ValueTooLarge refuses is = by_outcome form bucket found ValueTooLarge refuses
-history_refused form bucket found Sealed refuses is = by_outcome form bucket found Sealed refuses
-history_refused form bucket found JournalFull refuses is = by_outcome form bucket found JournalFull refuses
-history_refused form bucket found KeyExists refuses is = by_outcome form bucket found KeyExists refuses
-history_refused form bucket found (WrongLastRevision last) refuses is = by_outcome form bucket found (WrongLastRevision last) refuses
-history_refused form bucket found KeyNotFound refuses is = by_outcome form bucket found KeyNotFound refuses
-history_refused form bucket found NoSuchWatch refuses is = by_outcome form bucket found NoSuchWatch refuses
-history_refused form bucket found TooManyWatches refuses is = by_outcome form bucket found TooManyWatches refuses
-history_refused form bucket found NoReader refuses is = by_outcome form bucket found NoReader refuses
-history_refused form bucket found BadCommand refuses is = by_outcome form bucket found BadCommand refuses
-history_refused form bucket found ReadFault refuses is = by_outcome form bucket found ReadFault refuses
-history_refused form bucket found WriteFault refuses is = by_outcome form bucket found WriteFault refuses
-history_refused form bucket found BadFloor refuses is = by_outcome form bucket found BadFloor refuses
-history_refused form bucket found (WatchBehind watch) refuses is = by_outcome form bucket found (WatchBehind watch) refuses
-history_refused form bucket found (Lagged floor) refuses is = by_outcome form bucket found (Lagged floor) refuses
+history_refused form bucket found error refuses is = by_outcome form bucket found error refuses

@@ -4,7 +4,7 @@ use Rattle.std.specs.Borrow.{Bor}
 use Rattle.std.specs.Char.{digit_value}
 use Rattle.std.specs.List.{list_all}
 use Rattle.std.specs.Option.{option_map_or, unwrap_or}
-use Rattle.std.specs.Result.{result_unwrap_or}
+use Rattle.std.specs.Result.{result_ok, result_unwrap_or}
 use Rattle.std.specs.Str.Parse.{AllDigits, ParsesBool, ParsesUnsigned, digits_value, without_leading_plus}
 use Rattle.std.specs.Str.{bytes_eq}
 use Rattle.std.proofs.lemmas.Bool.{false_from_ne_true}
@@ -80,6 +80,11 @@ none_read E text e h = go (is_number (without_leading_plus text)) refl
         let outer = both _ _ t in
         let inner = both _ _ outer.0 in
         absurd (h ((ltb-true _ _ inner.0, digits_from (without_leading_plus text) inner.1), ltb-true _ _ outer.1))
+
+-- the number of a word
+pub parsed_number : {E : Type 0} (text : Text) (r : Result ℕ E) → ParsesUnsigned 64 10 text r → result_ok r ≡ number_of text
+parsed_number {E} text (Ok n) h = some_read E text n h
+parsed_number {E} text (Err e) h = none_read E text e h
 
 text_found : {E : Type 0} {gives : List ℕ → Result ℕ E → Type 0} (text : Text) (found : Option ℕ) → ReadsOne gives text found
     → ((text : Text) (r : Result ℕ E) → gives text r → ParsesUnsigned 64 10 text r) → found ≡ number_of text

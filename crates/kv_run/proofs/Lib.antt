@@ -1,5 +1,6 @@
 pub mod ArgumentOptions
 pub mod Dealt
+pub mod FileEnds
 pub mod Lines
 pub mod OnFiles
 pub mod Plans

@@ -6,7 +6,7 @@ use Rattle.std.specs.Io.KnownBytes.{Appends, Consumes, IsAtEnd}
 use Rattle.std.proofs.KnownBytes.{Appends-nil, Appends-trans}
 use Rattle.kv_keys.specs.Outcome.{Refuses}
 use Rattle.kv_keys.specs.declared.error.KvError.{KvError}
-use Rattle.kv_keys.specs.declared.error.KvError.TheVariants.{OutOfMemory, BadBucket, BadConfig, BadKey, BadFilter, OptionsClash, ValueTooLarge, Sealed, JournalFull, KeyExists, WrongLastRevision, KeyNotFound, NoSuchWatch, TooManyWatches, NoReader, BadCommand, ReadFault, WriteFault, BadFloor, WatchBehind, Lagged}
+use Rattle.kv_keys.specs.declared.error.KvError.TheVariants.{OutOfMemory, BadBucket, BadConfig, NoReader, ReadFault, WriteFault}
 use Rattle.kv_model.specs.Answers.{Answer}
 use Rattle.kv_race.specs.Racing.{IsRaced}
 use Rattle.kv_replay.specs.Faults.{IsWriteOrMemory}
@@ -167,26 +167,8 @@ report_ends outcome e legal h = elim h [
 -- a report that is not written to its end
 pub write_ends : (outcome : Result Configuration KvError) (e : KvError) → IsOk outcome → IsWriteOrMemory e → EndsRace e outcome
 write_ends outcome OutOfMemory legal h = legal
-write_ends outcome BadBucket legal h = absurd h
-write_ends outcome BadConfig legal h = absurd h
-write_ends outcome BadKey legal h = absurd h
-write_ends outcome BadFilter legal h = absurd h
-write_ends outcome OptionsClash legal h = absurd h
-write_ends outcome ValueTooLarge legal h = absurd h
-write_ends outcome Sealed legal h = absurd h
-write_ends outcome JournalFull legal h = absurd h
-write_ends outcome KeyExists legal h = absurd h
-write_ends outcome (WrongLastRevision last) legal h = absurd h
-write_ends outcome KeyNotFound legal h = absurd h
-write_ends outcome NoSuchWatch legal h = absurd h
-write_ends outcome TooManyWatches legal h = absurd h
-write_ends outcome NoReader legal h = absurd h
-write_ends outcome BadCommand legal h = absurd h
-write_ends outcome ReadFault legal h = absurd h
 write_ends outcome WriteFault legal h = legal
-write_ends outcome BadFloor legal h = absurd h
-write_ends outcome (WatchBehind watch) legal h = absurd h
-write_ends outcome (Lagged floor) legal h = absurd h
+write_ends outcome _ legal h = absurd h
 
 -- a race of the same scripts and watches
 pub raced_same : (config : Configuration) (scripts same_scripts : List (List Asked)) (watches same_watches : List (List (List ℕ) × Options)) (replies : List (List (Result ℕ KvError))) (seen : List (List Answer)) (version : Stored)

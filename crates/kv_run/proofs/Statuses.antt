@@ -1,7 +1,7 @@
 -- A refusal of a run that has the status 2 is the one of its configuration.
 use Rattle.std.proofs.Common.{◌≡◌, ℕ, List, Option, Some, None, Err, arith}
 use Rattle.kv_keys.specs.declared.error.KvError.{KvError}
-use Rattle.kv_keys.specs.declared.error.KvError.TheVariants.{OutOfMemory, BadBucket, BadConfig, BadKey, BadFilter, OptionsClash, ValueTooLarge, Sealed, JournalFull, KeyExists, WrongLastRevision, KeyNotFound, NoSuchWatch, TooManyWatches, NoReader, BadCommand, ReadFault, WriteFault, BadFloor, WatchBehind, Lagged}
+use Rattle.kv_keys.specs.declared.error.KvError.TheVariants.{OutOfMemory, BadBucket, BadConfig, NoReader, ReadFault, WriteFault}
 use Rattle.kv_model.specs.Configuration.{Configuration, configure}
 use Rattle.kv_race.specs.Openings.{may_race}
 use Rattle.kv_script.specs.declared.form.Form.{Form}
@@ -15,48 +15,19 @@ module _ (form : Form) (config : Configuration) (unread left held holds : Option
   ran_refused OutOfMemory ran two = absurd (omega (arith, two))
   ran_refused BadBucket ran two = ran.fault
   ran_refused BadConfig ran two = ran.fault
-  ran_refused BadKey ran two = absurd ran.fault
-  ran_refused BadFilter ran two = absurd ran.fault
-  ran_refused OptionsClash ran two = absurd ran.fault
-  ran_refused ValueTooLarge ran two = absurd ran.fault
-  ran_refused Sealed ran two = absurd ran.fault
-  ran_refused JournalFull ran two = absurd ran.fault
-  ran_refused KeyExists ran two = absurd ran.fault
-  ran_refused (WrongLastRevision last) ran two = absurd ran.fault
-  ran_refused KeyNotFound ran two = absurd ran.fault
-  ran_refused NoSuchWatch ran two = absurd ran.fault
-  ran_refused TooManyWatches ran two = absurd ran.fault
-  ran_refused NoReader ran two = absurd ran.fault
-  ran_refused BadCommand ran two = absurd ran.fault
   ran_refused ReadFault ran two = absurd (omega (arith, two))
   ran_refused WriteFault ran two = absurd (omega (arith, two))
-  ran_refused BadFloor ran two = absurd ran.fault
-  ran_refused (WatchBehind watch) ran two = absurd ran.fault
-  ran_refused (Lagged floor) ran two = absurd ran.fault
+  ran_refused _ ran two = absurd ran.fault
 
 module _ (form : Form) (config : Configuration) (workers : ℕ) (unread left held holds : Option (List ℕ)) where
   pub raced_refused : (e : KvError) → RanRace form config workers unread left held holds (Err e) → status_of e ≡ 2 → may_race config workers 0 ≡ Err e
   raced_refused OutOfMemory ran two = absurd (omega (arith, two))
   raced_refused BadBucket ran two = ran.fault
   raced_refused BadConfig ran two = ran.fault
-  raced_refused BadKey ran two = absurd ran.fault
-  raced_refused BadFilter ran two = absurd ran.fault
-  raced_refused OptionsClash ran two = absurd ran.fault
-  raced_refused ValueTooLarge ran two = absurd ran.fault
-  raced_refused Sealed ran two = absurd ran.fault
-  raced_refused JournalFull ran two = absurd ran.fault
-  raced_refused KeyExists ran two = absurd ran.fault
-  raced_refused (WrongLastRevision last) ran two = absurd ran.fault
-  raced_refused KeyNotFound ran two = absurd ran.fault
-  raced_refused NoSuchWatch ran two = absurd ran.fault
-  raced_refused TooManyWatches ran two = absurd ran.fault
   raced_refused NoReader ran two = absurd (omega (arith, two))
-  raced_refused BadCommand ran two = absurd ran.fault
   raced_refused ReadFault ran two = absurd (omega (arith, two))
   raced_refused WriteFault ran two = absurd (omega (arith, two))
-  raced_refused BadFloor ran two = absurd ran.fault
-  raced_refused (WatchBehind watch) ran two = absurd ran.fault
-  raced_refused (Lagged floor) ran two = absurd ran.fault
+  raced_refused _ ran two = absurd ran.fault
 
 pub run_refused : (form : Form) (race : Option ℕ) (config : Configuration) (unread left held holds : Option (List ℕ)) (e : KvError) → RanAs form race config unread left held holds (Err e) → status_of e ≡ 2
     → checked race config ≡ Err e
@@ -65,24 +36,6 @@ run_refused form (Some workers) config unread left held holds e ran two = raced_
 
 -- only refusals of a configuration have it
 pub status_two : (e : KvError) → status_of e ≡ 2 → IsBadConfiguration e
-status_two OutOfMemory two = absurd (omega (arith, two))
 status_two BadBucket two = tt
 status_two BadConfig two = tt
-status_two BadKey two = absurd (omega (arith, two))
-status_two BadFilter two = absurd (omega (arith, two))
-status_two OptionsClash two = absurd (omega (arith, two))
-status_two ValueTooLarge two = absurd (omega (arith, two))
-status_two Sealed two = absurd (omega (arith, two))
-status_two JournalFull two = absurd (omega (arith, two))
-status_two KeyExists two = absurd (omega (arith, two))
-status_two (WrongLastRevision last) two = absurd (omega (arith, two))
-status_two KeyNotFound two = absurd (omega (arith, two))
-status_two NoSuchWatch two = absurd (omega (arith, two))
-status_two TooManyWatches two = absurd (omega (arith, two))
-status_two NoReader two = absurd (omega (arith, two))
-status_two BadCommand two = absurd (omega (arith, two))
-status_two ReadFault two = absurd (omega (arith, two))
-status_two WriteFault two = absurd (omega (arith, two))
-status_two BadFloor two = absurd (omega (arith, two))
-status_two (WatchBehind watch) two = absurd (omega (arith, two))
-status_two (Lagged floor) two = absurd (omega (arith, two))
+status_two _ two = absurd (omega (arith, two))

@@ -1,7 +1,9 @@
 pub mod Arguments
+pub mod Clashes
 pub mod Dealing
 pub mod Files
 pub mod Planning
 pub mod Programs
 pub mod Races
 pub mod Reporting
+pub mod Telling

@@ -7,6 +7,7 @@ ghost use Rattle.clap.specs.Matches.{found_of};
 ghost use Rattle.clap.specs.Walk.{rows_of, rule_of};
 ghost use Rattle.kv_keys.specs.declared.error.KvError.TheVariants.{OutOfMemory};
 ghost use Rattle.kv_run.specs.Arguments.{faults_of, form_asked, form_option, is_in_memory, number_in, number_option, program_app, race_option, text_option, wanted_of, with_files, with_limits, word_option};
+ghost use Rattle.kv_run.specs.Clashes.{dumps_as_text, is_text, keeps_and_dumps, races_on_file, syncs_no_file};
 
 use crate::help::VERSION;
 use clap::{Arg, ArgAction, ArgMatches, Command, Error, value_parser};
@@ -99,6 +100,16 @@ fn form_asked(as_text: bool) -> Form
     ensures { result ≡ form_asked as_text }
 {
     if as_text { Form::Text } else { Form::Base64 }
+}
+
+/// Whether values stand as text.
+fn is_text(form: Form) -> bool
+    ensures { result ≡ is_text form }
+{
+    match form {
+        Form::Base64 => false,
+        Form::Text => true,
+    }
 }
 
 /// The program with the options for the numbers of a configuration.
@@ -210,6 +221,34 @@ impl<'a> Arguments<'a> {
         ensures { option_map (λ word. word.now) result ≡ self.now.dump }
     {
         self.dump
+    }
+
+    /// Whether they ask for a race on a file.
+    pub(crate) fn races_on_file(&self) -> bool
+        ensures { result ≡ races_on_file self.now }
+    {
+        self.race.is_some() & (self.journal.is_some() | self.dump.is_some())
+    }
+
+    /// Whether they ask for a dump with values as text.
+    pub(crate) fn dumps_as_text(&self) -> bool
+        ensures { result ≡ dumps_as_text self.now }
+    {
+        self.dump.is_some() & is_text(self.form)
+    }
+
+    /// Whether they name a file to run on and one to dump.
+    pub(crate) fn keeps_and_dumps(&self) -> bool
+        ensures { result ≡ keeps_and_dumps self.now }
+    {
+        self.journal.is_some() & self.dump.is_some()
+    }
+
+    /// Whether they say when to bring onto the disk what no file keeps.
+    pub(crate) fn syncs_no_file(&self) -> bool
+        ensures { result ≡ syncs_no_file self.now }
+    {
+        self.sync.is_some() & self.journal.is_none()
     }
 
     /// Whether they speak of no file.

@@ -1,131 +1,48 @@
 //! The program on a bucket in a file, and the script of a file.
 
-ghost use Rattle.std.specs.Prelude.{◌≡◌, ◌≤◌, ◌<◌, ◌^◌, ℕ, List, false, None, Some, IfErr, IfOk, OnOk, length};
+ghost use Rattle.std.specs.Prelude.{◌≡◌, ◌⊎◌, ◌≤◌, ◌<◌, ◌+◌, ◌^◌, ℕ, List, false, None, Some, Ok, IfErr, IfOk, OnErr, OnOk, codes, length};
+ghost use Rattle.std.specs.Io.KnownBytes.{Appends};
+ghost use Rattle.kv_keys.specs.declared.error.KvError.TheVariants.{OutOfMemory};
 ghost use Rattle.kv_model.specs.Acts.{Act};
+ghost use Rattle.kv_model.specs.Configuration.{IsLegal, configure};
 ghost use Rattle.kv_single.specs.Held.{Represents};
+ghost use Rattle.kv_replay.specs.declared.streams.TheConstants.{READ_CALLS};
 ghost use Rattle.kv_durable.specs.Durables.{state_of};
-ghost use Rattle.kv_run.specs.Files.{IsDumped, IsRunOn};
+ghost use Rattle.kv_durable.specs.declared.error.DurableError.{DurableError as AFault};
+ghost use Rattle.kv_durable.specs.declared.error.DurableError.TheVariants.{FileFault, HasCheckpoint, Refused};
+ghost use Rattle.kv_run.specs.Clashes.{clash_of, clash_text};
+ghost use Rattle.kv_run.specs.Files.{DumpEndsBy, EndsOnFile, IsDumped, IsFileRefused, IsRunOn, IsUnbegun, RunEndsBy};
+ghost use Rattle.kv_run.specs.Telling.{TellsBehind, TellsTorn, file_fault_text, file_status, torn_text};
 
 use crate::arguments::Arguments;
+use crate::clashes::{accuse, clash, when_of};
+use crate::telling::{fail, tell_torn};
 use kv_durable_script::{
     Durable, DurableError, Finished, Opened, Sync as When, SystemFile, dump, run_durable,
 };
 use kv_keys::KvError;
 use kv_model::Config;
 use kv_replay::{Bounded, Input, Output, READ_CALLS};
-use kv_script::Form;
-use std::alloc::{AllocError, Global};
+use std::alloc::Global;
 use std::fs::{File, Files};
 use std::io::{self, ErrorKind, Read};
 use std::random::RandomSource;
 
-/// Why the words ask for nothing that can be done: an option stands beside one that it clashes with, or without one that it
-/// needs, or has a value that is none.
-fn clash(arguments: &Arguments<'_>) -> Option<&'static str> {
-    let has_file = arguments.journal().is_some() || arguments.dump().is_some();
-    if arguments.race().is_some() && has_file {
-        return Some("--race can't be used with --journal or --dump");
-    }
-    if arguments.dump().is_some() && arguments.form() == Form::Text {
-        return Some("--dump can't be used with --text");
-    }
-    if arguments.journal().is_some() && arguments.dump().is_some() {
-        return Some("--journal can't be used with --dump");
-    }
-    if arguments.sync().is_some() && arguments.journal().is_none() {
-        return Some("--sync needs --journal");
-    }
-    if when_of(arguments.sync()).is_none() {
-        return Some("--sync takes each, close or a number from 1");
-    }
-    None
-}
-
-/// When what is added to the file is brought onto the disk, as a word says it: `each`, `close`, or a number of acts from 1.
-fn when_of(word: Option<&str>) -> Option<When> {
-    let Some(word) = word else {
-        return Some(When::Each);
-    };
-    if word == "each" {
-        return Some(When::Each);
-    }
-    if word == "close" {
-        return Some(When::Asked);
-    }
-    match word.parse::<u64>() {
-        Ok(acts) if acts > 0 => Some(When::Every(acts)),
-        _ => None,
-    }
-}
-
-/// Writes texts, one behind the other.
-fn tell<F: Output>(faults: &mut F, texts: &[&str]) -> Result<(), KvError> {
-    for text in texts {
-        faults.write(text.as_bytes())?;
-    }
-    Ok(())
-}
-
-/// Tells what is wrong with the words.
-fn accuse<F: Output>(fault: &str, faults: &mut F) -> u8
-    ensures { result ≡ 2 }
+/// The configuration that the words ask for, where it is legal.
+fn legal_config(alloc: Global, arguments: &Arguments<'_>) -> Result<Config, DurableError>
+    ensures ok { IfOk result (λ config. config ≡ arguments.now.config) }
+    ensures legal { OnOk result (IsLegal arguments.now.config × (configure arguments.now.config ≡ Ok arguments.now.config)) }
+    ensures err { IfErr result (λ e. IsUnbegun arguments.now.config e) }
 {
-    let _ = tell(
-        faults,
-        &[
-            "error: ",
-            fault,
-            "\n\nFor more information, try '--help'.\n",
-        ],
-    );
-    2
-}
-
-/// The line that names what ended the run: of damage with the place up to which the file is good.
-fn fault_line(alloc: Global, error: DurableError) -> Result<String, AllocError> {
-    match error {
-        DurableError::FileDamaged { at } => {
-            format!(in alloc; "kvbucket: FileDamaged at byte {at}\n")
-        }
-        other => {
-            let name = other.name();
-            format!(in alloc; "kvbucket: {name}\n")
-        }
-    }
-}
-
-/// Names what ended the run, and answers its status.
-fn fail<F: Output>(alloc: Global, error: DurableError, faults: &mut F) -> u8
-    ensures some { 0 < result }
-    ensures most { result ≤ 2 }
-{
-    let _ = match fault_line(alloc, error) {
-        Ok(line) => faults.write(line.as_bytes()),
-        Err(_) => faults.write(b"kvbucket: OutOfMemory\n"),
-    };
-    match error {
-        DurableError::Refused(KvError::BadBucket | KvError::BadConfig) => 2,
-        _ => 1,
-    }
-}
-
-/// Tells how many bytes of a file count for nothing, where some do.
-fn tell_torn<F: Output>(
-    alloc: Global,
-    dropped: u64,
-    what: &str,
-    path: &str,
-    faults: &mut F,
-) -> Result<(), DurableError> {
-    if dropped > 0 {
-        let text = format!(in alloc; "kvbucket: {what} {dropped} bytes at the end of {path}\n")?;
-        let _ = faults.write(text.as_bytes());
-    }
-    Ok(())
+    let config = arguments.config(alloc)?;
+    config.check()?;
+    Ok(config)
 }
 
 /// A number for a new file, by chance.
-fn seed<T: RandomSource>(rt: &T) -> Result<u64, DurableError> {
+fn seed<T: RandomSource>(rt: &T) -> Result<u64, DurableError>
+    ensures { IfErr result (λ e. e ≡ FileFault) }
+{
     let mut bytes = [0u8; 8];
     match rt.fill_bytes(&mut bytes) {
         Ok(()) => Ok(u64::from_be_bytes(bytes)),
@@ -135,7 +52,8 @@ fn seed<T: RandomSource>(rt: &T) -> Result<u64, DurableError> {
 
 /// What was opened, where its file begins with no checkpoint.
 fn without_checkpoint(opened: Opened<SystemFile>) -> Result<Opened<SystemFile>, DurableError>
-    ensures { IfOk result (λ o. (o ≡ opened) × (opened.checkpointed ≡ false)) }
+    ensures ok { IfOk result (λ o. (o ≡ opened) × (opened.checkpointed ≡ false)) }
+    ensures err { IfErr result (λ e. e ≡ HasCheckpoint) }
 {
     if opened.checkpointed {
         return Err(DurableError::HasCheckpoint);
@@ -151,9 +69,10 @@ fn open<T: Files<File = File> + RandomSource>(
     path: &str,
     when: When,
 ) -> Result<Opened<SystemFile>, DurableError>
-    ensures { IfOk result (λ o. (acts : List Act) × Represents (state_of config.now acts) o.durable.bucket) }
+    requires legal { IsLegal config.now × (configure config.now ≡ Ok config.now) }
+    ensures ok { IfOk result (λ o. (acts : List Act) × Represents (state_of config.now acts) o.durable.bucket) }
+    ensures err { IfErr result (λ e. IsUnbegun config.now e) }
 {
-    config.check()?;
     let seed = seed(rt)?;
     let file = SystemFile::open(rt, path)?;
     match Durable::open(alloc, config, file, seed, when) {
@@ -172,10 +91,19 @@ fn run<T: Files<File = File> + RandomSource, R: Input, W: Output, F: Output>(
     writer: &mut W,
     faults: &mut F,
 ) -> Result<(), DurableError>
-    ensures { OnOk result (IsRunOn arguments.now.form arguments.now.config
+    ensures ok { OnOk result (IsRunOn arguments.now.form arguments.now.config
         (R.left reader.old) (R.left reader.new) (W.held writer.old) (W.held writer.new)) }
+    ensures err { IfErr result (λ e.
+        (IsUnbegun arguments.now.config e × (((reader.new ≡ reader.old) × (writer.new ≡ writer.old)) × (faults.new ≡ faults.old)))
+        ⊎ RunEndsBy arguments.now.form arguments.now.config
+        (R.left reader.old) (R.left reader.new) (W.held writer.old) (W.held writer.new)
+        (R.failed_between reader.old reader.new ⊎ (R.asked reader.new ≡ R.asked reader.old + READ_CALLS))
+        (W.failed_between writer.old writer.new) e) }
+    ensures same { F.goes_on faults.old faults.new }
+    ensures told { ((torn : ℕ) × Appends (F.held faults.old) (F.held faults.new) (torn_text (codes "dropped") torn path.now))
+        ⊎ F.failed_between faults.old faults.new }
 {
-    let config = arguments.config(alloc)?;
+    let config = legal_config(alloc, arguments)?;
     let when = when_of(arguments.sync()).unwrap_or(When::Each);
     let Opened {
         durable,
@@ -201,7 +129,9 @@ fn read_into<T: Files<File = File>>(rt: &T, path: &str, bytes: &mut Vec<u8>) -> 
 }
 
 /// All bytes of a file that is there.
-fn read<T: Files<File = File>>(rt: &T, alloc: Global, path: &str) -> Result<Vec<u8>, DurableError> {
+fn read<T: Files<File = File>>(rt: &T, alloc: Global, path: &str) -> Result<Vec<u8>, DurableError>
+    ensures { IfErr result (λ e. (e ≡ Refused OutOfMemory) ⊎ (e ≡ FileFault)) }
+{
     let mut bytes = Vec::new(alloc);
     match read_into(rt, path, &mut bytes) {
         Ok(()) => Ok(bytes),
@@ -221,9 +151,15 @@ fn show<T: Files<File = File>, W: Output, F: Output>(
     writer: &mut W,
     faults: &mut F,
 ) -> Result<(), DurableError>
-    ensures { OnOk result (IsDumped arguments.now.config (W.held writer.old) (W.held writer.new)) }
+    ensures ok { OnOk result (IsDumped arguments.now.config (W.held writer.old) (W.held writer.new)) }
+    ensures err { IfErr result (λ e. (IsUnbegun arguments.now.config e × (writer.new ≡ writer.old))
+        ⊎ DumpEndsBy arguments.now.config (W.held writer.old) (W.held writer.new) (W.failed_between writer.old writer.new) e) }
+    ensures untold { OnErr result (faults.new ≡ faults.old) }
+    ensures same { F.goes_on faults.old faults.new }
+    ensures told { OnOk result (((torn : ℕ) × Appends (F.held faults.old) (F.held faults.new) (torn_text (codes "left out") torn path.now))
+        ⊎ F.failed_between faults.old faults.new) }
 {
-    let config = arguments.config(alloc)?;
+    let config = legal_config(alloc, arguments)?;
     let bytes = read(rt, alloc, path)?;
     let left_out = dump(alloc, &config, bytes.as_slice(), writer)?;
     tell_torn(alloc, left_out, "left out", path, faults)
@@ -242,6 +178,14 @@ fn answer<T: Files<File = File> + RandomSource, R: Input, W: Output, F: Output>(
         (R.left reader.old) (R.left reader.new) (W.held writer.old) (W.held writer.new)) }
     ensures dumped { OnOk result ((path : List ℕ) → arguments.now.journal ≡ None → arguments.now.dump ≡ Some path →
         IsDumped arguments.now.config (W.held writer.old) (W.held writer.new)) }
+    ensures err { IfErr result (λ e. EndsOnFile arguments.now (R.left reader.old) (R.left reader.new) (W.held writer.old) (W.held writer.new)
+        ((reader.new ≡ reader.old) × (writer.new ≡ writer.old))
+        (R.failed_between reader.old reader.new ⊎ (R.asked reader.new ≡ R.asked reader.old + READ_CALLS))
+        (W.failed_between writer.old writer.new)
+        (faults.new ≡ faults.old)
+        (TellsTorn arguments.now (F.held faults.old) (F.held faults.new) (F.failed_between faults.old faults.new)) e) }
+    ensures same { F.goes_on faults.old faults.new }
+    ensures told { OnOk result (TellsTorn arguments.now (F.held faults.old) (F.held faults.new) (F.failed_between faults.old faults.new)) }
 {
     match arguments.journal() {
         Some(path) => run(rt, alloc, arguments, path, reader, writer, faults),
@@ -266,6 +210,22 @@ pub(crate) fn with_file<T: Files<File = File> + RandomSource, R: Input, W: Outpu
         (R.left reader.old) (R.left reader.new) (W.held writer.old) (W.held writer.new) }
     ensures dumped { result ≡ 0 → (path : List ℕ) → arguments.now.journal ≡ None → arguments.now.dump ≡ Some path →
         IsDumped arguments.now.config (W.held writer.old) (W.held writer.new) }
+    ensures done { result ≡ 0 →
+        TellsTorn arguments.now (F.held faults.old) (F.held faults.new) (F.failed_between faults.old faults.new) }
+    ensures clashes { (clash : List ℕ) → clash_of arguments.now ≡ Some clash → (result ≡ 2)
+        × (((reader.new ≡ reader.old) × (writer.new ≡ writer.old))
+        × (Appends (F.held faults.old) (F.held faults.new) (clash_text clash) ⊎ F.failed_between faults.old faults.new)) }
+    ensures refused { result ≡ 2 → clash_of arguments.now ≡ None → ((reader.new ≡ reader.old) × (writer.new ≡ writer.old))
+        × IsFileRefused arguments.now.config (F.held faults.old) (F.held faults.new) (F.failed_between faults.old faults.new) }
+    ensures stopped { result ≡ 1 → (error : AFault) × ((file_status error ≡ 1)
+        × EndsOnFile arguments.now (R.left reader.old) (R.left reader.new) (W.held writer.old) (W.held writer.new)
+        ((reader.new ≡ reader.old) × (writer.new ≡ writer.old))
+        (R.failed_between reader.old reader.new ⊎ (R.asked reader.new ≡ R.asked reader.old + READ_CALLS))
+        (W.failed_between writer.old writer.new)
+        (Appends (F.held faults.old) (F.held faults.new) (file_fault_text error) ⊎ F.failed_between faults.old faults.new)
+        (TellsBehind arguments.now (F.held faults.old) (F.held faults.new) (F.failed_between faults.old faults.new)
+        (file_fault_text error))
+        error) }
 {
     if let Some(fault) = clash(arguments) {
         return accuse(fault, faults);

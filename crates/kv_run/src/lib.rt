@@ -2,11 +2,13 @@
 #![tactic(auto)]
 
 mod arguments;
+mod clashes;
 mod files;
 mod help;
 pub mod laws;
 mod races;
 mod running;
+mod telling;
 
 pub use kv_race::{Gate, NoGate, Report, Who, race};
 pub use kv_replay::{

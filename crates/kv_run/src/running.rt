@@ -1,13 +1,16 @@
 //! The program, over the words, the reader and the writers that it is handed.
 
-ghost use Rattle.std.specs.Prelude.{◌≡◌, ◌≤◌, ◌+◌, ◌⊎◌, ℕ, take, map, string_bytes, OnOk, OnErr, IfErr, IsErrOf, List, [], None, Some};
+ghost use Rattle.std.specs.Prelude.{◌≡◌, ◌≤◌, ◌+◌, ◌⊎◌, ℕ, take, map, string_bytes, OnOk, OnErr, IfErr, IsErrOf, List, [], None, Some, false};
 ghost use Rattle.std.specs.Io.KnownBytes.{Appends};
 ghost use Rattle.clap.specs.Kinds.{HasKind, Kinds};
 ghost use Rattle.kv_keys.specs.declared.error.KvError.TheVariants.{OutOfMemory};
-ghost use Rattle.kv_run.specs.Arguments.{AreInMemory, config_of, faults_of, form_of, race_of, wanted_of};
+ghost use Rattle.kv_run.specs.Arguments.{AreInMemory, config_of, faults_of, form_of, is_in_memory, race_of, wanted_of};
+ghost use Rattle.kv_run.specs.Clashes.{clash_of, clash_text};
+ghost use Rattle.kv_durable.specs.declared.error.DurableError.{DurableError as AFault};
 ghost use Rattle.kv_replay.specs.Faults.{IsBadConfiguration};
-ghost use Rattle.kv_run.specs.Files.{IsDumped, IsRunOn};
+ghost use Rattle.kv_run.specs.Files.{EndsOnFile, IsDumped, IsFileRefused, IsRunOn};
 ghost use Rattle.kv_run.specs.Programs.{fault_text, status_of, AreWrong, EndsBy, IsRefusedBy, IsRun, IsShown, RanAs, ShowingEnds};
+ghost use Rattle.kv_run.specs.Telling.{TellsBehind, TellsTorn, file_fault_text, file_status};
 ghost use Rattle.kv_replay.specs.declared.streams.TheConstants.{READ_CALLS};
 
 use crate::arguments::Arguments;
@@ -173,6 +176,39 @@ pub fn program<
     ensures dumped { result ≡ 0 → faults_of (map string_bytes words.now) ≡ [] → (path : List ℕ) →
         (wanted_of (map string_bytes words.now)).journal ≡ None → (wanted_of (map string_bytes words.now)).dump ≡ Some path →
         IsDumped (config_of (map string_bytes words.now)) (W.held writer.old) (W.held writer.new) }
+    // Words that speak of a file, and clash: the first clash is told, unless memory ran out before, and nothing was read or written.
+    ensures clashes { faults_of (map string_bytes words.now) ≡ [] → (clash : List ℕ) →
+        clash_of (wanted_of (map string_bytes words.now)) ≡ Some clash → ((reader.new ≡ reader.old) × (writer.new ≡ writer.old))
+        × (((result ≡ 2) × (Appends (F.held faults.old) (F.held faults.new) (clash_text clash)
+        ⊎ F.failed_between faults.old faults.new))
+        ⊎ ((result ≡ 1) × (Appends (F.held faults.old) (F.held faults.new) (fault_text KvError.OutOfMemory)
+        ⊎ F.failed_between faults.old faults.new))) }
+    // And others: their configuration is refused, which is told, and nothing was read or written. So where nothing clashes and the
+    // configuration is legal, the status is 0 or 1.
+    ensures file_refused { faults_of (map string_bytes words.now) ≡ [] →
+        is_in_memory (wanted_of (map string_bytes words.now)) ≡ false → result ≡ 2 →
+        clash_of (wanted_of (map string_bytes words.now)) ≡ None →
+        ((reader.new ≡ reader.old) × (writer.new ≡ writer.old))
+        × IsFileRefused (config_of (map string_bytes words.now)) (F.held faults.old) (F.held faults.new)
+        (F.failed_between faults.old faults.new) }
+    // They ended by an error, which is told, alone or behind the line on the torn end of the file, and what it says of the bytes
+    // holds. Where the run or the dump was not begun, nothing was read or written.
+    ensures file_stopped { faults_of (map string_bytes words.now) ≡ [] →
+        is_in_memory (wanted_of (map string_bytes words.now)) ≡ false → result ≡ 1 → (error : AFault) × ((file_status error ≡ 1)
+        × EndsOnFile (wanted_of (map string_bytes words.now))
+        (R.left reader.old) (R.left reader.new) (W.held writer.old) (W.held writer.new)
+        ((reader.new ≡ reader.old) × (writer.new ≡ writer.old))
+        (R.failed_between reader.old reader.new ⊎ (R.asked reader.new ≡ R.asked reader.old + READ_CALLS))
+        (W.failed_between writer.old writer.new)
+        (Appends (F.held faults.old) (F.held faults.new) (file_fault_text error) ⊎ F.failed_between faults.old faults.new)
+        (TellsBehind (wanted_of (map string_bytes words.now)) (F.held faults.old) (F.held faults.new)
+        (F.failed_between faults.old faults.new) (file_fault_text error))
+        error) }
+    // And where they came to their end, nothing was told but the line on the torn end of the file, if it has one.
+    ensures file_done { faults_of (map string_bytes words.now) ≡ [] →
+        is_in_memory (wanted_of (map string_bytes words.now)) ≡ false → result ≡ 0 →
+        TellsTorn (wanted_of (map string_bytes words.now)) (F.held faults.old) (F.held faults.new)
+        (F.failed_between faults.old faults.new) }
 {
     match Arguments::parse(alloc, words) {
         Ok(arguments) if !arguments.is_in_memory() => {

@@ -8,7 +8,7 @@ use Rattle.serde_json.specs.Data.{boolean, object, Members, no_members}
 use Rattle.serde_json.specs.Written.{compact_text}
 use Rattle.serde_json.proofs.OnLiterals.{serde_json_on_literals}
 use Rattle.kv_keys.specs.declared.error.KvError.{KvError}
-use Rattle.kv_keys.specs.declared.error.KvError.TheVariants.{OutOfMemory, BadBucket, BadConfig, BadKey, BadFilter, OptionsClash, ValueTooLarge, Sealed, JournalFull, KeyExists, WrongLastRevision, KeyNotFound, NoSuchWatch, TooManyWatches, NoReader, BadCommand, ReadFault, WriteFault, BadFloor, WatchBehind, Lagged}
+use Rattle.kv_keys.specs.declared.error.KvError.TheVariants.{WrongLastRevision, WatchBehind, Lagged}
 use Rattle.kv_model.specs.declared.status.Status.{Status}
 use Rattle.kv_model.specs.Given.{Entry}
 use Rattle.kv_script.specs.inside.Fields.{number_field, base64_field, base64_fields, value_field, value_fields, entry_fields, entry_object, entry_items, key_items, watch_field, worker_field, sealed_fields, compacted_fields, marker_fields, empty_fields, stopped_fields, status_fields, place_fields, detail_fields, refusal_fields, told_fields, number_items, list_fields}
@@ -126,27 +126,10 @@ keys_line keys =
 
 detail_are : (error : KvError) (ms : Members) (members : List Member) → AreMembers ms members → AreMembers (detail_fields error ms) (detail_members error members)
 unfolding serde_json_on_literals
-detail_are OutOfMemory ms members h = h
-detail_are BadBucket ms members h = h
-detail_are BadConfig ms members h = h
-detail_are BadKey ms members h = h
-detail_are BadFilter ms members h = h
-detail_are OptionsClash ms members h = h
-detail_are ValueTooLarge ms members h = h
-detail_are Sealed ms members h = h
-detail_are JournalFull ms members h = h
-detail_are KeyExists ms members h = h
 detail_are (WrongLastRevision last) ms members h = (refl, refl, h)
-detail_are KeyNotFound ms members h = h
-detail_are NoSuchWatch ms members h = h
-detail_are TooManyWatches ms members h = h
-detail_are NoReader ms members h = h
-detail_are BadCommand ms members h = h
-detail_are ReadFault ms members h = h
-detail_are WriteFault ms members h = h
-detail_are BadFloor ms members h = h
 detail_are (WatchBehind watch) ms members h = (refl, refl, h)
 detail_are (Lagged floor) ms members h = (refl, refl, h)
+detail_are _ ms members h = h
 
 refusal_compact : (error : KvError) (ms : Members) (members : List Member) → AreMembers ms members
     → compact_text (object (refusal_fields error ms)) ≡ object_text (refusal_members error members)

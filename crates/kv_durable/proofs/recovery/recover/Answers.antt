@@ -3,10 +3,11 @@ use Rattle.kv_model.specs.Configuration.{Configuration, IsLegal}
 use Rattle.kv_journal.specs.Header.{configuration_payload}
 use Rattle.kv_journal.specs.Damage.{ShowsDamage}
 use Rattle.kv_journal.specs.Entries.{AreLawful, Entry}
-use Rattle.kv_durable.specs.Bases.{Base, IsBaseOf, acts_before}
+use Rattle.kv_durable.specs.Bases.{Base, acts_before}
 use Rattle.kv_durable.specs.Files.{Reads, file_of}
 use Rattle.kv_durable.specs.Refusals.{IsDamaged}
-use Rattle.kv_durable.proofs.Readings.{damage_shows, end_of_base, end_there, no_start, read_begins, reads, reads_from, stands, tells, within_front}
+use Rattle.kv_durable.proofs.Readings.{end_there, no_start, read_begins, reads_from, stands, tells, within_front}
+use Rattle.kv_durable.proofs.Rereading.{both_show, found}
 use Rattle.kv_durable.proofs.recovery.recover.Goals as goal
 
 pub returns-in_err-begun-clause-damaged : goal.returns-in_err-begun-clause-damaged
@@ -80,88 +81,41 @@ behind-rest-requires c =
     omega (arith, (end_there config bytes own s.0 place left there r.0 r.1 c.in_ok-replayed.replayed.place r.2 r.5).0)
 
 pub returns-then-shows_damage-clause-damaged : goal.returns-then-shows_damage-clause-damaged
-returns-then-shows_damage-clause-damaged c = λ _ base seed entries rest same found.
-    let config = c.args.config.now in
-    let bytes = c.args.bytes.now in
+returns-then-shows_damage-clause-damaged c = λ _ base seed entries rest same read.
     let b = c.in_ok-begun.ensures.ok in
-    let own = c.in_ok-begun.begun.framing.seed in
-    let at = c.in_ok-begun.begun.place in
     let s = c.in_ok-started.ensures.ok in
-    let started = c.in_ok-started.started in
-    let place = started.place in
-    let left = c.behind-entries.result.now in
-    let there = stands config bytes own at c.behind-first.result.now b.0 b.1 b.2 c.behind-first.ensures s.0 s.1 started s.2 left c.behind-entries.ensures in
-    let tell = tells config bytes own at c.behind-first.result.now b.0 b.1 b.2 c.behind-first.ensures s.0 s.1 started s.2 in
     let r = c.in_ok-replayed.ensures.ok in
-    let end = c.in_ok-replayed.replayed.place in
-    let lawful : (base : Base) → IsBaseOf config s.0 base → AreLawful base.config (acts_before base) r.0 =
-    λ base is. subst (λ (k : Configuration). AreLawful k (acts_before base) r.0) (s.2.same ∙ sym is.same) (r.4 (acts_before base) (s.2.stands base is)) in
-    let read : (base : Base) → IsBaseOf config s.0 base → Reads base bytes own r.0 r.1 = λ base is. reads config bytes own s.0 place left there base is r.0 r.1 (lawful base is) r.2 in
-    let here : (base : Base) → IsBaseOf config s.0 base → end ≡ length (file_of own base r.0) = λ base is. end_of_base config bytes own s.0 place left there base is r.0 end r.5 in
-    let behind_all = c.behind-rest.ensures ∙ (end_there config bytes own s.0 place left there r.0 r.1 end r.2 r.5).1 in
-    let empty = c.in_ok-empty.ensures.ok in
-    let legal = subst IsLegal (empty.0 ∙ sym same) empty.1.legal in
-    let based = tell.read base seed entries rest same found in
-    let shows = c.shows_damage.ensures.yes c.if-shows_damage.true in
-    damage_shows base bytes own seed r.0 entries r.1 rest legal (read base based) found
-    (subst (λ (w : List ℕ). ShowsDamage own (length (file_of own base r.0)) w) behind_all (subst (λ (n : ℕ). ShowsDamage own n c.behind-rest.result.now) (here base based) shows))
+    let both = both_show c.args.config.now c.args.bytes.now c.in_ok-begun.begun.framing.seed c.in_ok-begun.begun.place c.behind-first.result.now b.0 b.1 b.2 c.behind-first.ensures s.0 s.1 c.in_ok-started.started s.2
+    c.behind-entries.result.now c.behind-entries.ensures r.0 r.1 c.in_ok-replayed.replayed.place c.behind-rest.result.now r.2 r.4 r.5 c.behind-rest.ensures
+    (subst IsLegal c.in_ok-empty.ensures.ok.0 c.in_ok-empty.ensures.ok.1.legal) base seed entries rest same read in
+    both.0 (c.shows_damage.ensures.yes c.if-shows_damage.true)
 
 pub returns-clause-ok : goal.returns-clause-ok
 returns-clause-ok c =
-    let config = c.args.config.now in
-    let bytes = c.args.bytes.now in
     let b = c.in_ok-begun.ensures.ok in
-    let own = c.in_ok-begun.begun.framing.seed in
-    let at = c.in_ok-begun.begun.place in
     let s = c.in_ok-started.ensures.ok in
-    let started = c.in_ok-started.started in
-    let place = started.place in
-    let left = c.behind-entries.result.now in
-    let there = stands config bytes own at c.behind-first.result.now b.0 b.1 b.2 c.behind-first.ensures s.0 s.1 started s.2 left c.behind-entries.ensures in
-    let tell = tells config bytes own at c.behind-first.result.now b.0 b.1 b.2 c.behind-first.ensures s.0 s.1 started s.2 in
     let r = c.in_ok-replayed.ensures.ok in
-    let end = c.in_ok-replayed.replayed.place in
-    let lawful : (base : Base) → IsBaseOf config s.0 base → AreLawful base.config (acts_before base) r.0 =
-    λ base is. subst (λ (k : Configuration). AreLawful k (acts_before base) r.0) (s.2.same ∙ sym is.same) (r.4 (acts_before base) (s.2.stands base is)) in
-    let read : (base : Base) → IsBaseOf config s.0 base → Reads base bytes own r.0 r.1 = λ base is. reads config bytes own s.0 place left there base is r.0 r.1 (lawful base is) r.2 in
-    let here : (base : Base) → IsBaseOf config s.0 base → end ≡ length (file_of own base r.0) = λ base is. end_of_base config bytes own s.0 place left there base is r.0 end r.5 in
-    let behind_all = c.behind-rest.ensures ∙ (end_there config bytes own s.0 place left there r.0 r.1 end r.2 r.5).1 in (
+    let f = found c.args.config.now c.args.bytes.now c.in_ok-begun.begun.framing.seed c.in_ok-begun.begun.place c.behind-first.result.now b.0 b.1 b.2 c.behind-first.ensures s.0 s.1 c.in_ok-started.started s.2
+    c.behind-entries.result.now c.behind-entries.ensures r.0 r.1 c.in_ok-replayed.replayed.place c.behind-rest.result.now r.2 r.4 r.5 c.behind-rest.ensures in (
       s.0,
       r.0,
       r.1,
       record {
         same = r.3.config ∙ s.2.same;
-        told = ap (λ (w : List ℕ). length w) behind_all;
-        tells = tell;
-        reads = read;
+        told = ap (λ (w : List ℕ). length w) f.behind;
+        tells = f.tells;
+        reads = f.read;
         stands = λ base is. r.3.on (acts_before base) (s.2.stands base is);
-        place = here;
+        place = f.here;
       },
     )
 
 pub returns-clause-torn : goal.returns-clause-torn
-returns-clause-torn c = λ base seed entries rest same found shows.
-    let config = c.args.config.now in
-    let bytes = c.args.bytes.now in
+returns-clause-torn c = λ base seed entries rest same read shows.
     let b = c.in_ok-begun.ensures.ok in
-    let own = c.in_ok-begun.begun.framing.seed in
-    let at = c.in_ok-begun.begun.place in
     let s = c.in_ok-started.ensures.ok in
-    let started = c.in_ok-started.started in
-    let place = started.place in
-    let left = c.behind-entries.result.now in
-    let there = stands config bytes own at c.behind-first.result.now b.0 b.1 b.2 c.behind-first.ensures s.0 s.1 started s.2 left c.behind-entries.ensures in
-    let tell = tells config bytes own at c.behind-first.result.now b.0 b.1 b.2 c.behind-first.ensures s.0 s.1 started s.2 in
     let r = c.in_ok-replayed.ensures.ok in
-    let end = c.in_ok-replayed.replayed.place in
-    let lawful : (base : Base) → IsBaseOf config s.0 base → AreLawful base.config (acts_before base) r.0 =
-    λ base is. subst (λ (k : Configuration). AreLawful k (acts_before base) r.0) (s.2.same ∙ sym is.same) (r.4 (acts_before base) (s.2.stands base is)) in
-    let read : (base : Base) → IsBaseOf config s.0 base → Reads base bytes own r.0 r.1 = λ base is. reads config bytes own s.0 place left there base is r.0 r.1 (lawful base is) r.2 in
-    let here : (base : Base) → IsBaseOf config s.0 base → end ≡ length (file_of own base r.0) = λ base is. end_of_base config bytes own s.0 place left there base is r.0 end r.5 in
-    let behind_all = c.behind-rest.ensures ∙ (end_there config bytes own s.0 place left there r.0 r.1 end r.2 r.5).1 in
-    let empty = c.in_ok-empty.ensures.ok in
-    let legal = subst IsLegal (empty.0 ∙ sym same) empty.1.legal in
-    let based = tell.read base seed entries rest same found in
-    let shown = damage_shows base bytes seed own entries r.0 rest r.1 legal found (read base based) shows in
-    c.shows_damage.ensures.no c.if-shows_damage.false
-    (subst (λ (n : ℕ). ShowsDamage own n c.behind-rest.result.now) (sym (here base based)) (subst (λ (w : List ℕ). ShowsDamage own (length (file_of own base r.0)) w) (sym behind_all) shown))
+    let both = both_show c.args.config.now c.args.bytes.now c.in_ok-begun.begun.framing.seed c.in_ok-begun.begun.place c.behind-first.result.now b.0 b.1 b.2 c.behind-first.ensures s.0 s.1 c.in_ok-started.started s.2
+    c.behind-entries.result.now c.behind-entries.ensures r.0 r.1 c.in_ok-replayed.replayed.place c.behind-rest.result.now r.2 r.4 r.5 c.behind-rest.ensures
+    (subst IsLegal c.in_ok-empty.ensures.ok.0 c.in_ok-empty.ensures.ok.1.legal) base seed entries rest same read in
+    c.shows_damage.ensures.no c.if-shows_damage.false (both.1 shows)

@@ -1,4 +1,0 @@
-use Rattle.kv_c.proofs.gathering.kv_batch_create.Goals as goal
-
-pub returns-clause-code : goal.returns-clause-code
-returns-clause-code c = λ is other. c.gather.ensures.code is _ c.create.ensures other

@@ -1,5 +1,0 @@
-use Rattle.std.proofs.Common.{rules}
-use Rattle.kv_c.proofs.naming.refusal_of.Goals as goal
-
-pub returns-in-20 : goal.returns-in-20
-returns-in-20 c = search rules
