@@ -6,7 +6,7 @@ is 'K left out', with the reasons.
 PROGRAM is a built kvbucket, and BENCH a built kv_bench, and where none is named the one in its crate; FOLDER is where libvilgoued lies,
 or else lib/, where ./library puts it; TESTS is a proved test program, crates/NAME/out/NAME_tests, whose requests for memory the part
 `refusals` refuses. The part `lint` runs those linters that are installed. The part `server` starts a nats-server on loopback with its store in a temporary folder, and ends it; where there is none, and Debian's
-package is not to be had, all of it is left out. How much is run, other parts read from variables: RACES, KILLS, WRITES, MOST and JOBS."""
+package is not to be had, all of it is left out. How much is run, other parts read from variables: CRATES, RACES, KILLS, WRITES, MOST and JOBS."""
 import argparse, collections, contextlib, os, sys, tempfile, unittest
 from typing import Any, Iterator, Sequence
 
@@ -28,6 +28,7 @@ PARTS = {
     "journal": ["tests.test_journal", "tests.test_program_journal"],
     "scripts": ["tests.test_scripts"],
     "refusals": ["tests.memory.test_refusals"],
+    "wrong-bodies": ["tests.test_wrong_bodies"],
     "library": ["tests.c.test_headers", "tests.c.test_library", "tests.c.test_shared", "tests.python.test_vilgoued", "tests.python.test_batches",
                 "tests.python.test_following", "tests.python.test_mirrors", "tests.python.test_lagging", "tests.python.test_files",
                 "tests.python.test_package", "tests.python.test_page", "tests.python.test_scripts", "tests.python.test_example", "tests.python.test_sanitizers"],

@@ -11,7 +11,7 @@ Everything that README.md and docs/script.md show of it is run by the program, a
 Each table of docs/script.md has these columns, and neither page has a block of any other kind, but for quoted Rattle and Python.
 
 Of each page, what it names has to exist: the files and headings of its links, the files and folders, calls
-(`Type::call`, `module::call`), edits (`crates/NAME/must-fail`) and other names that stand in it as code."""
+(`Type::call`, `module::call`), edits (`crates/NAME/wrong-bodies`) and other names that stand in it as code."""
 import glob, os, re, shlex, subprocess, tempfile, unittest
 from typing import Any, Callable, Iterable, Iterator, Sequence
 
@@ -23,7 +23,7 @@ TRIES = 500
 # What was looked at, and what is wrong with it.
 Found = tuple[str, str]
 # Names that are no edits, nor of this tree.
-OUTSIDE = {"im", "must-fail", "left-right", "delta", "lib/"}
+OUTSIDE = {"im", "left-right", "delta", "lib/"}
 
 
 def read(path: str) -> str:
@@ -214,7 +214,7 @@ def is_there(name: str, texts: dict[str, str], words: set[str]) -> bool:
         *_, first, last = name.split("::")
         return is_call(first, last, texts)
     if re.fullmatch(r"[a-z0-9]+(-[a-z0-9]+)+", name):
-        return bool(glob.glob(os.path.join(top, "crates", "*", "must-fail", name + ".edit"))) or name in words
+        return bool(glob.glob(os.path.join(top, "crates", "*", "wrong-bodies", name + ".edit"))) or name in words
     if re.fullmatch(r"[A-Za-z]\w*", name):
         return name in words or os.path.isdir(os.path.join(kit.libraries(), name))
     return True
