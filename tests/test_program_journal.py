@@ -1,6 +1,6 @@
 """The program on a bucket in a file: what comes back, what is told of the file, and what is left where the process is killed or the
 device fails."""
-import base64, errno, json, os, random, resource, signal, subprocess, tempfile, threading, time, unittest
+import base64, errno, json, os, random, resource, signal, subprocess, tempfile, threading, unittest
 from typing import IO, Any, Callable
 
 from tests import journal
@@ -8,7 +8,7 @@ from tests.files import failing
 from tests.program import RunsTest, begun, path
 
 # How many processes are killed at the most, and for how many seconds.
-KILLS, SECONDS = int(os.environ.get("KILLS", 500)), 60
+KILLS = int(os.environ.get("KILLS", 500))
 
 WRITES = "put app.port ODA=\ncreate app.host a3Y=\nupdate app.port 1 ODE=\ndelete app.host\nput empty -\npurge app.port\nput app.port ODI=\n"
 BATCHES = "batch 3\nput a MQ==\ndelete a\nput app.port -\nbatch 1\ncreate b Yg==\nbatch 2\nput c Yw==\nbad\n"
@@ -281,14 +281,14 @@ class Failing(ProgramJournal):
 
 class Killed(ProgramJournal):
     def test_a_killed_process_leaves_all_that_was_answered(self) -> None:
-        chance, end = random.Random(7), time.monotonic() + SECONDS
-        kills = told = last = 0
-        while kills < KILLS and time.monotonic() < end:
+        chance = random.Random(7)
+        told = last = 0
+        for kills in range(KILLS):
             if kills % 10 == 0:
                 self.away()
                 last = 0
             answered = self.killed_after(chance.random() * 0.1, SYNCS[kills % len(SYNCS)], last + 1)
-            kills, told = kills + 1, told + len(answered)
+            told += len(answered)
             before, last = last, self.last()
             # all that was answered is there, and whole batches
             self.assertEqual(answered, list(range(before + 1, before + 1 + len(answered))))
@@ -296,7 +296,7 @@ class Killed(ProgramJournal):
             self.assertNotEqual((last - before) % 5, 4)
             # and the whole is what the first lines lead to
             self.assertEqual(self.written(), [("k%d" % i, b"value %d" % i) for i in range(1, last + 1)][-1000:])
-        print("%d processes killed, %d writes answered" % (kills, told))
+        print("%d processes killed, %d writes answered" % (KILLS, told))
         self.assertGreater(told, 0)
 
     def last(self) -> int:
