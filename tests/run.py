@@ -25,7 +25,7 @@ PARTS = {
     "streams": ["tests.test_streams"],
     "compactions": ["tests.test_compactions"],
     "races": ["tests.test_races"],
-    "journal": ["tests.test_journal", "tests.test_program_journal"],
+    "journal": ["tests.test_journal", "tests.test_program_journal", "tests.test_system_files"],
     "scripts": ["tests.test_scripts"],
     "refusals": ["tests.memory.test_refusals"],
     "wrong-bodies": ["tests.test_wrong_bodies"],

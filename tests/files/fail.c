@@ -1,9 +1,9 @@
 /* Fails one call that the program it is loaded into (LD_PRELOAD) makes of its journal: the FAIL_AT-th, counted from 1, of those
-   that open a path under the folder FAIL_FOLDER and of those on such a file. FAIL_HOW is the number of the error; with a
+   that open or rename a path under the folder FAIL_FOLDER and of those on such a file. FAIL_HOW is the number of the error; with a
    minus, a write brings half of its bytes first, and the call behind it fails. With FAIL_ONCE all later calls go well, as on a
    device that comes back, and else they fail too. As the program ends it writes a line of the calls to the file FAIL_LOG: a letter each
-   of o(pen), r(ead), w(rite), s(ync), t(runcate), l(ock), k (seek) and i (stat). It declares what it calls itself, so that any C
-   compiler builds it without headers. */
+   of o(pen), r(ead), w(rite), s(ync), t(runcate), l(ock), k (seek), i (stat) and n (rename). It declares what it calls itself, so that
+   any C compiler builds it without headers. */
 typedef unsigned long size;
 
 extern void *dlsym(void *handle, const char *name);
@@ -127,6 +127,16 @@ long lseek64(int file, long place, int from) {
 int statx(int file, const char *path, int flags, unsigned mask, void *found) {
     if ((is_ours(file) || is_under(path)) && fails('i')) return -1;
     return ((int (*)(int, const char *, int, unsigned, void *))next("statx"))(file, path, flags, mask, found);
+}
+
+int rename(const char *path, const char *to) {
+    if (is_under(path) && fails('n')) return -1;
+    return ((int (*)(const char *, const char *))next("rename"))(path, to);
+}
+
+int renameat(int folder, const char *path, int other, const char *to) {
+    if (is_under(path) && fails('n')) return -1;
+    return ((int (*)(int, const char *, int, const char *))next("renameat"))(folder, path, other, to);
 }
 
 static void tell(void) {

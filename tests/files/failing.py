@@ -25,6 +25,13 @@ def ran(library: str, folder: str, arguments: Sequence[str], script: bytes, at: 
     return subprocess.run([program.path, *arguments], input=script, capture_output=True, timeout=120, env=environment)
 
 
+def calls_of(library: str, folder: str, command: Sequence[str]) -> str:
+    """The calls of a command of which none fails, of files under the folder, where it has its temporary ones; a letter each."""
+    environment = dict(os.environ, LD_PRELOAD=library, FAIL_FOLDER=folder, TMPDIR=folder, FAIL_LOG=log(library))
+    subprocess.run(command, stdout=subprocess.DEVNULL, timeout=120, env=environment, check=True)
+    return calls(library)
+
+
 def log(library: str) -> str:
     return library + ".log"
 
