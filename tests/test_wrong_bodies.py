@@ -41,6 +41,8 @@ class WrongBodies(unittest.TestCase):
     @unittest.skipUnless(kit.command(), "the Rattle kit's command rt is not on the path: install the kit")
     def test_each_is_refused(self) -> None:
         crates = sorted(NAMED or wrong_bodies.crates(), key=size_of, reverse=True)
+        # its first use sets a signal's handler, which only the main thread may
+        kit.builder()
         with concurrent.futures.ThreadPoolExecutor(JOBS) as pool:
             for crate, outcome in zip(crates, pool.map(outcome_of, crates)):
                 refused = len(outcome.bodies) - len(set(outcome.not_refused) - {SAME.name})
