@@ -2,6 +2,7 @@
 
 use crate::durables::{create, empty, is_fault, opened, put_both, reopened, step, without_place};
 use crate::equal::equal;
+use crate::twice::twice;
 use kv_durable::{BatchError, DurableError, Sync};
 use kv_keys::{Key, KvError};
 use kv_model::{BatchRefused, Request};
@@ -37,10 +38,7 @@ fn a_batch_is_refused_whole_once(rt: &impl Abort, alloc: Global) -> Result<(), D
 
 #[test]
 fn a_batch_is_refused_whole(rt: HostRuntime) -> Result<(), Fail> {
-    match a_batch_is_refused_whole_once(&rt, rt.alloc()) {
-        Ok(()) => Ok(()),
-        Err(_) => Ok(a_batch_is_refused_whole_once(&rt, rt.alloc())?),
-    }
+    Ok(twice(|| a_batch_is_refused_whole_once(&rt, rt.alloc()))?)
 }
 
 fn an_empty_batch_is_nothing_once(rt: &impl Abort, alloc: Global) -> Result<(), DurableError> {
@@ -60,10 +58,7 @@ fn an_empty_batch_is_nothing_once(rt: &impl Abort, alloc: Global) -> Result<(), 
 
 #[test]
 fn an_empty_batch_is_nothing(rt: HostRuntime) -> Result<(), Fail> {
-    match an_empty_batch_is_nothing_once(&rt, rt.alloc()) {
-        Ok(()) => Ok(()),
-        Err(_) => Ok(an_empty_batch_is_nothing_once(&rt, rt.alloc())?),
-    }
+    Ok(twice(|| an_empty_batch_is_nothing_once(&rt, rt.alloc()))?)
 }
 
 // A put of a mebibyte of zeros.
@@ -99,8 +94,5 @@ fn damage_in_a_long_batch_is_told_once(rt: &impl Abort, alloc: Global) -> Result
 
 #[test]
 fn damage_in_a_long_batch_is_told(rt: HostRuntime) -> Result<(), Fail> {
-    match damage_in_a_long_batch_is_told_once(&rt, rt.alloc()) {
-        Ok(()) => Ok(()),
-        Err(_) => Ok(damage_in_a_long_batch_is_told_once(&rt, rt.alloc())?),
-    }
+    Ok(twice(|| damage_in_a_long_batch_is_told_once(&rt, rt.alloc()))?)
 }

@@ -2,6 +2,7 @@
 
 use crate::durables::{Bucket, STEPS, empty, is_same, opened, reopened, step};
 use crate::equal::equal;
+use crate::twice::twice;
 use kv_durable::{DurableError, Opened, Sync};
 use kv_keys::KvError;
 use std::alloc::Global;
@@ -69,10 +70,7 @@ fn each_comes_back(rt: &impl Abort, alloc: Global) -> Result<(), DurableError> {
 
 #[test]
 fn a_checkpoint_is_opened_as_the_same_bucket(rt: HostRuntime) -> Result<(), Fail> {
-    match each_comes_back(&rt, rt.alloc()) {
-        Ok(()) => Ok(()),
-        Err(_) => Ok(each_comes_back(&rt, rt.alloc())?),
-    }
+    Ok(twice(|| each_comes_back(&rt, rt.alloc()))?)
 }
 
 // A checkpoint of which a call of the file fails: the first leaves the old file, and the second the new one. Both are of the
@@ -108,8 +106,5 @@ fn each_is_cut_off(rt: &impl Abort, alloc: Global) -> Result<(), DurableError> {
 
 #[test]
 fn a_checkpoint_that_is_cut_off_leaves_the_bucket(rt: HostRuntime) -> Result<(), Fail> {
-    match each_is_cut_off(&rt, rt.alloc()) {
-        Ok(()) => Ok(()),
-        Err(_) => Ok(each_is_cut_off(&rt, rt.alloc())?),
-    }
+    Ok(twice(|| each_is_cut_off(&rt, rt.alloc()))?)
 }

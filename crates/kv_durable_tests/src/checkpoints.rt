@@ -2,6 +2,7 @@
 
 use crate::durables::{STEPS, config, empty, is_same, opened, step};
 use crate::equal::equal;
+use crate::twice::twice;
 use kv_durable::{DurableError, Sync};
 use kv_frames::Framing;
 use kv_journal::{ReplayError, Replayed, push_checkpoint, restore};
@@ -68,8 +69,5 @@ fn each_comes_back(rt: &impl Abort, alloc: Global) -> Result<(), DurableError> {
 
 #[test]
 fn a_checkpoint_gives_the_version_again(rt: HostRuntime) -> Result<(), Fail> {
-    match each_comes_back(&rt, rt.alloc()) {
-        Ok(()) => Ok(()),
-        Err(_) => Ok(each_comes_back(&rt, rt.alloc())?),
-    }
+    Ok(twice(|| each_comes_back(&rt, rt.alloc()))?)
 }

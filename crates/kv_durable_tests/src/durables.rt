@@ -1,6 +1,7 @@
 //! Tests of durable buckets over a file in memory.
 
 use crate::equal::equal;
+use crate::twice::twice;
 use kv_durable::{BatchError, Durable, DurableError, Opened, Sync};
 use kv_file::{JournalFile, MemoryFile, Torn};
 use kv_keys::KvError;
@@ -171,10 +172,7 @@ fn all_is_there_again_once(rt: &impl Abort, alloc: Global) -> Result<(), Durable
 
 #[test]
 fn all_is_there_again(rt: HostRuntime) -> Result<(), Fail> {
-    match all_is_there_again_once(&rt, rt.alloc()) {
-        Ok(()) => Ok(()),
-        Err(_) => Ok(all_is_there_again_once(&rt, rt.alloc())?),
-    }
+    Ok(twice(|| all_is_there_again_once(&rt, rt.alloc()))?)
 }
 
 // What is read of the first bytes of a file.
@@ -207,10 +205,7 @@ fn each_beginning_is_read_once(rt: &impl Abort, alloc: Global) -> Result<(), Dur
 
 #[test]
 fn each_beginning_of_a_file_is_its_whole_acts(rt: HostRuntime) -> Result<(), Fail> {
-    match each_beginning_is_read_once(&rt, rt.alloc()) {
-        Ok(()) => Ok(()),
-        Err(_) => Ok(each_beginning_is_read_once(&rt, rt.alloc())?),
-    }
+    Ok(twice(|| each_beginning_is_read_once(&rt, rt.alloc()))?)
 }
 
 // Whether the version is that behind some number of steps.
@@ -252,10 +247,7 @@ fn a_turned_bit_is_told_once(rt: &impl Abort, alloc: Global) -> Result<(), Durab
 
 #[test]
 fn a_turned_bit_is_told(rt: HostRuntime) -> Result<(), Fail> {
-    match a_turned_bit_is_told_once(&rt, rt.alloc()) {
-        Ok(()) => Ok(()),
-        Err(_) => Ok(a_turned_bit_is_told_once(&rt, rt.alloc())?),
-    }
+    Ok(twice(|| a_turned_bit_is_told_once(&rt, rt.alloc()))?)
 }
 
 fn what_stands_behind_is_dropped_once(rt: &impl Abort, alloc: Global) -> Result<(), DurableError> {
@@ -279,10 +271,7 @@ fn what_stands_behind_is_dropped_once(rt: &impl Abort, alloc: Global) -> Result<
 
 #[test]
 fn what_stands_behind_is_dropped(rt: HostRuntime) -> Result<(), Fail> {
-    match what_stands_behind_is_dropped_once(&rt, rt.alloc()) {
-        Ok(()) => Ok(()),
-        Err(_) => Ok(what_stands_behind_is_dropped_once(&rt, rt.alloc())?),
-    }
+    Ok(twice(|| what_stands_behind_is_dropped_once(&rt, rt.alloc()))?)
 }
 
 // A bucket of a file that fails behind so many calls, and how many of its steps were answered.
@@ -350,10 +339,7 @@ fn what_was_answered_is_there_once(rt: &impl Abort, alloc: Global) -> Result<(),
 
 #[test]
 fn what_was_answered_is_there(rt: HostRuntime) -> Result<(), Fail> {
-    match what_was_answered_is_there_once(&rt, rt.alloc()) {
-        Ok(()) => Ok(()),
-        Err(_) => Ok(what_was_answered_is_there_once(&rt, rt.alloc())?),
-    }
+    Ok(twice(|| what_was_answered_is_there_once(&rt, rt.alloc()))?)
 }
 
 // The file has failed. Where memory is refused before that shows, all is done once more.
@@ -388,10 +374,7 @@ fn a_fault_stops_once(rt: &impl Abort, alloc: Global) -> Result<(), DurableError
 
 #[test]
 fn a_fault_stops(rt: HostRuntime) -> Result<(), Fail> {
-    match a_fault_stops_once(&rt, rt.alloc()) {
-        Ok(()) => Ok(()),
-        Err(_) => Ok(a_fault_stops_once(&rt, rt.alloc())?),
-    }
+    Ok(twice(|| a_fault_stops_once(&rt, rt.alloc()))?)
 }
 
 fn what_is_refused_is_not_there_once(rt: &impl Abort, alloc: Global) -> Result<(), DurableError> {
@@ -414,10 +397,7 @@ fn what_is_refused_is_not_there_once(rt: &impl Abort, alloc: Global) -> Result<(
 
 #[test]
 fn what_is_refused_is_not_in_the_file(rt: HostRuntime) -> Result<(), Fail> {
-    match what_is_refused_is_not_there_once(&rt, rt.alloc()) {
-        Ok(()) => Ok(()),
-        Err(_) => Ok(what_is_refused_is_not_there_once(&rt, rt.alloc())?),
-    }
+    Ok(twice(|| what_is_refused_is_not_there_once(&rt, rt.alloc()))?)
 }
 
 fn another_bucket_is_told_once(rt: &impl Abort, alloc: Global) -> Result<(), DurableError> {
@@ -438,8 +418,5 @@ fn another_bucket_is_told_once(rt: &impl Abort, alloc: Global) -> Result<(), Dur
 
 #[test]
 fn another_bucket_is_told(rt: HostRuntime) -> Result<(), Fail> {
-    match another_bucket_is_told_once(&rt, rt.alloc()) {
-        Ok(()) => Ok(()),
-        Err(_) => Ok(another_bucket_is_told_once(&rt, rt.alloc())?),
-    }
+    Ok(twice(|| another_bucket_is_told_once(&rt, rt.alloc()))?)
 }

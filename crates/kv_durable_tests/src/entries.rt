@@ -2,6 +2,7 @@
 
 use crate::equal::equal;
 use crate::sample::{FRAMES, HEADER, SEED};
+use crate::twice::twice;
 use kv_frames::Framing;
 use kv_journal::{
     BeginningError, Begun, ReplayError, Replayed, begin, encode_batch, encode_closed,
@@ -95,10 +96,7 @@ fn the_sample_is_written_once(rt: &impl Abort, alloc: Global) -> Result<(), KvEr
 
 #[test]
 fn the_sample_is_written(rt: HostRuntime) -> Result<(), Fail> {
-    match the_sample_is_written_once(&rt, rt.alloc()) {
-        Ok(()) => Ok(()),
-        Err(_) => Ok(the_sample_is_written_once(&rt, rt.alloc())?),
-    }
+    Ok(twice(|| the_sample_is_written_once(&rt, rt.alloc()))?)
 }
 
 fn begun(alloc: Global, bytes: &[u8]) -> Result<Begun, KvError> {
@@ -149,10 +147,7 @@ fn the_sample_is_read_once(rt: &impl Abort, alloc: Global) -> Result<(), KvError
 
 #[test]
 fn the_sample_is_read(rt: HostRuntime) -> Result<(), Fail> {
-    match the_sample_is_read_once(&rt, rt.alloc()) {
-        Ok(()) => Ok(()),
-        Err(_) => Ok(the_sample_is_read_once(&rt, rt.alloc())?),
-    }
+    Ok(twice(|| the_sample_is_read_once(&rt, rt.alloc()))?)
 }
 
 // Where each entry ends.
@@ -192,10 +187,7 @@ fn a_torn_file_is_its_whole_entries_once(rt: &impl Abort, alloc: Global) -> Resu
 
 #[test]
 fn a_torn_file_is_its_whole_entries(rt: HostRuntime) -> Result<(), Fail> {
-    match a_torn_file_is_its_whole_entries_once(&rt, rt.alloc()) {
-        Ok(()) => Ok(()),
-        Err(_) => Ok(a_torn_file_is_its_whole_entries_once(&rt, rt.alloc())?),
-    }
+    Ok(twice(|| a_torn_file_is_its_whole_entries_once(&rt, rt.alloc()))?)
 }
 
 // The sample with a bit of this byte turned.
@@ -222,10 +214,7 @@ fn a_turned_bit_in_the_middle_is_damage_once(
 
 #[test]
 fn a_turned_bit_in_the_middle_is_damage(rt: HostRuntime) -> Result<(), Fail> {
-    match a_turned_bit_in_the_middle_is_damage_once(&rt, rt.alloc()) {
-        Ok(()) => Ok(()),
-        Err(_) => Ok(a_turned_bit_in_the_middle_is_damage_once(&rt, rt.alloc())?),
-    }
+    Ok(twice(|| a_turned_bit_in_the_middle_is_damage_once(&rt, rt.alloc()))?)
 }
 
 // Why the bytes do not begin a file of this configuration.
@@ -280,10 +269,7 @@ fn a_file_of_another_bucket_does_not_begin_once(
 
 #[test]
 fn a_file_of_another_bucket_does_not_begin(rt: HostRuntime) -> Result<(), Fail> {
-    match a_file_of_another_bucket_does_not_begin_once(&rt, rt.alloc()) {
-        Ok(()) => Ok(()),
-        Err(_) => Ok(a_file_of_another_bucket_does_not_begin_once(&rt, rt.alloc())?),
-    }
+    Ok(twice(|| a_file_of_another_bucket_does_not_begin_once(&rt, rt.alloc()))?)
 }
 
 fn an_entry_of_no_lawful_act_is_refused_with_its_place_once(
@@ -308,10 +294,7 @@ fn an_entry_of_no_lawful_act_is_refused_with_its_place_once(
 
 #[test]
 fn an_entry_of_no_lawful_act_is_refused_with_its_place(rt: HostRuntime) -> Result<(), Fail> {
-    match an_entry_of_no_lawful_act_is_refused_with_its_place_once(&rt, rt.alloc()) {
-        Ok(()) => Ok(()),
-        Err(_) => Ok(an_entry_of_no_lawful_act_is_refused_with_its_place_once(&rt, rt.alloc())?),
-    }
+    Ok(twice(|| an_entry_of_no_lawful_act_is_refused_with_its_place_once(&rt, rt.alloc()))?)
 }
 
 // A batch of a put and a purge, seven bytes loose before it.
@@ -325,8 +308,5 @@ fn a_batch_is_its_records_once(rt: &impl Abort, alloc: Global) -> Result<(), KvE
 
 #[test]
 fn a_batch_is_its_records(rt: HostRuntime) -> Result<(), Fail> {
-    match a_batch_is_its_records_once(&rt, rt.alloc()) {
-        Ok(()) => Ok(()),
-        Err(_) => Ok(a_batch_is_its_records_once(&rt, rt.alloc())?),
-    }
+    Ok(twice(|| a_batch_is_its_records_once(&rt, rt.alloc()))?)
 }

@@ -1,6 +1,7 @@
 //! Tests of files that only grow.
 
 use crate::equal::equal;
+use crate::twice::twice;
 use kv_file::{Appender, JournalFile, MemoryFile, Sync, Torn};
 use kv_keys::KvError;
 use std::alloc::Global;
@@ -93,8 +94,5 @@ fn a_crash_leaves_what_was_synced_once(rt: &impl Abort, alloc: Global) -> Result
 
 #[test]
 fn a_crash_leaves_what_was_synced(rt: HostRuntime) -> Result<(), Fail> {
-    match a_crash_leaves_what_was_synced_once(&rt, rt.alloc()) {
-        Ok(()) => Ok(()),
-        Err(_) => Ok(a_crash_leaves_what_was_synced_once(&rt, rt.alloc())?),
-    }
+    Ok(twice(|| a_crash_leaves_what_was_synced_once(&rt, rt.alloc()))?)
 }

@@ -1,6 +1,7 @@
 //! Tests of the checksum and of frames.
 
 use crate::equal::equal;
+use crate::twice::twice;
 use kv_frames::{Crc32c, Framing};
 use kv_keys::KvError;
 use std::alloc::Global;
@@ -67,10 +68,7 @@ fn each_beginning_has_its_whole_frames_once(rt: &impl Abort, alloc: Global) -> R
 
 #[test]
 fn each_beginning_has_its_whole_frames(rt: HostRuntime) -> Result<(), Fail> {
-    match each_beginning_has_its_whole_frames_once(&rt, rt.alloc()) {
-        Ok(()) => Ok(()),
-        Err(_) => Ok(each_beginning_has_its_whole_frames_once(&rt, rt.alloc())?),
-    }
+    Ok(twice(|| each_beginning_has_its_whole_frames_once(&rt, rt.alloc()))?)
 }
 
 fn a_frame_with_a_turned_bit_is_none_once(rt: &impl Abort, alloc: Global) -> Result<(), KvError> {
@@ -87,10 +85,7 @@ fn a_frame_with_a_turned_bit_is_none_once(rt: &impl Abort, alloc: Global) -> Res
 
 #[test]
 fn a_frame_with_a_turned_bit_is_none(rt: HostRuntime) -> Result<(), Fail> {
-    match a_frame_with_a_turned_bit_is_none_once(&rt, rt.alloc()) {
-        Ok(()) => Ok(()),
-        Err(_) => Ok(a_frame_with_a_turned_bit_is_none_once(&rt, rt.alloc())?),
-    }
+    Ok(twice(|| a_frame_with_a_turned_bit_is_none_once(&rt, rt.alloc()))?)
 }
 
 fn a_frame_counts_in_its_own_file_and_place_once(
@@ -107,8 +102,5 @@ fn a_frame_counts_in_its_own_file_and_place_once(
 
 #[test]
 fn a_frame_counts_in_its_own_file_and_place(rt: HostRuntime) -> Result<(), Fail> {
-    match a_frame_counts_in_its_own_file_and_place_once(&rt, rt.alloc()) {
-        Ok(()) => Ok(()),
-        Err(_) => Ok(a_frame_counts_in_its_own_file_and_place_once(&rt, rt.alloc())?),
-    }
+    Ok(twice(|| a_frame_counts_in_its_own_file_and_place_once(&rt, rt.alloc()))?)
 }

@@ -1,6 +1,7 @@
 //! Tests of files that are replaced as a whole.
 
 use crate::equal::equal;
+use crate::twice::twice;
 use kv_file::{JournalFile, MemoryFile, ReplaceFault, ReplaceableFile};
 use kv_keys::KvError;
 use std::alloc::Global;
@@ -42,8 +43,5 @@ fn each_is_replaced_or_stays(rt: &impl Abort, alloc: Global) -> Result<(), KvErr
 
 #[test]
 fn a_file_is_replaced_as_a_whole_or_stays(rt: HostRuntime) -> Result<(), Fail> {
-    match each_is_replaced_or_stays(&rt, rt.alloc()) {
-        Ok(()) => Ok(()),
-        Err(_) => Ok(each_is_replaced_or_stays(&rt, rt.alloc())?),
-    }
+    Ok(twice(|| each_is_replaced_or_stays(&rt, rt.alloc()))?)
 }

@@ -1,6 +1,8 @@
 //! Tests of a trie at the keys of a bucket. Each also passes where any one request for memory is refused: then the trie
 //! is as it was, and the same call, made again, goes on.
 
+ghost use Rattle.std.specs.Prelude.{◌<◌, ◌^◌, ◌-◌, length, OnOk};
+
 use crate::equal::equal;
 use kv_keys::{Key, KvError, Place, Short};
 use kv_test_tools::{again, again_checking, again_on};
@@ -52,18 +54,26 @@ impl Named for Short {
     }
 }
 
+// The key of a text, for a trie that has room for one more.
+fn key_with_room<K: Named>(alloc: Global, trie: &Numbers<K>, text: &str) -> Result<K, KvError>
+    ensures { OnOk result (length trie.now < 2 ^ 32 - 1) }
+{
+    let key = K::named(alloc, text)?;
+    if trie.len() < MANY {
+        Ok(key)
+    } else {
+        Err(KvError::JournalFull)
+    }
+}
+
 fn inserted<K: Named>(
     alloc: Global,
     trie: &Numbers<K>,
     text: &str,
     value: u32,
 ) -> Result<Numbers<K>, KvError> {
-    let key = K::named(alloc, text)?;
-    if trie.len() < MANY {
-        trie.insert(alloc, key, value)
-    } else {
-        Err(KvError::JournalFull)
-    }
+    let key = key_with_room(alloc, trie, text)?;
+    trie.insert(alloc, key, value)
 }
 
 fn put<K: Named>(
@@ -72,12 +82,8 @@ fn put<K: Named>(
     text: &str,
     value: u32,
 ) -> Result<(), KvError> {
-    let key = K::named(alloc, text)?;
-    if trie.len() < MANY {
-        trie.put(alloc, key, value)
-    } else {
-        Err(KvError::JournalFull)
-    }
+    let key = key_with_room(alloc, &*trie, text)?;
+    trie.put(alloc, key, value)
 }
 
 fn put_again<K: Named>(
