@@ -1,6 +1,6 @@
 """Each wrong body of each crate, or of those that CRATES names, is refused by the contract of the function that it is in. It needs the
 kit, and the libraries below each crate as `rt ci` or a build left them. As many crates are tried side by side as JOBS says, or as there
-are processors, the largest first."""
+are processors, those with most to do first."""
 import concurrent.futures, os, tempfile, time, unittest
 from typing import NamedTuple
 
@@ -21,9 +21,11 @@ class Outcome(NamedTuple):
     seconds: float
 
 
-def size_of(crate: str) -> int:
+def work_of(crate: str) -> int:
+    """By what crates compare that take longer: how large one is, and how many wrong bodies it has."""
     folder = wrong_bodies.folder_of(crate)
-    return sum(os.path.getsize(os.path.join(at, name)) for part in ("src", "proofs") for at, _, names in os.walk(os.path.join(folder, part)) for name in names)
+    size = sum(os.path.getsize(os.path.join(at, name)) for part in ("src", "proofs") for at, _, names in os.walk(os.path.join(folder, part)) for name in names)
+    return size * len(wrong_bodies.bodies_of(crate))
 
 
 def outcome_of(crate: str) -> Outcome:
@@ -40,7 +42,7 @@ def outcome_of(crate: str) -> Outcome:
 class WrongBodies(unittest.TestCase):
     @unittest.skipUnless(kit.command(), "the Rattle kit's command rt is not on the path: install the kit")
     def test_each_is_refused(self) -> None:
-        crates = sorted(NAMED or wrong_bodies.crates(), key=size_of, reverse=True)
+        crates = sorted(NAMED or wrong_bodies.crates(), key=work_of, reverse=True)
         # its first use sets a signal's handler, which only the main thread may
         kit.builder()
         with concurrent.futures.ThreadPoolExecutor(JOBS) as pool:
