@@ -1,9 +1,7 @@
 -- What an act and a quiet call make of what lies under the lock.
-use Rattle.std.proofs.Common.{◌≡◌, ℕ, ◌+◌, Bool, true, false, if◌then◌else◌, cond, List, [], ◌∷◌, ◌++◌, Option, Some, None, Result, Ok, Err, length, refl, sym, ap, ◌∙◌, subst, length-append}
+use Rattle.std.proofs.Common.{◌≡◌, ℕ, ◌+◌, true, false, cond, List, [], ◌∷◌, ◌++◌, Option, Some, None, Result, Ok, Err, length, refl, sym, ap, ◌∙◌, subst, length-append}
 use Rattle.std.specs.Prelude.{IfOk, IfErr, OnErr, MatchResult}
-use Rattle.kv_keys.specs.Outcome.{Refuses}
 use Rattle.kv_keys.specs.declared.error.KvError.{KvError}
-use Rattle.kv_keys.specs.declared.error.KvError.TheVariants.{BadFloor}
 use Rattle.kv_model.specs.Acceptance.{accept}
 use Rattle.kv_model.specs.Acts.{Act, Wrote, Seal, Compact, Write, writes_of, is_compaction}
 use Rattle.kv_model.specs.Compaction.{is_bad_floor}
@@ -236,19 +234,6 @@ writes_kept config now was bucket before posted request ghost_act revision seen 
       ),
     )
 
--- ---- refusals
-
-refused_alike : (floor : ℕ) (error : KvError) (bad : Bool) (rest : Result ℕ KvError) → (if bad then Err BadFloor else rest) ≡ Ok floor → Refuses error (if bad then Err BadFloor else Ok floor) → Refuses error (if bad then Err BadFloor else rest)
-refused_alike floor error true rest may refuses = absurd (cc may)
-refused_alike floor error false rest may refuses = subst (λ (r : Result ℕ KvError). Refuses error r) (sym may) refuses
-
--- what refuses a compaction of the version that the bucket allows is want of memory
-pub refused_later : (now : KeeperState) (was : Bucketed) (before : List Act) (floor : ℕ) (error : KvError) (seen : Stored) → kept_of was before ≡ now → seen ≡ was.version → ((state : State) → Represents state was → may_compact floor state ≡ Ok floor)
-    → ((acts : List Act) → StandsFor acts seen → Refuses error (if is_bad_floor floor acts then Err BadFloor else Ok floor)) → (state : State) → IsAt state now → Refuses error (may_compact floor state)
-refused_later now was before floor error seen is value may refuses state at =
-    let there : IsAt state (kept_of was before) = subst (IsAt state) (sym is) at in
-    refused_alike floor error (is_bad_floor floor state.acts) _ (may state there.represents) (refuses state.acts (subst (StandsFor state.acts) (sym value) there.represents.version))
-
 -- ---- the same of calls that accept nothing
 
 pub quiet_ok : {X : Type 0} (call : Call) (answer : X → Answer) (now : KeeperState) (was bucket : Bucketed) (before : List Act) (result : Result X KvError) → kept_of was before ≡ now → IsQuiet call
@@ -280,7 +265,7 @@ pub answers_refused : {X : Type 0} (call : Call) (now : KeeperState) (was : Buck
 answers_refused call now was before refusal (Ok x) is answers = tt
 answers_refused call now was before refusal (Err error) is answers = (answers.0, λ state at. answers.1 state (subst (IsAt state) (sym is) at).represents)
 
--- ---- an act of the bucket alone is one step
+-- ---- a write of the bucket alone is one step
 
 pub write_steps : (bucket : Bucketed) (request : Request) (revision : ℕ) (seen version : Stored) → seen ≡ bucket.version → version.config ≡ seen.config
     → ((acts : List Act) → StandsFor acts seen → (w : Write) × ((accept seen.config (asked request) acts ≡ Ok w) × StandsFor (acts ++ Wrote w ∷ []) version))
@@ -289,15 +274,3 @@ write_steps bucket request revision seen version value same accepts number = λ 
     let ok : (acts : List Act) → StandsFor acts bucket.version → (w : Write) × ((accept bucket.version.config (asked request) acts ≡ Ok w) × StandsFor (acts ++ Wrote w ∷ []) version) =
     subst (λ (v : Stored). (acts : List Act) → StandsFor acts v → (w : Write) × ((accept v.config (asked request) acts ≡ Ok w) × StandsFor (acts ++ Wrote w ∷ []) version)) value accepts in
     write_done state bucket (asked request) version revision r (same ∙ ap (λ (v : Stored). v.config) value) ok number
-
-pub seal_steps : (bucket : Bucketed) (seen version : Stored) → seen ≡ bucket.version → version ≡ record seen { sealed = true }
-    → ((acts : List Act) → StandsFor acts seen → StandsFor (acts ++ Seal ∷ []) version) → IsStep bucket calls.Seal Sealed (record bucket { version = version })
-seal_steps bucket seen version value sealed stands = λ state r.
-    (refl, represents_act later state bucket Seal version refl r (ap (λ (v : Stored). v.config) sealed ∙ ap (λ (v : Stored). v.config) value) (stands state.acts (subst (StandsFor state.acts) (sym value) r.version)))
-
-pub compact_steps : (bucket : Bucketed) (floor : ℕ) (seen version : Stored) → seen ≡ bucket.version → version.config ≡ seen.config
-    → ((acts : List Act) → StandsFor acts seen → (is_bad_floor floor acts ≡ false) × StandsFor (acts ++ Compact floor ∷ []) version)
-    → ((state : State) → Represents state bucket → may_compact floor state ≡ Ok floor) → IsStep bucket (calls.Compact floor) (Compacted floor) (record bucket { version = version })
-compact_steps bucket floor seen version value same stands may = λ state r.
-    let own : StandsFor (state.acts ++ Compact floor ∷ []) version = (stands state.acts (subst (StandsFor state.acts) (sym value) r.version)).1 in
-    compact_done state bucket floor version r (may state r) (same ∙ ap (λ (v : Stored). v.config) value) own (own.floor ∙ floor_of-compact state.acts floor)

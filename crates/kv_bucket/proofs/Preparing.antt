@@ -14,10 +14,11 @@ use Rattle.kv_model.specs.declared.call.Call.TheVariants as calls
 use Rattle.kv_model.specs.declared.request.Request.{Request}
 use Rattle.kv_single.specs.Held.{Bucketed, Represents}
 use Rattle.kv_single.specs.Stepping.{IsStep}
+use Rattle.kv_single.proofs.Acting.{compact_steps, seal_steps}
 use Rattle.kv_store.specs.Standing.{StandsFor}
 use Rattle.kv_store.specs.Stored.{Stored}
 use Rattle.kv_bucket.specs.Keeping.{ComesNext, IsAt, IsKeptStep, IsSomewhere, KeeperState, PublishesWrite, Ready, kept_of, kept_with}
-use Rattle.kv_bucket.proofs.Keeping.{compact_steps, compacts_kept, seal_steps, seals_kept, write_steps, writes_kept}
+use Rattle.kv_bucket.proofs.Keeping.{compacts_kept, seals_kept, write_steps, writes_kept}
 
 abbrev pub ready_of : Act → Stored → Ready
 ready_of act version = record { act = act; version = version }

@@ -5,4 +5,5 @@ pub mod Answering
 pub mod Running
 pub mod Whoever
 pub mod Least
+pub mod Acting
 pub mod Batching

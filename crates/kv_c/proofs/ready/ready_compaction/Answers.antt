@@ -1,4 +1,4 @@
-use Rattle.kv_durable.proofs.Steps.{compact_steps}
+use Rattle.kv_single.proofs.Acting.{compact_steps}
 use Rattle.kv_c.proofs.ready.ready_compaction.Goals as goal
 
 pub returns-clause-step : goal.returns-clause-step

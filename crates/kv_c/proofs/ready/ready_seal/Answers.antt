@@ -1,4 +1,4 @@
-use Rattle.kv_durable.proofs.Steps.{seal_steps}
+use Rattle.kv_single.proofs.Acting.{seal_steps}
 use Rattle.kv_c.proofs.ready.ready_seal.Goals as goal
 
 pub returns-clause-step : goal.returns-clause-step

@@ -4,7 +4,7 @@ use Rattle.kv_model.specs.declared.call.Call.TheVariants as calls
 use Rattle.kv_single.specs.Held.{Bucketed}
 use Rattle.kv_single.specs.Stepping.{IsStep}
 use Rattle.kv_store.specs.Stored.{Stored}
-use Rattle.kv_durable.proofs.Steps.{compact_steps}
+use Rattle.kv_single.proofs.Acting.{compact_steps}
 use Rattle.kv_durable.proofs.durable.Durable.prepared_compaction.Goals as goal
 
 pub returns-clause-step : goal.returns-clause-step
