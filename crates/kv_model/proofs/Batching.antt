@@ -5,7 +5,7 @@ use Rattle.std.specs.List.{slice_get}
 use Rattle.std.proofs.lemmas.List.{map-append}
 use Rattle.kv_keys.specs.Outcome.{Refuses}
 use Rattle.kv_keys.specs.declared.error.KvError.{KvError}
-use Rattle.kv_keys.specs.declared.error.KvError.TheVariants.{OutOfMemory, BadBucket, BadConfig, BadKey, BadFilter, OptionsClash, ValueTooLarge, Sealed, JournalFull, KeyExists, WrongLastRevision, KeyNotFound, NoSuchWatch, TooManyWatches, NoReader, BadCommand, ReadFault, WriteFault, BadFloor, WatchBehind, Lagged}
+use Rattle.kv_keys.specs.declared.error.KvError.TheVariants.{OutOfMemory}
 use Rattle.kv_model.specs.Acceptance.{accept}
 use Rattle.kv_model.specs.Acts.{Act, Wrote, Write, writes_of}
 use Rattle.kv_model.specs.Answers.{Answer, Revision}
@@ -23,26 +23,7 @@ use Rattle.kv_model.proofs.Numbered.{accepted_is_next, writes_of-wrote}
 -- a refusal that is none of memory is the outcome, and the other way round
 refuses_is : {X : Type 0} (e : KvError) (outcome : Result X KvError) → (e ≡ OutOfMemory → ⊥) → (Refuses e outcome → outcome ≡ Err e) × (outcome ≡ Err e → Refuses e outcome)
 refuses_is {X} OutOfMemory outcome other = absurd (other refl)
-refuses_is {X} BadBucket outcome other = (λ h. h, λ h. h)
-refuses_is {X} BadConfig outcome other = (λ h. h, λ h. h)
-refuses_is {X} BadKey outcome other = (λ h. h, λ h. h)
-refuses_is {X} BadFilter outcome other = (λ h. h, λ h. h)
-refuses_is {X} OptionsClash outcome other = (λ h. h, λ h. h)
-refuses_is {X} ValueTooLarge outcome other = (λ h. h, λ h. h)
-refuses_is {X} Sealed outcome other = (λ h. h, λ h. h)
-refuses_is {X} JournalFull outcome other = (λ h. h, λ h. h)
-refuses_is {X} KeyExists outcome other = (λ h. h, λ h. h)
-refuses_is {X} (WrongLastRevision last) outcome other = (λ h. h, λ h. h)
-refuses_is {X} KeyNotFound outcome other = (λ h. h, λ h. h)
-refuses_is {X} NoSuchWatch outcome other = (λ h. h, λ h. h)
-refuses_is {X} TooManyWatches outcome other = (λ h. h, λ h. h)
-refuses_is {X} NoReader outcome other = (λ h. h, λ h. h)
-refuses_is {X} BadCommand outcome other = (λ h. h, λ h. h)
-refuses_is {X} ReadFault outcome other = (λ h. h, λ h. h)
-refuses_is {X} WriteFault outcome other = (λ h. h, λ h. h)
-refuses_is {X} BadFloor outcome other = (λ h. h, λ h. h)
-refuses_is {X} (WatchBehind watch) outcome other = (λ h. h, λ h. h)
-refuses_is {X} (Lagged floor) outcome other = (λ h. h, λ h. h)
+refuses_is {X} _ outcome other = (λ h. h, λ h. h)
 
 pub outcome_of : {X : Type 0} (e : KvError) (outcome : Result X KvError) → Refuses e outcome → (e ≡ OutOfMemory → ⊥) → outcome ≡ Err e
 outcome_of {X} e outcome h other = (refuses_is e outcome other).0 h
