@@ -1,8 +1,9 @@
 """Each wrong body of each crate, or of those that CRATES names, is refused by the contract of the function that it is in. It needs the
 kit, and the libraries below each crate as `rt ci` or a build left them. As many crates are tried side by side as JOBS says, or as there
-are processors, those with most to do first."""
-import concurrent.futures, os, tempfile, time, unittest
-from typing import NamedTuple
+are processors, those with most to do first. Where GATE names the file that a running `rt ci` is written to, a crate is tried once that
+has proved the libraries below it, two at a time until it ends: so they take the processors that proofs leave idle."""
+import concurrent.futures, os, tempfile, threading, time, unittest
+from typing import Iterator, NamedTuple, Optional
 
 from scripts import kit
 from tests import wrong_bodies
@@ -10,6 +11,8 @@ from tests.wrong_bodies import Batch, Body, Change, Told, Tried, Unreadable
 
 JOBS = int(os.environ.get("JOBS") or len(os.sched_getaffinity(0)))
 NAMED = os.environ.get("CRATES", "").split()
+GATE = os.environ.get("GATE", "")
+BESIDE_GATE = 2
 # A body of this function that means the same as the one that stands there, which nothing may refuse.
 SAME = Body("kv_frames", "same", "kv_frames::crc::shifted", (Change("src/crc.rt", "const POLYNOMIAL: u32 = 0x82F6_3B78;", "const POLYNOMIAL: u32 = 0x82F63B78;"),))
 
@@ -39,14 +42,72 @@ def outcome_of(crate: str) -> Outcome:
     return Outcome(bodies, lost, tried.checks, time.monotonic() - start)
 
 
+class Gate:
+    """A run of `rt ci`, by what it has written so far."""
+
+    def __init__(self, path: str) -> None:
+        self.path = path
+
+    def lines(self) -> list[str]:
+        try:
+            return wrong_bodies.read_text(self.path).splitlines()
+        except FileNotFoundError:
+            return []
+
+    def has_ended(self) -> bool:
+        return not self.path or any(it.startswith("-- ") for it in self.lines())
+
+    def has_proved(self, crates: list[str]) -> bool:
+        return not self.path or {"rt: %s proved" % it for it in crates} <= set(self.lines())
+
+
+class Turns:
+    """Which crate is tried next, and when: of those whose libraries are proved the one with most to do."""
+
+    def __init__(self, crates: list[str], gate: Gate, lanes: int) -> None:
+        self.left, self.gate, self.lanes, self.running = sorted(crates, key=work_of, reverse=True), gate, lanes, 0
+        self.below = {it: [below.name for below in kit.crate(it).below()] for it in crates}
+        self.lock = threading.Lock()
+
+    def take(self) -> Optional[str]:
+        """The crate that is tried now, if there is one."""
+        with self.lock:
+            ended = self.gate.has_ended()
+            ready = [it for it in self.left if self.gate.has_proved(self.below[it])]
+            if not ready and ended:
+                self.left.clear()
+            if not ready or self.running >= (self.lanes if ended else min(self.lanes, BESIDE_GATE)):
+                return None
+            self.running += 1
+            self.left.remove(ready[0])
+            return ready[0]
+
+    def outcomes(self) -> Iterator[tuple[str, Outcome]]:
+        """What came of each crate that one worker tries, one after the other."""
+        while self.left:
+            crate = self.take()
+            if crate is None:
+                time.sleep(1)
+                continue
+            yield crate, outcome_of(crate)
+            with self.lock:
+                self.running -= 1
+
+
 class WrongBodies(unittest.TestCase):
     @unittest.skipUnless(kit.command(), "the Rattle kit's command rt is not on the path: install the kit")
     def test_each_is_refused(self) -> None:
-        crates = sorted(NAMED or wrong_bodies.crates(), key=work_of, reverse=True)
+        crates = NAMED or wrong_bodies.crates()
         # its first use sets a signal's handler, which only the main thread may
         kit.builder()
+        turns, tried = Turns(crates, Gate(GATE), JOBS), dict[str, Outcome]()
         with concurrent.futures.ThreadPoolExecutor(JOBS) as pool:
-            for crate, outcome in zip(crates, pool.map(outcome_of, crates)):
+            for found in [pool.submit(lambda: list(turns.outcomes())) for _ in range(JOBS)]:
+                tried.update(found.result())
+            for crate in crates:
+                with self.subTest("%s: the libraries below it are proved" % crate):
+                    self.assertIn(crate, tried)
+            for crate, outcome in tried.items():
                 refused = len(outcome.bodies) - len(set(outcome.not_refused) - {SAME.name})
                 print("%s: %d wrong bodies refused, in %d checks, %.0f s" % (crate, refused, outcome.checks, outcome.seconds), flush=True)
                 for body in outcome.bodies:
@@ -55,6 +116,38 @@ class WrongBodies(unittest.TestCase):
                 if crate == SAME.crate:
                     with self.subTest("a body that means the same is not refused"):
                         self.assertIn(SAME.name, outcome.not_refused)
+
+
+class InTurn(unittest.TestCase):
+    """When a crate is tried beside a running gate, without a prover."""
+
+    def turns(self, *told: str) -> Turns:
+        with tempfile.NamedTemporaryFile("w", delete=False) as file:
+            file.write("".join(line + "\n" for line in told))
+        self.addCleanup(os.unlink, file.name)
+        return Turns(["kv_keys", "kv_frames", "kv_model", "kv_store"], Gate(file.name), 3)
+
+    @unittest.skipUnless(kit.command(), "the Rattle kit's command rt is not on the path: install the kit")
+    def test_a_crate_waits_for_the_libraries_below_it(self) -> None:
+        for told, taken in (((), {"kv_keys", "kv_frames", None}), (("rt: kv_keys proved", "rt: kv_trie NOT PROVED", "-- the gate: 9 s"), {"kv_keys", "kv_frames", "kv_model", None})):
+            with self.subTest(told):
+                turns = self.turns(*told)
+                self.assertEqual({turns.take() for _ in range(4)}, taken)
+
+    @unittest.skipUnless(kit.command(), "the Rattle kit's command rt is not on the path: install the kit")
+    def test_two_are_tried_beside_the_gate_and_all_behind_it(self) -> None:
+        proved = ["rt: %s proved" % it for it in ("kv_keys", "kv_model", "kv_trie")]
+        for told, number in ((proved, BESIDE_GATE), ([*proved, "-- the gate: 9 s"], 3)):
+            with self.subTest(told):
+                turns = self.turns(*told)
+                self.assertEqual(sum(turns.take() is not None for _ in range(4)), number)
+
+    @unittest.skipUnless(kit.command(), "the Rattle kit's command rt is not on the path: install the kit")
+    def test_none_is_waited_for_behind_the_gate(self) -> None:
+        turns = self.turns("rt: kv_keys NOT PROVED", "-- the gate: 9 s")
+        while turns.take():
+            pass
+        self.assertEqual(turns.left, [])
 
 
 class Batches(unittest.TestCase):
