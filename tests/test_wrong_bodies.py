@@ -55,7 +55,7 @@ class Gate:
             return []
 
     def has_ended(self) -> bool:
-        return not self.path or any(it.startswith("-- ") for it in self.lines())
+        return not self.path or any(it.startswith("-- the gate: ") for it in self.lines())
 
     def has_proved(self, crates: list[str]) -> bool:
         return not self.path or {"rt: %s proved" % it for it in crates} <= set(self.lines())
