@@ -210,13 +210,7 @@ fn call_made<N: LiveName, R: Wait + Abort>(
     live: &Live<N>,
     call: Call,
 ) -> Answer {
-    let before = look(rt, live);
-    let mut live = live;
-    again_on(
-        &mut live,
-        |live| looks_as(rt, &look(rt, *live), &before),
-        |live| call_once(rt, alloc, *live, call),
-    )
+    made_on(rt, live, || call_once(rt, alloc, live, call))
 }
 
 // A test of calls one after another, each with what it answers. It uses no reader.

@@ -74,6 +74,17 @@ fn has_ended(ended: &AtomicU64) -> bool {
     ended.load(Ordering::SeqCst) == 1
 }
 
+// Makes a call on another thread, and writes the pairs on this one.
+fn beside_the_writer<
+    N: LiveName + Send + Sync,
+    R: Threads + Wait + Abort + Sync,
+    F: FnOnce() -> Result<(), KvError> + Send,
+>(rt: &R, alloc: Global, live: &Live<N>, ended: &AtomicU64, other: F) -> Result<(), KvError>
+    requires { F.pre other }
+{
+    beside(rt, other, || write_pairs(rt, alloc, live, ended))
+}
+
 // Refutes a batch whose writes are published one after the other: between them the values differ.
 #[test]
 fn a_reader_sees_both_writes_of_a_batch_or_neither(rt: HostRuntime) -> Result<(), Fail> {
@@ -88,23 +99,10 @@ pub(crate) fn beside_a_reader<N: LiveName + Send + Sync, R: Threads + Wait + Abo
 ) -> Result<(), KvError> {
     let mut reader = last(readers)?;
     let ended = AtomicU64::new(0);
-    look_beside(rt, alloc, live, &mut reader, &ended)?;
+    let look = || look_at_pairs(rt, alloc, &mut reader, &ended);
+    beside_the_writer(rt, alloc, live, &ended, look)?;
     reads(rt, &mut reader, Answer::On(WRITES, 0));
     Ok(())
-}
-
-fn look_beside<N: LiveName + Send + Sync, R: Threads + Wait + Abort + Sync>(
-    rt: &R,
-    alloc: Global,
-    live: &Live<N>,
-    reader: &mut Reader<N>,
-    ended: &AtomicU64,
-) -> Result<(), KvError> {
-    beside(
-        rt,
-        || look_at_pairs(rt, alloc, reader, ended),
-        || write_pairs(rt, alloc, live, ended),
-    )
 }
 
 fn look_at_pairs<N: LiveName, R: Wait + Abort>(
@@ -158,24 +156,11 @@ pub(crate) fn beside_a_feed<N: LiveName + Send + Sync, R: Threads + Wait + Abort
 ) -> Result<(), KvError> {
     let mut feed = feed_of_last(alloc, readers)?;
     let ended = AtomicU64::new(0);
-    follow_beside(rt, alloc, live, &mut feed, &ended)?;
+    let follow = || follow_to_the_end(rt, &mut feed, &ended);
+    beside_the_writer(rt, alloc, live, &ended, follow)?;
     // the marker and each write
     equal(rt, feed.handed(), WRITES + 1);
     Ok(())
-}
-
-fn follow_beside<N: LiveName + Send + Sync, R: Threads + Wait + Abort + Sync>(
-    rt: &R,
-    alloc: Global,
-    live: &Live<N>,
-    feed: &mut Feed<N>,
-    ended: &AtomicU64,
-) -> Result<(), KvError> {
-    beside(
-        rt,
-        || follow_to_the_end(rt, feed, ended),
-        || write_pairs(rt, alloc, live, ended),
-    )
 }
 
 // The last refresh comes behind the last write.

@@ -33,7 +33,7 @@ fn next_items<N: LiveName>(keeper: &Keeper<N>) -> [Answer; MOST_NUMBERS] {
     next
 }
 
-pub(super) fn look<N: LiveName, R: Wait>(rt: &R, live: &Live<N>) -> Sight {
+fn look<N: LiveName, R: Wait>(rt: &R, live: &Live<N>) -> Sight {
     look_through(&*live.lock(rt))
 }
 
@@ -42,6 +42,18 @@ pub(super) fn looks_as<R: Abort>(rt: &R, sight: &Sight, before: &Sight) {
     equal(rt, sight.watches, before.watches);
     equal(rt, sight.next, before.next);
     equal(rt, has_same_version(sight, before), true);
+}
+
+// Makes a call on a live bucket. One that is refused changes nothing there.
+pub(super) fn made_on<N: LiveName, R: Wait + Abort, A: Answered, F: FnMut() -> A>(
+    rt: &R,
+    live: &Live<N>,
+    call: F,
+) -> A
+    requires { F.IsAlwaysCallable call }
+{
+    let before = look(rt, live);
+    again_checking(|| looks_as(rt, &look(rt, live), &before), call)
 }
 
 fn has_same_version(sight: &Sight, before: &Sight) -> bool {

@@ -17,13 +17,7 @@ fn told_again<N: LiveName, R: Wait + Abort>(
     alloc: Global,
     live: &Live<N>,
 ) -> Result<(u64, Receipt<N>), KvError> {
-    let before = look(rt, live);
-    let mut live = live;
-    again_on(
-        &mut live,
-        |live| looks_as(rt, &look(rt, *live), &before),
-        |live| write_told(rt, alloc, *live),
-    )
+    made_on(rt, live, || write_told(rt, alloc, live))
 }
 
 // The receipt of a put, which is told at this revision.

@@ -146,19 +146,22 @@ fn handed_to_one<N: LiveName, R: Wait>(
     follow_to_the_end(rt, &mut feed, handed)
 }
 
-fn write_beside_one<N: LiveName + Send + Sync, R: Threads + Wait + Clock + CpuClock + Abort + Sync>(
+// Makes a call beside one more follower.
+fn beside_a_follower<
+    N: LiveName + Send + Sync,
+    R: Threads + Wait + Abort + Sync,
+    F: FnOnce() -> Result<(), KvError>,
+>(
     rt: &R,
     alloc: Global,
     live: &Live<N>,
-    (handed, ended): (&AtomicU64, &AtomicU64),
-    plan: Plan,
+    handed: &AtomicU64,
     all: u64,
-) -> Result<(), KvError> {
-    beside(
-        rt,
-        || follow(rt, alloc, live, handed, all),
-        || write_to_the_end(rt, alloc, live, (handed, ended), plan),
-    )
+    own: F,
+) -> Result<(), KvError>
+    requires { F.pre own }
+{
+    beside(rt, || follow(rt, alloc, live, handed, all), own)
 }
 
 fn write_beside_two<N: LiveName + Send + Sync, R: Threads + Wait + Clock + CpuClock + Abort + Sync>(
@@ -169,11 +172,9 @@ fn write_beside_two<N: LiveName + Send + Sync, R: Threads + Wait + Clock + CpuCl
     plan: Plan,
     all: u64,
 ) -> Result<(), KvError> {
-    beside(
-        rt,
-        || follow(rt, alloc, live, handed, all),
-        || write_beside_one(rt, alloc, live, (handed, ended), plan, all),
-    )
+    let write = || write_to_the_end(rt, alloc, live, (handed, ended), plan);
+    let write_beside_one = || beside_a_follower(rt, alloc, live, handed, all, write);
+    beside_a_follower(rt, alloc, live, handed, all, write_beside_one)
 }
 
 // A test of four followers beside two writers, one of them with this plan: each follower is handed so many items, the marker
