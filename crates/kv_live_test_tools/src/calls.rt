@@ -1,43 +1,62 @@
 //! What is done with a live bucket and through a guard of its lock, line by line. A call that is refused changes
 //! nothing there: neither its version, nor its watches, nor what each of them is given next.
 
-use super::*;
-use kv_bucket::{BatchRefused, Keeper, Key, Request, Stopped};
-use kv_test_tools::delete;
+use crate::answers::{Answer, Differs, done, first, in_turn, number, stopped, taken};
+use crate::sights::{look, look_through};
+use kv_bucket::{Filters, Keeper, Key, KvError, Live, LiveName, Request};
+use kv_test_tools::{LATEST, delete, once_more};
+use std::alloc::Global;
+use std::sync::Wait;
 
-// What is asked in a batch.
+/// What is asked in a batch.
 #[derive(Clone, Copy)]
-pub(super) enum Ask {
+pub enum Ask {
+    /// The put of a value under this key.
     Put(&'static str),
+    /// The same, where nothing is there.
     Create(&'static str),
-    // With the last revision of the key that it asks for.
+    /// With the last revision of the key that it asks for.
     Delete(&'static str, u64),
 }
 
+/// What is done with a live bucket.
 #[derive(Clone, Copy)]
-pub(super) enum Call {
+pub enum Call {
+    /// The put of a value under this key.
     Put(&'static str),
+    /// A batch.
     WriteAll(&'static [Ask]),
+    /// A seal.
     Seal,
+    /// A compaction up to this floor.
     Compact(u64),
-    // On a guard of its own.
+    /// On a guard of its own.
     Guarded(Step),
 }
 
-// What is done through a guard.
+/// What is done through a guard.
 #[derive(Clone, Copy)]
-pub(super) enum Step {
+pub enum Step {
+    /// The put of a value under this key.
     Put(&'static str),
+    /// A batch.
     WriteAll(&'static [Ask]),
+    /// The delete of this key.
     Delete(&'static str),
+    /// A seal.
     Seal,
+    /// Opens a watch of all keys.
     Watch,
+    /// Takes from the watch of this number.
     Take(u64),
+    /// Stops the watch of this number.
     Stop(u64),
+    /// A compaction up to this floor.
     Compact(u64),
 }
 
-pub(super) fn put_request(alloc: Global, key: &str) -> Result<Request, KvError> {
+/// The request of a put under this key. BadKey; OutOfMemory.
+pub fn put_request(alloc: Global, key: &str) -> Result<Request, KvError> {
     kv_test_tools::put(alloc, key, "1")
 }
 
@@ -52,19 +71,13 @@ fn request(alloc: Global, ask: Ask) -> Result<Request, KvError> {
     }
 }
 
-pub(super) fn requests(alloc: Global, asks: &[Ask]) -> Result<Vec<Request>, KvError> {
+/// The requests of a batch. BadKey; OutOfMemory.
+pub fn requests(alloc: Global, asks: &[Ask]) -> Result<Vec<Request>, KvError> {
     let mut requests = Vec::new(alloc);
     for ask in asks {
         requests.push(request(alloc, *ask)?)?;
     }
     Ok(requests)
-}
-
-fn first(answered: Result<u64, BatchRefused>) -> Answer {
-    match answered {
-        Ok(first) => Answer::Number(first),
-        Err(refused) => Answer::RefusedAt(refused.at, refused.error),
-    }
 }
 
 fn write_all<N: LiveName, R: Wait>(rt: &R, alloc: Global, live: &Live<N>, asks: &[Ask]) -> Answer {
@@ -109,22 +122,12 @@ fn watch<N: LiveName>(alloc: Global, keeper: &mut Keeper<N>) -> Result<u64, KvEr
     keeper.watch(&filters, LATEST)
 }
 
-fn brief_stopped(stopped: Result<Stopped, KvError>) -> Answer {
-    match stopped {
-        Ok(stopped) => Answer::Stopped(stopped.handed),
-        Err(error) => Answer::Refused(error),
-    }
+fn take<N: LiveName>(keeper: &mut Keeper<N>, number: u64) -> Answer {
+    let next = taken(keeper.peek(number));
+    in_turn(next, taken(keeper.take(number)))
 }
 
-// Takes the item that is next.
-fn take<N: LiveName, R: Abort>(rt: &R, keeper: &mut Keeper<N>, number: u64) -> Answer {
-    let next = brief_taken(keeper.peek(number));
-    let taken = brief_taken(keeper.take(number));
-    equal(rt, taken, next);
-    taken
-}
-
-fn step_once<N: LiveName, R: Wait + Abort>(
+fn step_once<N: LiveName, R: Wait>(
     rt: &R,
     alloc: Global,
     keeper: &mut Keeper<N>,
@@ -136,18 +139,13 @@ fn step_once<N: LiveName, R: Wait + Abort>(
         Step::Delete(key) => number(keep(rt, keeper, delete(alloc, key, None))),
         Step::Seal => done(keeper.seal(rt)),
         Step::Watch => number(watch(alloc, keeper)),
-        Step::Take(number) => take(rt, keeper, number),
-        Step::Stop(number) => brief_stopped(keeper.stop(number)),
+        Step::Take(number) => take(keeper, number),
+        Step::Stop(number) => stopped(keeper.stop(number)),
         Step::Compact(floor) => done(keeper.compact(rt, floor)),
     }
 }
 
-fn call_once<N: LiveName, R: Wait + Abort>(
-    rt: &R,
-    alloc: Global,
-    live: &Live<N>,
-    call: Call,
-) -> Answer {
+fn call_once<N: LiveName, R: Wait>(rt: &R, alloc: Global, live: &Live<N>, call: Call) -> Answer {
     match call {
         Call::Put(key) => number(put(rt, alloc, live, key)),
         Call::WriteAll(asks) => write_all(rt, alloc, live, asks),
@@ -157,75 +155,66 @@ fn call_once<N: LiveName, R: Wait + Abort>(
     }
 }
 
-fn guarded_once<N: LiveName, R: Wait + Abort>(
-    rt: &R,
-    alloc: Global,
-    live: &Live<N>,
-    step: Step,
-) -> Answer {
+fn guarded_once<N: LiveName, R: Wait>(rt: &R, alloc: Global, live: &Live<N>, step: Step) -> Answer {
     let mut keeper = live.lock(rt);
     step_once(rt, alloc, &mut *keeper, step)
 }
 
-// Each line on one guard.
-pub(super) fn steps<N: LiveName, R: Wait + Abort>(
-    rt: &R,
-    alloc: Global,
-    keeper: &mut Keeper<N>,
-    lines: &[(Step, Answer)],
-) {
-    for (step, answer) in lines {
-        equal(rt, step_made(rt, alloc, keeper, *step), *answer);
-    }
-}
-
-fn step_made<N: LiveName, R: Wait + Abort>(
+fn step_made<N: LiveName, R: Wait>(
     rt: &R,
     alloc: Global,
     keeper: &mut Keeper<N>,
     step: Step,
 ) -> Answer {
     let before = look_through(keeper);
-    again_on(
-        keeper,
-        |keeper| looks_as(rt, &look_through(keeper), &before),
-        |keeper| step_once(rt, alloc, keeper, step),
+    once_more!(
+        step_once(rt, alloc, keeper, step),
+        if !look_through(keeper).is_as(&before) {
+            return Answer::Changed;
+        }
     )
 }
 
-pub(super) fn calls<N: LiveName, R: Wait + Abort>(
+/// Does all this through one guard, in turn, up to the first line that differs.
+pub fn steps<N: LiveName, R: Wait>(
+    rt: &R,
+    alloc: Global,
+    keeper: &mut Keeper<N>,
+    lines: &[(Step, Answer)],
+) -> Option<Differs> {
+    for line in 0..lines.len() {
+        let (step, wanted) = lines[line];
+        let answer = step_made(rt, alloc, keeper, step);
+        if answer != wanted {
+            return Some(Differs { line, answer });
+        }
+    }
+    None
+}
+
+fn call_made<N: LiveName, R: Wait>(rt: &R, alloc: Global, live: &Live<N>, call: Call) -> Answer {
+    let before = look(rt, live);
+    once_more!(
+        call_once(rt, alloc, live, call),
+        if !look(rt, live).is_as(&before) {
+            return Answer::Changed;
+        }
+    )
+}
+
+/// Does all this with a live bucket, in turn, up to the first line that differs.
+pub fn calls<N: LiveName, R: Wait>(
     rt: &R,
     alloc: Global,
     live: &Live<N>,
     lines: &[(Call, Answer)],
-) {
-    for (call, answer) in lines {
-        equal(rt, call_made(rt, alloc, live, *call), *answer);
+) -> Option<Differs> {
+    for line in 0..lines.len() {
+        let (call, wanted) = lines[line];
+        let answer = call_made(rt, alloc, live, call);
+        if answer != wanted {
+            return Some(Differs { line, answer });
+        }
     }
-}
-
-fn call_made<N: LiveName, R: Wait + Abort>(
-    rt: &R,
-    alloc: Global,
-    live: &Live<N>,
-    call: Call,
-) -> Answer {
-    made_on(rt, live, || call_once(rt, alloc, live, call))
-}
-
-// A test of calls one after another, each with what it answers. It uses no reader.
-#[derive(Clone, Copy)]
-pub(super) struct InTurn(pub(super) &'static [(Call, Answer)]);
-
-impl<R: Wait + Abort> Test<R> for InTurn {
-    fn run<N: LiveName>(
-        self,
-        rt: &R,
-        alloc: Global,
-        live: &Live<N>,
-        _readers: &mut Vec<Reader<N>>,
-    ) -> Result<(), KvError> {
-        calls(rt, alloc, live, self.0);
-        Ok(())
-    }
+    None
 }

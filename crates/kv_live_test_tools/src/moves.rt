@@ -1,21 +1,30 @@
 //! What is done with a feed, line by line. A refresh that is refused leaves its count and its next item.
 
-use super::*;
+use crate::answers::{Answer, Differs, done, in_turn, on, taken};
+use crate::readers::last;
+use kv_bucket::{Feed, Filters, KvError, LiveName, Reader};
+use kv_test_tools::{LATEST, again_with, once_more};
+use std::alloc::Global;
 
+/// What is done with a feed.
 #[derive(Clone, Copy)]
-pub(super) enum Move {
+pub enum Move {
+    /// Takes the next item.
     Take,
+    /// Goes on to what is published.
     Refresh,
+    /// Asks for the version of the feed.
     Version,
 }
 
-// The feed of all keys.
-pub(super) fn feed_of<N: LiveName>(alloc: Global, reader: Reader<N>) -> Result<Feed<N>, KvError> {
-    let filters = all_keys(alloc)?;
+/// The feed of all keys.
+pub fn feed_of<N: LiveName>(alloc: Global, reader: Reader<N>) -> Result<Feed<N>, KvError> {
+    let filters = once_more!(Filters::parse(alloc, ">"))?;
     again_with(reader, |reader| reader.watch(&filters, LATEST))
 }
 
-pub(super) fn feed_of_last<N: LiveName>(
+/// The feed of all keys, of the last of the readers. NoReader.
+pub fn feed_of_last<N: LiveName>(
     alloc: Global,
     readers: &mut Vec<Reader<N>>,
 ) -> Result<Feed<N>, KvError> {
@@ -23,55 +32,59 @@ pub(super) fn feed_of_last<N: LiveName>(
     feed_of(alloc, reader)
 }
 
-// What can be seen of a feed: how many items it handed out, and which is the next one.
+/// What can be seen of a feed: how many items it handed out, and which is the next one.
 #[derive(Clone, Copy, Debug, PartialEq, Eq)]
-pub(super) struct FeedSight {
+pub struct FeedSight {
     handed: u64,
     next: Answer,
 }
 
-pub(super) fn look_at<N: LiveName>(feed: &Feed<N>) -> FeedSight {
+/// Looks at a feed.
+pub fn look_at<N: LiveName>(feed: &Feed<N>) -> FeedSight {
     FeedSight {
         handed: feed.handed(),
-        next: brief_taken(Ok(feed.peek())),
+        next: taken(Ok(feed.peek())),
     }
 }
 
-// Takes the item that is next.
-fn take<N: LiveName, R: Abort>(rt: &R, feed: &mut Feed<N>) -> Answer {
-    let next = brief_taken(Ok(feed.peek()));
-    let taken = brief_taken(Ok(feed.take()));
-    equal(rt, taken, next);
-    taken
+fn take<N: LiveName>(feed: &mut Feed<N>) -> Answer {
+    let next = taken(Ok(feed.peek()));
+    in_turn(next, taken(Ok(feed.take())))
 }
 
-fn move_once<N: LiveName, R: Abort>(rt: &R, feed: &mut Feed<N>, step: Move) -> Answer {
+fn move_once<N: LiveName>(feed: &mut Feed<N>, step: Move) -> Answer {
     match step {
-        Move::Take => take(rt, feed),
+        Move::Take => take(feed),
         Move::Refresh => done(feed.refresh()),
         Move::Version => on(feed.version()),
     }
 }
 
-fn move_made<N: LiveName, R: Abort>(rt: &R, feed: &mut Feed<N>, step: Move) -> Answer {
+fn move_made<N: LiveName>(feed: &mut Feed<N>, step: Move) -> Answer {
     let before = look_at(feed);
-    again_on(
-        feed,
-        |feed| equal(rt, look_at(feed), before),
-        |feed| move_once(rt, feed, step),
+    once_more!(
+        move_once(feed, step),
+        if look_at(feed) != before {
+            return Answer::Changed;
+        }
     )
 }
 
-pub(super) fn moves<N: LiveName, R: Abort>(rt: &R, feed: &mut Feed<N>, lines: &[(Move, Answer)]) {
-    for (step, answer) in lines {
-        equal(rt, move_made(rt, feed, *step), *answer);
+/// Does all this with a feed, in turn, up to the first line that differs.
+pub fn moves<N: LiveName>(feed: &mut Feed<N>, lines: &[(Move, Answer)]) -> Option<Differs> {
+    for line in 0..lines.len() {
+        let (step, wanted) = lines[line];
+        let answer = move_made(feed, step);
+        if answer != wanted {
+            return Some(Differs { line, answer });
+        }
     }
+    None
 }
 
-// Stops a feed that handed out so many items.
-pub(super) fn stopped_at<N: LiveName, R: Abort>(rt: &R, feed: Feed<N>, handed: u64) -> Reader<N> {
+/// Stops a feed: its reader, and how many items it handed out, by its count and by what the stop tells.
+pub fn stop<N: LiveName>(feed: Feed<N>) -> (Reader<N>, (u64, u64)) {
     let counted = feed.handed();
     let (reader, stopped) = feed.stop();
-    equal(rt, (counted, stopped.handed), (handed, handed));
-    reader
+    (reader, (counted, stopped.handed))
 }

@@ -1,22 +1,25 @@
 //! What can be seen of a bucket under the lock: its version, how many watches are open, and what each is given next. A call
 //! that is refused changes none of it.
 
-use super::*;
-use kv_bucket::Keeper;
+use crate::answers::{Answer, taken};
+use kv_bucket::{Keeper, KvError, Live, LiveName, Version};
 use kv_test_tools::is_same_at;
+use std::sync::Wait;
 
 // The largest number of a watch in any row.
 const MOST_NUMBERS: usize = 65;
 
+/// What can be seen of a bucket through a guard.
 #[derive(Drop)]
-pub(super) struct Sight {
+pub struct Sight {
     version: Result<Version, KvError>,
     watches: u64,
     // What the watches are given next, by their numbers from 1 on. A number without a watch is refused.
     next: [Answer; MOST_NUMBERS],
 }
 
-pub(super) fn look_through<N: LiveName>(keeper: &Keeper<N>) -> Sight {
+/// Looks through a guard, at each watch of a number up to 65.
+pub fn look_through<N: LiveName>(keeper: &Keeper<N>) -> Sight {
     let bucket = keeper.bucket();
     Sight {
         version: bucket.version().snapshot(),
@@ -28,38 +31,27 @@ pub(super) fn look_through<N: LiveName>(keeper: &Keeper<N>) -> Sight {
 fn next_items<N: LiveName>(keeper: &Keeper<N>) -> [Answer; MOST_NUMBERS] {
     let mut next = [Answer::Empty; MOST_NUMBERS];
     for place in 0..MOST_NUMBERS {
-        next[place] = brief_taken(keeper.peek(place as u64 + 1));
+        next[place] = taken(keeper.peek(place as u64 + 1));
     }
     next
 }
 
-fn look<N: LiveName, R: Wait>(rt: &R, live: &Live<N>) -> Sight {
+/// Looks through a guard of its own.
+pub fn look<N: LiveName, R: Wait>(rt: &R, live: &Live<N>) -> Sight {
     look_through(&*live.lock(rt))
 }
 
-// Ends the test where something looks otherwise than before.
-pub(super) fn looks_as<R: Abort>(rt: &R, sight: &Sight, before: &Sight) {
-    equal(rt, sight.watches, before.watches);
-    equal(rt, sight.next, before.next);
-    equal(rt, has_same_version(sight, before), true);
-}
+impl Sight {
+    /// Whether all looks as it did before.
+    pub fn is_as(&self, before: &Sight) -> bool {
+        self.watches == before.watches && self.next == before.next && self.has_version_of(before)
+    }
 
-// Makes a call on a live bucket. One that is refused changes nothing there.
-pub(super) fn made_on<N: LiveName, R: Wait + Abort, A: Answered, F: FnMut() -> A>(
-    rt: &R,
-    live: &Live<N>,
-    call: F,
-) -> A
-    requires { F.IsAlwaysCallable call }
-{
-    let before = look(rt, live);
-    again_checking(|| looks_as(rt, &look(rt, live), &before), call)
-}
-
-fn has_same_version(sight: &Sight, before: &Sight) -> bool {
-    match (&sight.version, &before.version) {
-        (Ok(version), Ok(other)) => is_same_version(version, other),
-        _ => false,
+    fn has_version_of(&self, before: &Sight) -> bool {
+        match (&self.version, &before.version) {
+            (Ok(version), Ok(other)) => is_same_version(version, other),
+            _ => false,
+        }
     }
 }
 

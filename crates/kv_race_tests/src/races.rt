@@ -5,7 +5,7 @@ use crate::equal::equal;
 use kv_model::{Event, Write};
 use kv_race::{Gate, NoGate, Report, Who, race};
 use kv_single::{Config, Filters, KvError, Options, Reply, Request, Start, Version};
-use kv_test_tools::{LATEST, again, put};
+use kv_test_tools::{LATEST, once_more, put};
 use kv_watch::given;
 use std::alloc::Global;
 use std::fmt::Debug;

@@ -5,7 +5,7 @@ ghost use Rattle.std.specs.Prelude.{◌≡◌, IfOk};
 
 use crate::equal::equal;
 use kv_bucket::{Config, Key, KvError, Live, LiveName, Reader, Request, Service, ThreadedService};
-use kv_test_tools::again;
+use kv_test_tools::once_more;
 use std::alloc::Global;
 use std::sync::Wait;
 use std::test::Fail;
@@ -75,7 +75,7 @@ const SERVICES: &[Asked] = &[
 #[test]
 fn a_service_is_handed_all_its_readers_or_is_refused(rt: HostRuntime) -> Result<(), Fail> {
     for asked in SERVICES {
-        let found = again(|| handed(&rt, rt.alloc(), asked.history, asked.readers));
+        let found = once_more!(handed(&rt, rt.alloc(), asked.history, asked.readers));
         equal(&rt, found, asked.handed);
     }
     Ok(())
@@ -143,7 +143,7 @@ fn followed<R: Threads + Wait + Sync>(
 #[test]
 fn each_reader_has_a_follower_that_sees_what_the_leader_wrote(rt: HostRuntime) -> Result<(), Fail> {
     for asked in SERVICES {
-        let found = again(|| followed(&rt, rt.alloc(), asked.history, asked.readers));
+        let found = once_more!(followed(&rt, rt.alloc(), asked.history, asked.readers));
         equal(&rt, found, asked.handed);
     }
     Ok(())

@@ -28,6 +28,35 @@ impl<T: Drop> Answered for Result<T, AllocError> {
     }
 }
 
+/// Whether a call that answered this was refused.
+pub fn is_refused<A: Answered>(answer: &A) -> bool {
+    answer.refusal().is_some()
+}
+
+/// Whether a call that answered this was refused for want of memory.
+pub fn lacks_memory<A: Answered>(answer: &A) -> bool {
+    matches!(answer.refusal(), Some(KvError::OutOfMemory))
+}
+
+/// What a call answers, which is written as it stands in a body. Where it is refused for want of memory, it is made once
+/// more. With a second expression, that comes first where the call is refused.
+///
+/// A closure in the call's place is three functions to prove; here the call is proved twice with its caller.
+#[macro_export]
+macro_rules! once_more {
+    ($call:expr) => {{
+        let answer = $call;
+        if $crate::lacks_memory(&answer) { $call } else { answer }
+    }};
+    ($call:expr, $refused:expr) => {{
+        let answer = $call;
+        if $crate::is_refused(&answer) {
+            $refused;
+        }
+        if $crate::lacks_memory(&answer) { $call } else { answer }
+    }};
+}
+
 /// What a call answers. Where it is refused for want of memory, it is made once more.
 pub fn again<A: Answered, F: FnMut() -> A>(call: F) -> A
     requires { F.IsAlwaysCallable call }

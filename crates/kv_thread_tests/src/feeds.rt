@@ -1,7 +1,16 @@
 //! Tests of feeds beside other threads, which write or have the lock.
 
-use super::*;
-use kv_bucket::Keeper;
+use crate::equal::equal;
+use crate::threaded::{Threaded, run_threaded};
+use kv_bucket::{Feed, Keeper, KvError, Live, LiveName, Reader};
+use kv_live_test_tools::{
+    Answer, Call, Differs, Move, OPENING, Step, calls, feed_of, last, moves, shown_to, steps, stop,
+};
+use std::alloc::Global;
+use std::process::Abort;
+use std::sync::Wait;
+use std::test::Fail;
+use std::thread::{Threads, join};
 
 #[test]
 fn a_feed_goes_on_to_what_a_second_thread_wrote(rt: HostRuntime) -> Result<(), Fail> {
@@ -37,18 +46,18 @@ const SEALED: &[(Call, Answer)] = &[
     (Call::Put("e"), Answer::Refused(KvError::Sealed)),
 ];
 
-pub(crate) fn behind_a_second_writer<N: LiveName + Send + Sync, R: Threads + Wait + Abort + Sync>(
+pub fn behind_a_second_writer<N: LiveName + Send + Sync, R: Threads + Wait + Abort + Sync>(
     rt: &R,
     alloc: Global,
     live: &Live<N>,
     readers: &mut Vec<Reader<N>>,
 ) -> Result<(), KvError> {
-    calls(rt, alloc, live, THREE_KEYS);
+    equal(rt, calls(rt, alloc, live, THREE_KEYS), None);
     let reader = last(readers)?;
     let feed = opened_beside_the_guard(rt, alloc, live, reader)?;
     let mut reader = stopped_behind_a_writer(rt, alloc, live, feed);
-    reads(rt, &mut reader, Answer::On(4, 0));
-    calls(rt, alloc, live, SEALED);
+    equal(rt, shown_to(&mut reader), Answer::On(4, 0));
+    equal(rt, calls(rt, alloc, live, SEALED), None);
     Ok(())
 }
 
@@ -73,7 +82,7 @@ fn taken<N: LiveName, R: Abort>(
     lines: &[(Move, Answer)],
 ) -> Result<Feed<N>, KvError> {
     let mut feed = feed_of(alloc, reader)?;
-    moves(rt, &mut feed, lines);
+    equal(rt, moves(&mut feed, lines), None);
     Ok(feed)
 }
 
@@ -85,17 +94,20 @@ fn stopped_behind_a_writer<N: LiveName + Send + Sync, R: Threads + Wait + Abort 
     feed: Feed<N>,
 ) -> Reader<N> {
     let mut feed = feed;
-    write_beside(rt, alloc, live);
-    moves(rt, &mut feed, TO_THE_FOURTH);
-    stopped_at(rt, feed, 5)
+    equal(rt, write_beside(rt, alloc, live), None);
+    equal(rt, moves(&mut feed, TO_THE_FOURTH), None);
+    let (reader, handed) = stop(feed);
+    equal(rt, handed, (5, 5));
+    reader
 }
 
 fn write_beside<N: LiveName + Send + Sync, R: Threads + Wait + Abort + Sync>(
     rt: &R,
     alloc: Global,
     live: &Live<N>,
-) {
-    join(rt, || calls(rt, alloc, live, FOURTH_PUT), || ());
+) -> Option<Differs> {
+    let (written, ()) = join(rt, || calls(rt, alloc, live, FOURTH_PUT), || ());
+    written
 }
 
 // Refutes feed_takes_the_lock, which would wait here for ever: the guard is given back only after the feed is done.
@@ -119,16 +131,22 @@ const ITEMS: &[(Move, Answer)] = &[
 ];
 
 // A feed that is dropped takes its reader with it, and nobody waits for either.
-pub(crate) fn beside_a_guard<N: LiveName + Send + Sync, R: Threads + Wait + Abort + Sync>(
+pub fn beside_a_guard<N: LiveName + Send + Sync, R: Threads + Wait + Abort + Sync>(
     rt: &R,
     alloc: Global,
     live: &Live<N>,
     readers: &mut Vec<Reader<N>>,
 ) -> Result<(), KvError> {
-    calls(rt, alloc, live, THREE_WRITES);
+    equal(rt, calls(rt, alloc, live, THREE_WRITES), None);
     drop(followed(rt, alloc, live, readers)?);
-    calls(rt, alloc, live, &[(Call::Put("d"), Answer::Number(5))]);
-    last_reads(rt, readers, Answer::On(5, 0))
+    equal(
+        rt,
+        calls(rt, alloc, live, &[(Call::Put("d"), Answer::Number(5))]),
+        None,
+    );
+    let mut reader = last(readers)?;
+    equal(rt, shown_to(&mut reader), Answer::On(5, 0));
+    Ok(())
 }
 
 fn followed<N: LiveName + Send + Sync, R: Threads + Wait + Abort + Sync>(
@@ -150,12 +168,8 @@ fn stopped_under_a_guard<N: LiveName + Send + Sync, R: Threads + Wait + Abort + 
     feed: Feed<N>,
 ) -> Reader<N> {
     let mut keeper = live.lock(rt);
-    steps(
-        rt,
-        alloc,
-        &mut *keeper,
-        &[(Step::Put("c"), Answer::Number(4))],
-    );
+    let put = &[(Step::Put("c"), Answer::Number(4))];
+    equal(rt, steps(rt, alloc, &mut *keeper, put), None);
     stopped_beside(rt, &keeper, feed)
 }
 
@@ -171,8 +185,10 @@ fn stopped_beside<N: LiveName + Send + Sync, R: Threads + Wait + Abort + Sync>(
 
 fn fourth_taken<N: LiveName, R: Abort>(rt: &R, feed: Feed<N>) -> Reader<N> {
     let mut feed = feed;
-    moves(rt, &mut feed, PUT_UNDER_THE_GUARD);
-    stopped_at(rt, feed, 4)
+    equal(rt, moves(&mut feed, PUT_UNDER_THE_GUARD), None);
+    let (reader, handed) = stop(feed);
+    equal(rt, handed, (4, 4));
+    reader
 }
 
 const PUT_UNDER_THE_GUARD: &[(Move, Answer)] = &[
@@ -182,52 +198,4 @@ const PUT_UNDER_THE_GUARD: &[(Move, Answer)] = &[
 
 fn is_at<N: LiveName, R: Abort>(rt: &R, keeper: &Keeper<N>, revision: u64) {
     equal(rt, keeper.bucket().version().revision(), revision);
-}
-
-#[test]
-fn a_feed_stops_in_each_phase(rt: HostRuntime) -> Result<(), Fail> {
-    Ok(run(&rt, rt.alloc(), EachPhase)?)
-}
-
-#[derive(Clone, Copy)]
-struct EachPhase;
-
-impl<R: Wait + Abort> Test<R> for EachPhase {
-    fn run<N: LiveName>(
-        self,
-        rt: &R,
-        alloc: Global,
-        live: &Live<N>,
-        readers: &mut Vec<Reader<N>>,
-    ) -> Result<(), KvError> {
-        calls(rt, alloc, live, THREE_WRITES);
-        let reader = last(readers)?;
-        stopped_in_each_phase(rt, alloc, reader)
-    }
-}
-
-fn stopped_in_each_phase<N: LiveName, R: Abort>(
-    rt: &R,
-    alloc: Global,
-    reader: Reader<N>,
-) -> Result<(), KvError> {
-    let mut reader = reader;
-    for takes in 0..HANDED.len() {
-        reader = stopped_in(rt, alloc, reader, takes, HANDED[takes])?;
-    }
-    Ok(())
-}
-
-// How many items a feed has handed out behind so many takes, from none on. The fourth take finds nothing.
-const HANDED: &[u64] = &[0, 1, 2, 3, 3];
-
-fn stopped_in<N: LiveName, R: Abort>(
-    rt: &R,
-    alloc: Global,
-    reader: Reader<N>,
-    takes: usize,
-    handed: u64,
-) -> Result<Reader<N>, KvError> {
-    let feed = taken(rt, alloc, reader, &ITEMS[..takes.min(ITEMS.len())])?;
-    Ok(stopped_at(rt, feed, handed))
 }

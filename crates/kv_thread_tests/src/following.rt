@@ -1,7 +1,7 @@
 //! What tests of followers have in common: a write, a reader, a watch of its own, and its items to the end.
 
-use crate::batched::batched;
 use kv_bucket::{Feed, Filters, KvError, Live, LiveName, Reader, Request, Taken};
+use kv_live_test_tools::batched;
 use kv_test_tools::LATEST;
 use std::alloc::Global;
 use std::sync::Wait;
@@ -25,14 +25,6 @@ pub fn put_two<N: LiveName, R: Wait>(
     requests.push(request(alloc)?)?;
     requests.push(request(alloc)?)?;
     batched(live.write_all(rt, &requests))
-}
-
-// The last of the readers.
-pub fn last<N: LiveName>(readers: &mut Vec<Reader<N>>) -> Result<Reader<N>, KvError> {
-    match readers.pop() {
-        Some(reader) => Ok(reader),
-        None => Err(KvError::NoReader),
-    }
 }
 
 // A reader at a place that is free.

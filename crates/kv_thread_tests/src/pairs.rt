@@ -2,12 +2,18 @@
 //! another thread: neither of them ever sees one of the two writes without the other. They look until the writer has ended,
 //! and the writer waits for nobody.
 
-use super::*;
-use crate::batched::batched;
 use crate::beside::beside;
+use crate::equal::equal;
 use crate::following::is_next;
-use kv_bucket::{Key, Request};
+use crate::threaded::{Threaded, run_threaded};
+use kv_bucket::{Feed, Key, KvError, Live, LiveName, Reader, Request, Taken, Version};
+use kv_live_test_tools::{Answer, OPENING, Opening, batched, feed_of_last, last, shown_to};
+use std::alloc::Global;
+use std::process::Abort;
+use std::sync::Wait;
 use std::sync::atomic::{AtomicU64, Ordering};
+use std::test::Fail;
+use std::thread::Threads;
 
 const PAIRS: u64 = 200;
 
@@ -91,7 +97,7 @@ fn a_reader_sees_both_writes_of_a_batch_or_neither(rt: HostRuntime) -> Result<()
     Ok(run_threaded(&rt, rt.alloc(), PAIRED, Threaded::PairsBesideAReader)?)
 }
 
-pub(crate) fn beside_a_reader<N: LiveName + Send + Sync, R: Threads + Wait + Abort + Sync>(
+pub fn beside_a_reader<N: LiveName + Send + Sync, R: Threads + Wait + Abort + Sync>(
     rt: &R,
     alloc: Global,
     live: &Live<N>,
@@ -101,7 +107,7 @@ pub(crate) fn beside_a_reader<N: LiveName + Send + Sync, R: Threads + Wait + Abo
     let ended = AtomicU64::new(0);
     let look = || look_at_pairs(rt, alloc, &mut reader, &ended);
     beside_the_writer(rt, alloc, live, &ended, look)?;
-    reads(rt, &mut reader, Answer::On(WRITES, 0));
+    equal(rt, shown_to(&mut reader), Answer::On(WRITES, 0));
     Ok(())
 }
 
@@ -148,7 +154,7 @@ fn a_feed_goes_on_to_both_writes_of_a_batch_or_to_neither(rt: HostRuntime) -> Re
     Ok(run_threaded(&rt, rt.alloc(), PAIRED, Threaded::PairsBesideAFeed)?)
 }
 
-pub(crate) fn beside_a_feed<N: LiveName + Send + Sync, R: Threads + Wait + Abort + Sync>(
+pub fn beside_a_feed<N: LiveName + Send + Sync, R: Threads + Wait + Abort + Sync>(
     rt: &R,
     alloc: Global,
     live: &Live<N>,

@@ -3,12 +3,12 @@
 
 ghost use Rattle.std.specs.Prelude.{◌≡◌};
 
-use crate::opened::{Opening, open_bucket};
-use crate::threads::{feeds, pairs, told};
 use crate::waiting::rounds::{Followers, follow_four};
 use crate::waiting::sleepers::{Sleeper, woken_by};
+use crate::{feeds, pairs, told};
 use kv_bucket::{KvError, Live, LiveName, Opened, Reader};
-use kv_test_tools::again;
+use kv_live_test_tools::{Opening, open_bucket};
+use kv_test_tools::once_more;
 use std::alloc::Global;
 use std::marker::Brand;
 use std::process::Abort;
@@ -77,5 +77,5 @@ pub fn run_threaded<R: Threads + Wait + Clock + CpuClock + Abort + Sync>(
     opening: Opening,
     test: Threaded,
 ) -> Result<(), KvError> {
-    again(|| run_once(rt, alloc, opening, test))
+    once_more!(run_once(rt, alloc, opening, test))
 }

@@ -1,7 +1,18 @@
 //! Tests of told writes. A publish that is refused leaves receipts, readers and later writes working.
 
-use super::*;
-use kv_bucket::{Keeper, Receipt};
+use crate::equal::equal;
+use crate::threaded::{Threaded, run_threaded};
+use kv_bucket::{Feed, KvError, Live, LiveName, Reader, Receipt};
+use kv_live_test_tools::{
+    Answer, Move, OPENING, Test, both, look, moves, put_request, reader_and_feed, run, shown_to,
+    stop,
+};
+use kv_test_tools::once_more;
+use std::alloc::Global;
+use std::process::Abort;
+use std::sync::Wait;
+use std::test::Fail;
+use std::thread::{Threads, join};
 
 fn write_told<N: LiveName, R: Wait>(
     rt: &R,
@@ -17,7 +28,11 @@ fn told_again<N: LiveName, R: Wait + Abort>(
     alloc: Global,
     live: &Live<N>,
 ) -> Result<(u64, Receipt<N>), KvError> {
-    made_on(rt, live, || write_told(rt, alloc, live))
+    let before = look(rt, live);
+    once_more!(
+        write_told(rt, alloc, live),
+        equal(rt, look(rt, live).is_as(&before), true)
+    )
 }
 
 // The receipt of a put, which is told at this revision.
@@ -48,7 +63,7 @@ fn a_told_write_is_handed_out(rt: HostRuntime) -> Result<(), Fail> {
     Ok(run_threaded(&rt, rt.alloc(), OPENING, Threaded::ToldWrite)?)
 }
 
-pub(crate) fn handed_out<N: LiveName + Send + Sync, R: Threads + Wait + Abort + Sync>(
+pub fn handed_out<N: LiveName + Send + Sync, R: Threads + Wait + Abort + Sync>(
     rt: &R,
     alloc: Global,
     live: &Live<N>,
@@ -73,16 +88,17 @@ fn told_to_both<N: LiveName + Send + Sync, R: Threads + Wait + Abort + Sync>(
     reader: &mut Reader<N>,
 ) -> Result<(), KvError> {
     let receipt = told_write(rt, alloc, live, 1)?;
-    drop(follows_told(rt, feed, &receipt));
+    follows_told(rt, feed, &receipt);
     learns(rt, reader, &receipt, 1);
     Ok(())
 }
 
-fn follows_told<N: LiveName, R: Abort>(rt: &R, feed: Feed<N>, receipt: &Receipt<N>) -> Reader<N> {
+fn follows_told<N: LiveName, R: Abort>(rt: &R, feed: Feed<N>, receipt: &Receipt<N>) {
     let mut feed = feed;
     feed.learn(receipt);
-    moves(rt, &mut feed, TOLD);
-    stopped_at(rt, feed, 2)
+    equal(rt, moves(&mut feed, TOLD), None);
+    let (_reader, handed) = stop(feed);
+    equal(rt, handed, (2, 2));
 }
 
 fn learns<N: LiveName, R: Abort>(
@@ -92,118 +108,7 @@ fn learns<N: LiveName, R: Abort>(
     revision: u64,
 ) {
     reader.learn(receipt);
-    reads(rt, reader, Answer::On(revision, 0));
-}
-
-#[test]
-fn a_write_told_on_a_guard_is_seen_by_who_learns_it(rt: HostRuntime) -> Result<(), Fail> {
-    Ok(run(&rt, rt.alloc(), ToldOnAGuard)?)
-}
-
-#[derive(Clone, Copy)]
-struct ToldOnAGuard;
-
-impl<R: Wait + Abort> Test<R> for ToldOnAGuard {
-    fn run<N: LiveName>(
-        self,
-        rt: &R,
-        alloc: Global,
-        live: &Live<N>,
-        readers: &mut Vec<Reader<N>>,
-    ) -> Result<(), KvError> {
-        let receipt = told_under_the_lock(rt, alloc, live)?;
-        seen_once_learned(rt, readers, &receipt)?;
-        mark_is_learned(rt, readers, &receipt)?;
-        calls(rt, alloc, live, SEAL);
-        equal(rt, refusal_of_told(rt, alloc, live), Some(KvError::Sealed));
-        Ok(())
-    }
-}
-
-fn seen_once_learned<N: LiveName, R: Abort>(
-    rt: &R,
-    readers: &mut Vec<Reader<N>>,
-    receipt: &Receipt<N>,
-) -> Result<(), KvError> {
-    let mut reader = last(readers)?;
-    equal(rt, reader.has_seen(receipt), false);
-    learns(rt, &mut reader, receipt, 2);
-    equal(rt, reader.has_seen(receipt), true);
-    Ok(())
-}
-
-// The mark of a receipt tells what the receipt does.
-fn mark_is_learned<N: LiveName, R: Abort>(
-    rt: &R,
-    readers: &mut Vec<Reader<N>>,
-    receipt: &Receipt<N>,
-) -> Result<(), KvError> {
-    let mut reader = last(readers)?;
-    reader.learn_mark(receipt.mark());
-    reads(rt, &mut reader, Answer::On(2, 0));
-    equal(rt, reader.has_seen(receipt), true);
-    Ok(())
-}
-
-const SEAL: &[(Call, Answer)] = &[(Call::Seal, Answer::Done)];
-
-// The receipt of the second of two writes on one guard.
-fn told_under_the_lock<N: LiveName, R: Wait + Abort>(
-    rt: &R,
-    alloc: Global,
-    live: &Live<N>,
-) -> Result<Receipt<N>, KvError> {
-    let mut keeper = live.lock(rt);
-    steps(
-        rt,
-        alloc,
-        &mut *keeper,
-        &[(Step::Put("a"), Answer::Number(1))],
-    );
-    told_through(rt, alloc, &mut *keeper, 2)
-}
-
-fn refusal_of_told<N: LiveName, R: Wait + Abort>(
-    rt: &R,
-    alloc: Global,
-    live: &Live<N>,
-) -> Option<KvError> {
-    let mut keeper = live.lock(rt);
-    told_made(rt, alloc, &mut *keeper).err()
-}
-
-// The receipt of a put through a guard, which is told at this revision.
-pub(super) fn told_through<N: LiveName, R: Wait + Abort>(
-    rt: &R,
-    alloc: Global,
-    keeper: &mut Keeper<N>,
-    revision: u64,
-) -> Result<Receipt<N>, KvError> {
-    let (answered, receipt) = told_made(rt, alloc, keeper)?;
-    equal(rt, (answered, receipt.revision()), (revision, revision));
-    Ok(receipt)
-}
-
-fn told_made<N: LiveName, R: Wait + Abort>(
-    rt: &R,
-    alloc: Global,
-    keeper: &mut Keeper<N>,
-) -> Result<(u64, Receipt<N>), KvError> {
-    let before = look_through(keeper);
-    again_on(
-        keeper,
-        |keeper| looks_as(rt, &look_through(keeper), &before),
-        |keeper| told_once(rt, alloc, keeper),
-    )
-}
-
-fn told_once<N: LiveName, R: Wait>(
-    rt: &R,
-    alloc: Global,
-    keeper: &mut Keeper<N>,
-) -> Result<(u64, Receipt<N>), KvError> {
-    let request = put_request(alloc, "a")?;
-    keeper.write_told(rt, &request)
+    equal(rt, shown_to(reader), Answer::On(revision, 0));
 }
 
 #[test]
@@ -274,8 +179,8 @@ fn look_in_turn<N: LiveName, R: Abort>(
     receipt: &Receipt<N>,
 ) {
     compare(rt, first, second, receipt, (true, true, false));
-    reads(rt, first, Answer::On(1, 0));
+    equal(rt, shown_to(first), Answer::On(1, 0));
     compare(rt, first, second, receipt, (true, false, true));
-    reads(rt, second, Answer::On(1, 0));
+    equal(rt, shown_to(second), Answer::On(1, 0));
     compare(rt, first, second, receipt, (true, true, true));
 }

@@ -1,7 +1,6 @@
 //! Tests of batches: what is asked in one is done in one step, or nothing of it is.
 
 use super::*;
-use crate::batched::batched;
 use kv_bucket::{BatchReceipt, Keeper};
 
 pub(super) const NOTHING: &[Ask] = &[];
@@ -73,7 +72,7 @@ impl<R: Wait + Abort> Test<R> for InOneStep {
         live: &Live<N>,
         readers: &mut Vec<Reader<N>>,
     ) -> Result<(), KvError> {
-        calls(rt, alloc, live, IN_ONE_STEP);
+        equal(rt, calls(rt, alloc, live, IN_ONE_STEP), None);
         last_reads(rt, readers, Answer::On(6, 0))
     }
 }
@@ -108,10 +107,9 @@ fn told_made<N: LiveName, R: Wait + Abort>(
     asks: &[Ask],
 ) -> Result<(u64, BatchReceipt<N>), KvError> {
     let before = look_through(keeper);
-    again_on(
-        keeper,
-        |keeper| looks_as(rt, &look_through(keeper), &before),
-        |keeper| told_once(rt, alloc, keeper, asks),
+    once_more!(
+        told_once(rt, alloc, keeper, asks),
+        equal(rt, look_through(keeper).is_as(&before), true)
     )
 }
 
@@ -146,9 +144,13 @@ impl<R: Wait + Abort> Test<R> for ToldBatch {
         live: &Live<N>,
         readers: &mut Vec<Reader<N>>,
     ) -> Result<(), KvError> {
-        calls(rt, alloc, live, &[(Call::Put("a"), Answer::Number(1))]);
+        equal(
+            rt,
+            calls(rt, alloc, live, &[(Call::Put("a"), Answer::Number(1))]),
+            None,
+        );
         let (mut reader, mut feed) = reader_and_feed(alloc, readers)?;
-        reads(rt, &mut reader, Answer::On(1, 0));
+        equal(rt, shown_to(&mut reader), Answer::On(1, 0));
         told_to_both(rt, alloc, live, &mut reader, &mut feed)?;
         told_of_nothing(rt, alloc, live, &mut reader, &feed)
     }
@@ -163,7 +165,11 @@ fn told_to_both<N: LiveName, R: Wait + Abort>(
 ) -> Result<(), KvError> {
     let receipt = told_through(rt, alloc, live, PAIR, 2)?;
     seen_in_turn(rt, &receipt, reader, feed);
-    calls(rt, alloc, live, &[(Call::Put("c"), Answer::Number(4))]);
+    equal(
+        rt,
+        calls(rt, alloc, live, &[(Call::Put("c"), Answer::Number(4))]),
+        None,
+    );
     knows(rt, &receipt, reader, feed, Seen::ByBoth, Told::Yes);
     Ok(())
 }
@@ -192,10 +198,10 @@ fn seen_in_turn<N: LiveName, R: Abort>(
     knows(rt, receipt, reader, feed, Seen::ByNobody, Told::No);
     reader.learn_mark(receipt.mark());
     knows(rt, receipt, reader, feed, Seen::ByNobody, Told::Yes);
-    moves(rt, feed, BEFORE);
-    reads(rt, reader, Answer::On(3, 0));
+    equal(rt, moves(feed, BEFORE), None);
+    equal(rt, shown_to(reader), Answer::On(3, 0));
     knows(rt, receipt, reader, feed, Seen::ByReader, Told::Yes);
-    moves(rt, feed, BEHIND);
+    equal(rt, moves(feed, BEHIND), None);
     knows(rt, receipt, reader, feed, Seen::ByBoth, Told::Yes);
 }
 
@@ -209,7 +215,7 @@ fn told_of_nothing<N: LiveName, R: Wait + Abort>(
 ) -> Result<(), KvError> {
     let receipt = told_through(rt, alloc, live, NOTHING, 4)?;
     knows(rt, &receipt, reader, feed, Seen::ByNobody, Told::No);
-    reads(rt, reader, Answer::On(4, 0));
+    equal(rt, shown_to(reader), Answer::On(4, 0));
     knows(rt, &receipt, reader, feed, Seen::ByReader, Told::No);
     Ok(())
 }
@@ -236,7 +242,7 @@ fn told_at<N: LiveName, R: Wait + Abort>(
     alloc: Global,
     live: &Live<N>,
 ) -> Result<BatchReceipt<N>, KvError> {
-    let (first, receipt) = again(|| told_live(rt, alloc, live))?;
+    let (first, receipt) = once_more!(told_live(rt, alloc, live))?;
     equal(rt, first, 1);
     Ok(receipt)
 }
@@ -285,7 +291,7 @@ fn goes_on_behind_the_close<N: LiveName, R: Abort>(
     feed: &mut Feed<N>,
 ) {
     equal(rt, receipt.is_followed_by(feed), false);
-    moves(rt, feed, ALL_OF_IT);
+    equal(rt, moves(feed, ALL_OF_IT), None);
     equal(rt, receipt.is_followed_by(feed), true);
 }
 
@@ -296,7 +302,7 @@ fn looks_behind_the_close<N: LiveName, R: Abort>(
 ) -> Result<(), KvError> {
     let mut reader = last(readers)?;
     equal(rt, receipt.is_seen_by(&reader), false);
-    reads(rt, &mut reader, Answer::On(2, 0));
+    equal(rt, shown_to(&mut reader), Answer::On(2, 0));
     equal(rt, receipt.is_seen_by(&reader), true);
     Ok(())
 }

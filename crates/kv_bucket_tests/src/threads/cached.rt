@@ -57,7 +57,8 @@ impl<R: Wait + Abort> Test<R> for CachedVersion {
     ) -> Result<(), KvError> {
         let mut reader = last(readers)?;
         refreshed_in_turn(rt, alloc, live, &mut reader)?;
-        equal(rt, last_seen(&mut reader, &key_a(alloc)?)?, 2);
+        let key = once_more!(Key::parse(alloc, "a"))?;
+        equal(rt, last_seen(&mut reader, &key)?, 2);
         Ok(())
     }
 }
@@ -71,7 +72,11 @@ fn refreshed_in_turn<N: LiveName, R: Wait + Abort>(
     let mut cached = reader.cached()?;
     let mut before = Answer::On(0, 0);
     for line in LINES {
-        calls(rt, alloc, live, &[(line.call, line.answer)]);
+        equal(
+            rt,
+            calls(rt, alloc, live, &[(line.call, line.answer)]),
+            None,
+        );
         stays_until_refreshed(rt, reader, &mut cached, before, line.refreshed)?;
         before = line.refreshed;
     }
@@ -97,10 +102,6 @@ fn stays_until_refreshed<N: LiveName, R: Abort>(
 fn is_on<N: LiveName>(cached: &Cached<N>) -> Answer {
     let version = cached.version();
     Answer::On(version.revision(), version.floor())
-}
-
-fn key_a(alloc: Global) -> Result<Key, KvError> {
-    again(|| Key::parse(alloc, "a"))
 }
 
 // Looks a key up a thousand times, each time in what is published by then, and answers the last revision that it saw.

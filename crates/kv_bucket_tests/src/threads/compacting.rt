@@ -36,7 +36,7 @@ impl<R: Wait + Abort> Test<R> for HeldWatch {
         live: &Live<N>,
         readers: &mut Vec<Reader<N>>,
     ) -> Result<(), KvError> {
-        calls(rt, alloc, live, AROUND_A_WATCH);
+        equal(rt, calls(rt, alloc, live, AROUND_A_WATCH), None);
         let mut reader = last(readers)?;
         reads_from_the_floor(rt, &mut reader)
     }

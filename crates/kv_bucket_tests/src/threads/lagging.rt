@@ -22,11 +22,11 @@ impl<R: Wait + Abort> Test<R> for TwoFeeds {
         live: &Live<N>,
         readers: &mut Vec<Reader<N>>,
     ) -> Result<(), KvError> {
-        calls(rt, alloc, live, ONE_PUT);
+        equal(rt, calls(rt, alloc, live, ONE_PUT), None);
         let (one, mut other) = feeds_of_both(alloc, readers)?;
         compacted_behind(rt, alloc, live, &mut other);
         begins_anew(rt, alloc, stays_behind(rt, one))?;
-        moves(rt, &mut other, GOES_ON);
+        equal(rt, moves(&mut other, GOES_ON), None);
         Ok(())
     }
 }
@@ -56,9 +56,13 @@ fn compacts_behind<N: LiveName, R: Wait + Abort>(
     keeper: &mut Keeper<N>,
     feed: &mut Feed<N>,
 ) {
-    steps(rt, alloc, keeper, TWO_PUTS);
-    moves(rt, feed, &[(Move::Refresh, Answer::Done)]);
-    steps(rt, alloc, keeper, &[(Step::Compact(2), Answer::Done)]);
+    equal(rt, steps(rt, alloc, keeper, TWO_PUTS), None);
+    equal(rt, moves(feed, &[(Move::Refresh, Answer::Done)]), None);
+    equal(
+        rt,
+        steps(rt, alloc, keeper, &[(Step::Compact(2), Answer::Done)]),
+        None,
+    );
 }
 
 const ONE_PUT: &[(Call, Answer)] = &[(Call::Put("k"), Answer::Number(1))];
@@ -100,8 +104,10 @@ const GOES_ON: &[(Move, Answer)] = &[
 
 fn stays_behind<N: LiveName, R: Abort>(rt: &R, feed: Feed<N>) -> Reader<N> {
     let mut feed = feed;
-    moves(rt, &mut feed, STAYS_BEHIND);
-    stopped_at(rt, feed, 2)
+    equal(rt, moves(&mut feed, STAYS_BEHIND), None);
+    let (reader, handed) = stop(feed);
+    equal(rt, handed, (2, 2));
+    reader
 }
 
 fn begins_anew<N: LiveName, R: Abort>(
@@ -110,6 +116,6 @@ fn begins_anew<N: LiveName, R: Abort>(
     reader: Reader<N>,
 ) -> Result<(), KvError> {
     let mut feed = feed_of(alloc, reader)?;
-    moves(rt, &mut feed, BEGINS_ANEW);
+    equal(rt, moves(&mut feed, BEGINS_ANEW), None);
     Ok(())
 }

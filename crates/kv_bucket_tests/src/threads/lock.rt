@@ -18,11 +18,23 @@ impl<R: Wait + Abort> Test<R> for WatchBetweenPuts {
         live: &Live<N>,
         _readers: &mut Vec<Reader<N>>,
     ) -> Result<(), KvError> {
-        calls(rt, alloc, live, &[(self.put, Answer::Number(1))]);
-        calls(rt, alloc, live, WATCHED);
-        calls(rt, alloc, live, &[(self.put, Answer::Number(2))]);
-        calls(rt, alloc, live, &[(self.put, Answer::Number(3))]);
-        calls(rt, alloc, live, HANDED);
+        equal(
+            rt,
+            calls(rt, alloc, live, &[(self.put, Answer::Number(1))]),
+            None,
+        );
+        equal(rt, calls(rt, alloc, live, WATCHED), None);
+        equal(
+            rt,
+            calls(rt, alloc, live, &[(self.put, Answer::Number(2))]),
+            None,
+        );
+        equal(
+            rt,
+            calls(rt, alloc, live, &[(self.put, Answer::Number(3))]),
+            None,
+        );
+        equal(rt, calls(rt, alloc, live, HANDED), None);
         Ok(())
     }
 }
@@ -49,6 +61,23 @@ fn a_watch_survives_the_guard(rt: HostRuntime) -> Result<(), Fail> {
 fn a_live_write_is_stored(rt: HostRuntime) -> Result<(), Fail> {
     let put = Call::Put("k");
     Ok(run(&rt, rt.alloc(), WatchBetweenPuts { put })?)
+}
+
+// A test of calls one after another, each with what it answers. It uses no reader.
+#[derive(Clone, Copy)]
+struct InTurn(&'static [(Call, Answer)]);
+
+impl<R: Wait + Abort> Test<R> for InTurn {
+    fn run<N: LiveName>(
+        self,
+        rt: &R,
+        alloc: Global,
+        live: &Live<N>,
+        _readers: &mut Vec<Reader<N>>,
+    ) -> Result<(), KvError> {
+        equal(rt, calls(rt, alloc, live, self.0), None);
+        Ok(())
+    }
 }
 
 const WATCH_NUMBERS: &[(Call, Answer)] = &[
@@ -93,9 +122,9 @@ impl<R: Wait + Abort> Test<R> for OneWatchTooMany {
     ) -> Result<(), KvError> {
         for before in 0..MOST_WATCHES {
             let line = (Call::Guarded(Step::Watch), Answer::Number(before + 1));
-            calls(rt, alloc, live, &[line]);
+            equal(rt, calls(rt, alloc, live, &[line]), None);
         }
-        calls(rt, alloc, live, BEYOND);
+        equal(rt, calls(rt, alloc, live, BEYOND), None);
         Ok(())
     }
 }

@@ -128,7 +128,7 @@ const OPENINGS: &[Asked] = &[
 fn an_opening_refuses_names_then_limits_then_readers(rt: HostRuntime) -> Result<(), Fail> {
     let alloc = rt.alloc();
     for asked in OPENINGS {
-        let refusal = again(|| opened_once(alloc, *asked)).err();
+        let refusal = once_more!(opened_once(alloc, *asked)).err();
         equal(&rt, refusal, asked.refusal);
     }
     Ok(())
@@ -231,6 +231,10 @@ fn cached_by_last<N: LiveName>(
 }
 
 fn put_and_close<N: LiveName, R: Wait + Abort>(rt: &R, alloc: Global, live: Live<N>) {
-    calls(rt, alloc, &live, &[(Call::Put("a"), Answer::Number(1))]);
+    equal(
+        rt,
+        calls(rt, alloc, &live, &[(Call::Put("a"), Answer::Number(1))]),
+        None,
+    );
     live.close(rt);
 }

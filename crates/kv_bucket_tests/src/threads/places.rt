@@ -2,12 +2,8 @@
 
 use super::*;
 
-fn slot_once<N: LiveName, R: Wait>(rt: &R, live: &Live<N>) -> Result<Reader<N>, KvError> {
-    live.lock(rt).reader()
-}
-
 fn slot<N: LiveName, R: Wait>(rt: &R, live: &Live<N>) -> Result<Reader<N>, KvError> {
-    again(|| slot_once(rt, live))
+    once_more!(live.lock(rt).reader())
 }
 
 fn finds_no_place<N: LiveName, R: Wait + Abort>(rt: &R, live: &Live<N>) {
@@ -20,7 +16,7 @@ fn takes_the_place<N: LiveName, R: Wait + Abort>(
     live: &Live<N>,
 ) -> Result<Reader<N>, KvError> {
     let mut reader = slot(rt, live)?;
-    reads(rt, &mut reader, Answer::On(1, 0));
+    equal(rt, shown_to(&mut reader), Answer::On(1, 0));
     finds_no_place(rt, live);
     Ok(reader)
 }
@@ -41,7 +37,11 @@ impl<R: Wait + Abort> Test<R> for FreedPlace {
         live: &Live<N>,
         readers: &mut Vec<Reader<N>>,
     ) -> Result<(), KvError> {
-        calls(rt, alloc, live, &[(Call::Put("a"), Answer::Number(1))]);
+        equal(
+            rt,
+            calls(rt, alloc, live, &[(Call::Put("a"), Answer::Number(1))]),
+            None,
+        );
         finds_no_place(rt, live);
         drop(last(readers)?);
         let _third = takes_the_place(rt, live)?;
@@ -77,20 +77,15 @@ impl<R: Wait + Abort> Test<R> for LeftBehind {
         live: &Live<N>,
         readers: &mut Vec<Reader<N>>,
     ) -> Result<(), KvError> {
-        let mut feed = feed_behind_a_put(rt, alloc, live, readers)?;
+        equal(
+            rt,
+            calls(rt, alloc, live, &[(Call::Put("a"), Answer::Number(1))]),
+            None,
+        );
+        let mut feed = feed_of_last(alloc, readers)?;
         goes_on_without_it(rt, alloc, live, &mut feed);
         Ok(())
     }
-}
-
-fn feed_behind_a_put<N: LiveName, R: Wait + Abort>(
-    rt: &R,
-    alloc: Global,
-    live: &Live<N>,
-    readers: &mut Vec<Reader<N>>,
-) -> Result<Feed<N>, KvError> {
-    calls(rt, alloc, live, &[(Call::Put("a"), Answer::Number(1))]);
-    feed_of_last(alloc, readers)
 }
 
 // The feed hands out the version that it leaves, and goes on to what a write and a compaction made.
@@ -100,20 +95,24 @@ fn goes_on_without_it<N: LiveName, R: Wait + Abort>(
     live: &Live<N>,
     feed: &mut Feed<N>,
 ) {
-    calls(rt, alloc, live, &[(Call::Put("b"), Answer::Number(2))]);
+    equal(
+        rt,
+        calls(rt, alloc, live, &[(Call::Put("b"), Answer::Number(2))]),
+        None,
+    );
     equal(rt, left_by(rt, feed), Answer::On(1, 0));
-    moves(rt, feed, ON_THE_SECOND);
-    calls(rt, alloc, live, &[(Call::Compact(2), Answer::Done)]);
-    moves(rt, feed, COMPACTED);
+    equal(rt, moves(feed, ON_THE_SECOND), None);
+    equal(
+        rt,
+        calls(rt, alloc, live, &[(Call::Compact(2), Answer::Done)]),
+        None,
+    );
+    equal(rt, moves(feed, COMPACTED), None);
 }
 
 fn left_by<N: LiveName, R: Abort>(rt: &R, feed: &mut Feed<N>) -> Answer {
     let before = look_at(feed);
-    again_on(
-        feed,
-        |feed| equal(rt, look_at(feed), before),
-        |feed| on(feed.refresh_keeping()),
-    )
+    once_more!(on(feed.refresh_keeping()), equal(rt, look_at(feed), before))
 }
 
 const ON_THE_SECOND: &[(Move, Answer)] = &[

@@ -193,9 +193,11 @@ fn do_one<N: LiveName, R: Wait + Abort>(
     deed: Deed,
 ) {
     match deed {
-        Deed::Step(step, answer) => steps(rt, alloc, keeper, &[(step, answer)]),
-        Deed::Looks(answer) => reads(rt, reader, answer),
-        Deed::Move(step, answer) => moves(rt, feed, &[(step, answer)]),
+        Deed::Step(step, answer) => {
+            equal(rt, steps(rt, alloc, keeper, &[(step, answer)]), None);
+        }
+        Deed::Looks(answer) => equal(rt, shown_to(reader), answer),
+        Deed::Move(step, answer) => equal(rt, moves(feed, &[(step, answer)]), None),
     }
 }
 
@@ -229,10 +231,10 @@ impl<R: Wait + Abort> Test<R> for Marked {
         readers: &mut Vec<Reader<N>>,
     ) -> Result<(), KvError> {
         let mut feed = feed_of_last(alloc, readers)?;
-        calls(rt, alloc, live, WRITE_AND_SEAL);
+        equal(rt, calls(rt, alloc, live, WRITE_AND_SEAL), None);
         let mark = live.lock(rt).mark();
         feed.learn_mark(&mark);
-        moves(rt, &mut feed, MARKED);
+        equal(rt, moves(&mut feed, MARKED), None);
         sees_the_seal(rt, readers, &mark)
     }
 }

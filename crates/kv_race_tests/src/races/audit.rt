@@ -53,7 +53,7 @@ fn push_watches(
 // Refutes race_last_is_empty, which would answer a version without the writes, and the watches saw more than it gives.
 #[test]
 fn every_watch_saw_every_write(rt: HostRuntime) -> Result<(), Fail> {
-    Ok(again(|| audit(&rt, rt.alloc()))?)
+    Ok(once_more!(audit(&rt, rt.alloc()))?)
 }
 
 fn audit<R: Threads + Wait + Abort + Sync>(rt: &R, alloc: Global) -> Result<(), KvError> {

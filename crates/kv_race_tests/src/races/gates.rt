@@ -87,7 +87,7 @@ impl Gate for Meeting {
 // Refutes race_on_one_thread, which would meet the limit: its second worker would begin when the first has ended.
 #[test]
 fn workers_run_on_their_own_threads(rt: HostRuntime) -> Result<(), Fail> {
-    Ok(again(|| all_meet(&rt, rt.alloc()))?)
+    Ok(once_more!(all_meet(&rt, rt.alloc()))?)
 }
 
 fn all_meet<R: Threads + Wait + Abort + Sync>(rt: &R, alloc: Global) -> Result<(), KvError> {
@@ -131,7 +131,7 @@ impl Gate for Between {
 
 #[test]
 fn a_watcher_looks_between_two_writes(rt: HostRuntime) -> Result<(), Fail> {
-    Ok(again(|| round_between(&rt, rt.alloc()))?)
+    Ok(once_more!(round_between(&rt, rt.alloc()))?)
 }
 
 fn round_between<R: Threads + Wait + Abort + Sync>(rt: &R, alloc: Global) -> Result<(), KvError> {
@@ -181,7 +181,7 @@ impl Gate for HeldUp {
 
 #[test]
 fn a_watcher_sleeps_until_the_first_write(rt: HostRuntime) -> Result<(), Fail> {
-    Ok(again(|| sleeps_until_written(&rt, rt.alloc()))?)
+    Ok(once_more!(sleeps_until_written(&rt, rt.alloc()))?)
 }
 
 fn sleeps_until_written<R: Threads + Wait + Abort + Sync>(

@@ -51,7 +51,7 @@ fn refused<R: Threads + Wait + Sync>(
     workers: usize,
     watches: usize,
 ) -> Result<(), KvError> {
-    again(|| refused_once(rt, alloc, name, workers, watches))
+    once_more!(refused_once(rt, alloc, name, workers, watches))
 }
 
 // A race of this bucket, with so many workers and watches, and its answer.

@@ -4,7 +4,7 @@ use super::*;
 
 #[test]
 fn twenty_writes_of_four_workers_come_in_order(rt: HostRuntime) -> Result<(), Fail> {
-    Ok(again(|| twenty(&rt, rt.alloc()))?)
+    Ok(once_more!(twenty(&rt, rt.alloc()))?)
 }
 
 // The keys that each worker writes to, in its order.

@@ -95,7 +95,7 @@ fn hundred_clients<R: Wait>(rt: &R, alloc: Global) -> Result<u64, KvError> {
 
 #[test]
 fn each_of_a_hundred_clients_is_served_by_one_reader(rt: HostRuntime) -> Result<(), Fail> {
-    let entries = again(|| hundred_clients(&rt, rt.alloc()))?;
+    let entries = once_more!(hundred_clients(&rt, rt.alloc()))?;
     assert_eq!(rt; entries, CLIENTS as u64);
     Ok(())
 }

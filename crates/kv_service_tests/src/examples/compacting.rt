@@ -116,5 +116,5 @@ fn compacted<R: Wait + Abort>(rt: &R, alloc: Global) -> Result<(), KvError> {
 
 #[test]
 fn a_full_bucket_is_compacted_and_a_slow_feed_begins_anew(rt: HostRuntime) -> Result<(), Fail> {
-    Ok(again(|| compacted(&rt, rt.alloc()))?)
+    Ok(once_more!(compacted(&rt, rt.alloc()))?)
 }

@@ -66,7 +66,7 @@ fn total(followed: Vec<Result<u64, KvError>>) -> Result<u64, KvError> {
 
 #[test]
 fn a_service_hands_all_to_two_followers(rt: HostRuntime) -> Result<(), Fail> {
-    let handed = again(|| service(&rt, rt.alloc()))?;
+    let handed = once_more!(service(&rt, rt.alloc()))?;
     assert_eq!(rt; handed, 6);
     Ok(())
 }

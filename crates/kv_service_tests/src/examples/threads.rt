@@ -147,7 +147,7 @@ fn writer_and_readers<R: Threads + Wait + Sync>(
 
 #[test]
 fn two_readers_follow_a_writer_to_the_end(rt: HostRuntime) -> Result<(), Fail> {
-    let handed = again(|| writer_and_readers(&rt, rt.alloc()))?;
+    let handed = once_more!(writer_and_readers(&rt, rt.alloc()))?;
     assert_eq!(rt; handed, (3, 3));
     Ok(())
 }

@@ -2,8 +2,8 @@
 
 use crate::equal::equal;
 use crate::following::{follow_to_the_end, put, watch_all};
-use crate::opened::{ClosingTest, run_closing};
 use kv_bucket::{Feed, KvError, Live, LiveName, Reader, Woken};
+use kv_live_test_tools::{ClosingTest, run_closing};
 use std::alloc::Global;
 use std::process::Abort;
 use std::sync::Wait;

@@ -4,10 +4,10 @@
 use crate::beside::beside;
 use crate::equal::equal;
 use crate::following::{follow_to_the_end, put, watch_all};
-use crate::opened::Opening;
 use crate::threaded::{Threaded, run_threaded};
 use crate::waiting::sleepers::pause;
 use kv_bucket::{KvError, Live, LiveName, Reader};
+use kv_live_test_tools::Opening;
 use std::alloc::Global;
 use std::process::Abort;
 use std::rt::Clock;

@@ -4,12 +4,11 @@ ghost use Rattle.std.specs.Prelude.{◌≡◌};
 
 use crate::beside::beside;
 use crate::equal::equal;
-use crate::following::last;
-use crate::opened::OPENING;
 use crate::threaded::{Threaded, run_threaded};
 use crate::waiting::waits::{Act, Step, make, steps, take_step};
 use kv_bucket::{Config, KvError, Live, LiveName, Opened, Reader, Woken};
-use kv_test_tools::again;
+use kv_live_test_tools::{OPENING, last};
+use kv_test_tools::once_more;
 use std::alloc::Global;
 use std::marker::Brand;
 use std::process::Abort;
@@ -94,7 +93,7 @@ fn disturb<N: LiveName, R: Wait + Clock>(
 ) -> Result<(), KvError> {
     for _ in 0..times {
         pause(rt);
-        again(|| make(rt, alloc, live, one))?;
+        once_more!(make(rt, alloc, live, one))?;
     }
     Ok(())
 }
@@ -166,5 +165,5 @@ fn closed_once<R: Threads + Wait + Clock + Abort + Copy + Send + 'static>(
 
 #[test]
 fn a_sleeper_keeps_no_close_from_ending(rt: HostRuntime) -> Result<(), Fail> {
-    Ok(again(|| closed_once(&rt, rt.alloc()))?)
+    Ok(once_more!(closed_once(&rt, rt.alloc()))?)
 }

@@ -1,9 +1,9 @@
 //! Tests of waits: what ends them, and what they answer.
 
 use crate::equal::equal;
-use crate::following::{From, last, put, put_two, watch};
-use crate::opened::{Test, run};
+use crate::following::{From, put, put_two, watch};
 use kv_bucket::{Feed, Filters, KvError, Live, LiveName, Reader, Version, Woken};
+use kv_live_test_tools::{Test, last, run};
 use std::alloc::Global;
 use std::process::Abort;
 use std::rt::Clock;

@@ -1,4 +1,4 @@
-use Rattle.kv_bucket_tests.proofs.opened.run_once.Given as goal
+use Rattle.kv_live_test_tools.proofs.opened.run_once.Given as goal
 
 -- the opening that was just made
 abbrev pub ghosts-run_named : goal.ghosts-run_named

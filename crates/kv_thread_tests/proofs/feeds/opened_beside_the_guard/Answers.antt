@@ -3,7 +3,7 @@ use denote.Param.Send.{sendable}
 use Rattle.std.proofs.Crossing.{crosses}
 use Rattle.kv_keys.proofs.error.KvError.TheSendSync as error
 use Rattle.kv_bucket.proofs.Sent.{feed_send, reader_send}
-use Rattle.kv_bucket_tests.proofs.threads.feeds.opened_beside_the_guard.Goals as goal
+use Rattle.kv_thread_tests.proofs.feeds.opened_beside_the_guard.Goals as goal
 
 pub join-feed-requires-send-F : goal.join-feed-requires-send-F
 join-feed-requires-send-F g c κs within =

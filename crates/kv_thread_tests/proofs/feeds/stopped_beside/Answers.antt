@@ -2,7 +2,7 @@ use denote.Param.{param}
 use denote.Param.Send.{sendable}
 use Rattle.std.proofs.Crossing.{crosses}
 use Rattle.kv_bucket.proofs.Sent.{feed_send, reader_send}
-use Rattle.kv_bucket_tests.proofs.threads.feeds.stopped_beside.Goals as goal
+use Rattle.kv_thread_tests.proofs.feeds.stopped_beside.Goals as goal
 
 pub join-reader-requires-send-F : goal.join-reader-requires-send-F
 join-reader-requires-send-F g c κs within =

@@ -2,7 +2,7 @@ use denote.Param.{param}
 use denote.Param.Send.{sendable}
 use Rattle.std.proofs.Crossing.{crosses}
 use Rattle.kv_bucket.proofs.Sent.{live_sync}
-use Rattle.kv_bucket_tests.proofs.threads.feeds.write_beside.Goals as goal
+use Rattle.kv_thread_tests.proofs.feeds.write_beside.Goals as goal
 
 pub join-requires-send-F : goal.join-requires-send-F
 join-requires-send-F g c κs within =

@@ -2,7 +2,7 @@ use denote.Param.{param}
 use denote.Param.Send.{sendable}
 use Rattle.std.proofs.Crossing.{crosses}
 use Rattle.kv_bucket.proofs.Sent.{feed_send}
-use Rattle.kv_bucket_tests.proofs.threads.pairs.follow_beside.Goals as goal
+use Rattle.kv_thread_tests.proofs.pairs.follow_beside.Goals as goal
 
 pub beside-requires-send-F : goal.beside-requires-send-F
 beside-requires-send-F g c κs within =

@@ -1,4 +1,4 @@
-use Rattle.kv_bucket_tests.proofs.threaded.run_once.Given as goal
+use Rattle.kv_thread_tests.proofs.threaded.run_once.Given as goal
 
 -- the opening that was just made
 abbrev pub ghosts-run_named : goal.ghosts-run_named

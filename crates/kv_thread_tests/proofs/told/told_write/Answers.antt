@@ -2,7 +2,7 @@ use denote.Param.{param}
 use denote.Param.Send.{sendable}
 use Rattle.std.proofs.Crossing.{crosses}
 use Rattle.kv_bucket.proofs.Sent.{live_sync}
-use Rattle.kv_bucket_tests.proofs.threads.told.told_write.Goals as goal
+use Rattle.kv_thread_tests.proofs.told.told_write.Goals as goal
 
 pub join-receipt-requires-send-F : goal.join-receipt-requires-send-F
 join-receipt-requires-send-F g c κs within =

@@ -3,7 +3,7 @@ use denote.Param.Send.{sendable}
 use Rattle.std.proofs.Crossing.{crosses}
 use Rattle.kv_keys.proofs.error.KvError.TheSendSync as error
 use Rattle.kv_bucket.proofs.Sent.{feed_send}
-use Rattle.kv_bucket_tests.proofs.examples.threads.follow_both.Goals as goal
+use Rattle.kv_service_tests.proofs.examples.threads.follow_both.Goals as goal
 
 pub join-first-requires-send-F : goal.join-first-requires-send-F
 join-first-requires-send-F g c κs within =

@@ -3,7 +3,7 @@ use denote.Param.Send.{sendable}
 use Rattle.std.proofs.Crossing.{crosses}
 use Rattle.kv_keys.proofs.error.KvError.TheSendSync as error
 use Rattle.kv_bucket.proofs.Sent.{live_sync}
-use Rattle.kv_bucket_tests.proofs.examples.threads.share.Goals as goal
+use Rattle.kv_service_tests.proofs.examples.threads.share.Goals as goal
 
 pub join-written-requires-send-F : goal.join-written-requires-send-F
 join-written-requires-send-F g c κs within =

@@ -1,4 +1,4 @@
-use Rattle.kv_bucket_tests.proofs.examples.threads.writer_and_readers.Given as goal
+use Rattle.kv_service_tests.proofs.examples.threads.writer_and_readers.Given as goal
 
 -- the opening that was just made
 abbrev pub ghosts-opened_and_shared : goal.ghosts-opened_and_shared

@@ -2,7 +2,7 @@ use denote.Param.{param}
 use denote.Param.Send.{sendable}
 use Rattle.std.proofs.Crossing.{crosses}
 use Rattle.kv_bucket.proofs.Sent.{reader_send}
-use Rattle.kv_bucket_tests.proofs.waiting.sleepers.close_beside.Goals as goal
+use Rattle.kv_thread_tests.proofs.waiting.sleepers.close_beside.Goals as goal
 
 pub spawn-requires-send-F : goal.spawn-requires-send-F
 spawn-requires-send-F g c κs within =

@@ -1,4 +1,4 @@
-use Rattle.kv_bucket_tests.proofs.waiting.sleepers.closed_once.Given as goal
+use Rattle.kv_thread_tests.proofs.waiting.sleepers.closed_once.Given as goal
 
 -- the opening that was just made
 abbrev pub ghosts-close_beside : goal.ghosts-close_beside

@@ -1,0 +1,20 @@
+//! What tests of a bucket that threads share have in common: how one is opened for a test, what is done with it line by
+//! line, with what each line has to answer, and what of it can be seen. Nothing here ends a test: it answers what it found,
+//! and the test compares.
+#![tactic(auto)]
+
+mod answers;
+mod batched;
+mod calls;
+mod moves;
+mod opened;
+mod readers;
+mod sights;
+
+pub use answers::{Answer, Differs, on};
+pub use batched::batched;
+pub use calls::{Ask, Call, Step, calls, put_request, requests, steps};
+pub use moves::{FeedSight, Move, feed_of, feed_of_last, look_at, moves, stop};
+pub use opened::{ClosingTest, OPENING, Opening, Test, open_bucket, run, run_closing, run_on};
+pub use readers::{both, last, reader_and_feed, shown_to, version};
+pub use sights::{Sight, look, look_through};
