@@ -8,7 +8,7 @@ from tests import top
 from tests.pages.examples import lines_of
 
 pages = ["README.md", "docs/library.md"]
-crates = [os.path.join(top, "crates", name) for name in ("kv_run_tests", "kv_bucket_tests")]
+crates = [os.path.join(top, "crates", name) for name in ("kv_run_tests", "kv_service_tests")]
 kinds = {"```rust": ".rt", "```antt": ".antt"}
 
 
