@@ -6,9 +6,9 @@ use crate::equal::equal;
 use known::{Seen, Told, seen_by, told_if};
 use kv_bucket::{Feed, KvError, Live, LiveName, Reader};
 use kv_live_test_tools::{
-    Answer, Ask, Call, ClosingTest, Move, OPENING, Opening, Step, Test, batched, both, calls,
-    feed_of, feed_of_last, last, look_at, look_through, moves, on, put_request, reader_and_feed,
-    requests, run, run_closing, run_on, shown_to, steps, stop, version,
+    Answer, Ask, Call, ClosingTest, Move, OPENING, Opening, Step, Test, batched, calls, feed_of,
+    feed_of_last, last, look_at, look_through, moves, on, put_request, reader_and_feed, requests,
+    run, run_closing, run_on, shown_to, steps, stop, version,
 };
 use kv_test_tools::once_more;
 use std::alloc::Global;

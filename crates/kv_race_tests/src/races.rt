@@ -166,16 +166,7 @@ fn are(items: &[Reply], events: &[Event]) -> bool {
     true
 }
 
-// What a watch from the empty bucket is given by these writes, as the plain list has it.
-fn given_by(
-    alloc: Global,
-    writes: &[&Write],
-    watch: &(Filters, Options),
-) -> Result<Vec<Event>, KvError> {
-    let (filters, options) = watch;
-    given(alloc, writes, 0, writes.len() as u64, 1, filters, *options)
-}
-
+// The items are what a watch from the empty bucket is given by these writes, as the plain list has it.
 fn saw_what_is_given<R: Abort>(
     rt: &R,
     alloc: Global,
@@ -183,7 +174,8 @@ fn saw_what_is_given<R: Abort>(
     watch: &(Filters, Options),
     items: &[Reply],
 ) -> Result<(), KvError> {
-    let events = given_by(alloc, writes, watch)?;
+    let (filters, options) = watch;
+    let events = given(alloc, writes, 0, writes.len() as u64, 1, filters, *options)?;
     assert!(rt; are(items, &events));
     Ok(())
 }
@@ -214,19 +206,8 @@ fn race_of<R: Threads + Wait + Abort + Sync, G: Gate>(
     writes: u64,
 ) -> Result<(), KvError> {
     let scripts = scripts_of(alloc, count, keys)?;
-    race_over(rt, alloc, &scripts, filters, gate, writes)
-}
-
-fn race_over<R: Threads + Wait + Abort + Sync, G: Gate>(
-    rt: &R,
-    alloc: Global,
-    scripts: &[Vec<Request>],
-    filters: &[&str],
-    gate: &G,
-    writes: u64,
-) -> Result<(), KvError> {
     let watches = watches_of(alloc, filters)?;
-    race_beside(rt, alloc, scripts, &watches, gate, writes)
+    race_beside(rt, alloc, &scripts, &watches, gate, writes)
 }
 
 fn race_beside<R: Threads + Wait + Abort + Sync, G: Gate>(
@@ -239,16 +220,6 @@ fn race_beside<R: Threads + Wait + Abort + Sync, G: Gate>(
 ) -> Result<(), KvError> {
     let report = raced(rt, alloc, "kv", scripts, watches, gate)?;
     let report = with_all_memory(report)?;
-    is_whole(rt, alloc, watches, &report, writes)
-}
-
-fn is_whole<R: Abort>(
-    rt: &R,
-    alloc: Global,
-    watches: &[(Filters, Options)],
-    report: &Report,
-    writes: u64,
-) -> Result<(), KvError> {
-    equal(rt, answers_each_once(rt, alloc, report)?, writes);
-    all_saw_what_is_given(rt, alloc, watches, report)
+    equal(rt, answers_each_once(rt, alloc, &report)?, writes);
+    all_saw_what_is_given(rt, alloc, watches, &report)
 }

@@ -4,7 +4,7 @@ use crate::equal::equal;
 use crate::threaded::{Threaded, run_threaded};
 use kv_bucket::{Feed, Keeper, KvError, Live, LiveName, Reader};
 use kv_live_test_tools::{
-    Answer, Call, Differs, Move, OPENING, Step, calls, feed_of, last, moves, shown_to, steps, stop,
+    Answer, Call, Move, OPENING, Step, calls, feed_of, last, moves, shown_to, steps, stop,
 };
 use std::alloc::Global;
 use std::process::Abort;
@@ -94,7 +94,7 @@ fn stopped_behind_a_writer<N: LiveName + Send + Sync, R: Threads + Wait + Abort 
     feed: Feed<N>,
 ) -> Reader<N> {
     let mut feed = feed;
-    equal(rt, write_beside(rt, alloc, live), None);
+    write_beside(rt, alloc, live);
     equal(rt, moves(&mut feed, TO_THE_FOURTH), None);
     let (reader, handed) = stop(feed);
     equal(rt, handed, (5, 5));
@@ -105,9 +105,12 @@ fn write_beside<N: LiveName + Send + Sync, R: Threads + Wait + Abort + Sync>(
     rt: &R,
     alloc: Global,
     live: &Live<N>,
-) -> Option<Differs> {
-    let (written, ()) = join(rt, || calls(rt, alloc, live, FOURTH_PUT), || ());
-    written
+) {
+    join(
+        rt,
+        || equal(rt, calls(rt, alloc, live, FOURTH_PUT), None),
+        || (),
+    );
 }
 
 // Refutes feed_takes_the_lock, which would wait here for ever: the guard is given back only after the feed is done.

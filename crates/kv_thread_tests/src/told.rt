@@ -23,18 +23,6 @@ fn write_told<N: LiveName, R: Wait>(
     live.write_told(rt, &request)
 }
 
-fn told_again<N: LiveName, R: Wait + Abort>(
-    rt: &R,
-    alloc: Global,
-    live: &Live<N>,
-) -> Result<(u64, Receipt<N>), KvError> {
-    let before = look(rt, live);
-    once_more!(
-        write_told(rt, alloc, live),
-        equal(rt, look(rt, live).is_as(&before), true)
-    )
-}
-
 // The receipt of a put, which is told at this revision.
 fn told_at<N: LiveName, R: Wait + Abort>(
     rt: &R,
@@ -42,7 +30,12 @@ fn told_at<N: LiveName, R: Wait + Abort>(
     live: &Live<N>,
     revision: u64,
 ) -> Result<Receipt<N>, KvError> {
-    let (answered, receipt) = told_again(rt, alloc, live)?;
+    let before = look(rt, live);
+    let told = once_more!(
+        write_told(rt, alloc, live),
+        equal(rt, look(rt, live).is_as(&before), true)
+    );
+    let (answered, receipt) = told?;
     equal(rt, (answered, receipt.revision()), (revision, revision));
     Ok(receipt)
 }

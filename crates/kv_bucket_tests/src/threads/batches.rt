@@ -100,19 +100,6 @@ fn told_once<N: LiveName, R: Wait>(
     batched(keeper.write_all_told(rt, &requests(alloc, asks)?))
 }
 
-fn told_made<N: LiveName, R: Wait + Abort>(
-    rt: &R,
-    alloc: Global,
-    keeper: &mut Keeper<N>,
-    asks: &[Ask],
-) -> Result<(u64, BatchReceipt<N>), KvError> {
-    let before = look_through(keeper);
-    once_more!(
-        told_once(rt, alloc, keeper, asks),
-        equal(rt, look_through(keeper).is_as(&before), true)
-    )
-}
-
 // The receipt of a batch through a guard, of which the first write has this revision.
 fn told_through<N: LiveName, R: Wait + Abort>(
     rt: &R,
@@ -122,7 +109,12 @@ fn told_through<N: LiveName, R: Wait + Abort>(
     first: u64,
 ) -> Result<BatchReceipt<N>, KvError> {
     let mut keeper = live.lock(rt);
-    let (answered, receipt) = told_made(rt, alloc, &mut *keeper, asks)?;
+    let before = look_through(&*keeper);
+    let told = once_more!(
+        told_once(rt, alloc, &mut *keeper, asks),
+        equal(rt, look_through(&*keeper).is_as(&before), true)
+    );
+    let (answered, receipt) = told?;
     equal(rt, answered, first);
     Ok(receipt)
 }

@@ -58,15 +58,7 @@ fn every_watch_saw_every_write(rt: HostRuntime) -> Result<(), Fail> {
 
 fn audit<R: Threads + Wait + Abort + Sync>(rt: &R, alloc: Global) -> Result<(), KvError> {
     let scripts = scripts_of(alloc, MOST_WORKERS, KEYS)?;
-    audit_over(rt, alloc, &scripts)
-}
-
-fn audit_over<R: Threads + Wait + Abort + Sync>(
-    rt: &R,
-    alloc: Global,
-    scripts: &[Vec<Request>],
-) -> Result<(), KvError> {
     let watches = all_watches(alloc)?;
     equal(rt, watches.len(), MOST_WATCHES);
-    race_beside(rt, alloc, scripts, &watches, &NoGate, WRITES)
+    race_beside(rt, alloc, &scripts, &watches, &NoGate, WRITES)
 }

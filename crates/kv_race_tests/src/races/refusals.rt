@@ -10,48 +10,15 @@ fn many_watches(alloc: Global, count: usize) -> Result<Vec<(Filters, Options)>, 
     Ok(watches)
 }
 
-fn refused_once<R: Threads + Wait + Sync>(
+fn asked_once<R: Threads + Wait + Sync>(
     rt: &R,
     alloc: Global,
-    name: &str,
-    workers: usize,
-    watches: usize,
+    asked: &Asked,
 ) -> Result<(), KvError> {
-    let scripts = scripts_of(alloc, workers, &[])?;
-    refused_over(rt, alloc, name, &scripts, watches)
-}
-
-fn refused_over<R: Threads + Wait + Sync>(
-    rt: &R,
-    alloc: Global,
-    name: &str,
-    scripts: &[Vec<Request>],
-    watches: usize,
-) -> Result<(), KvError> {
-    let watches = many_watches(alloc, watches)?;
-    refused_beside(rt, alloc, name, scripts, &watches)
-}
-
-fn refused_beside<R: Threads + Wait + Sync>(
-    rt: &R,
-    alloc: Global,
-    name: &str,
-    scripts: &[Vec<Request>],
-    watches: &[(Filters, Options)],
-) -> Result<(), KvError> {
-    raced(rt, alloc, name, scripts, watches, &NoGate)?;
+    let scripts = scripts_of(alloc, asked.workers, &[])?;
+    let watches = many_watches(alloc, asked.watches)?;
+    raced(rt, alloc, asked.name, &scripts, &watches, &NoGate)?;
     Ok(())
-}
-
-// What a race of this bucket, with so many workers and watches, is refused by.
-fn refused<R: Threads + Wait + Sync>(
-    rt: &R,
-    alloc: Global,
-    name: &str,
-    workers: usize,
-    watches: usize,
-) -> Result<(), KvError> {
-    once_more!(refused_once(rt, alloc, name, workers, watches))
 }
 
 // A race of this bucket, with so many workers and watches, and its answer.
@@ -117,7 +84,7 @@ const RACES: &[Asked] = &[
 fn a_race_refuses_names_then_workers_then_watches(rt: HostRuntime) -> Result<(), Fail> {
     let alloc = rt.alloc();
     for asked in RACES {
-        let answer = refused(&rt, alloc, asked.name, asked.workers, asked.watches);
+        let answer = once_more!(asked_once(&rt, alloc, asked));
         equal(&rt, answer, asked.answer);
     }
     Ok(())

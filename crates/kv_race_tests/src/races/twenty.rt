@@ -40,27 +40,9 @@ fn twenty_scripts(alloc: Global) -> Result<Vec<Vec<Request>>, KvError> {
 
 fn twenty<R: Threads + Wait + Abort + Sync>(rt: &R, alloc: Global) -> Result<(), KvError> {
     let scripts = twenty_scripts(alloc)?;
-    twenty_watched(rt, alloc, &scripts)
-}
-
-fn twenty_watched<R: Threads + Wait + Abort + Sync>(
-    rt: &R,
-    alloc: Global,
-    scripts: &[Vec<Request>],
-) -> Result<(), KvError> {
     let watches = watches_of(alloc, &[">", "a.*"])?;
-    twenty_raced(rt, alloc, scripts, &watches)
-}
-
-fn twenty_raced<R: Threads + Wait + Abort + Sync>(
-    rt: &R,
-    alloc: Global,
-    scripts: &[Vec<Request>],
-    watches: &[(Filters, Options)],
-) -> Result<(), KvError> {
-    let report = raced(rt, alloc, "kv", scripts, watches, &NoGate)?;
-    let report = with_all_memory(report)?;
-    all_twenty(rt, alloc, &report)
+    let report = raced(rt, alloc, "kv", &scripts, &watches, &NoGate)?;
+    all_twenty(rt, alloc, &with_all_memory(report)?)
 }
 
 fn all_twenty<R: Abort>(rt: &R, alloc: Global, report: &Report) -> Result<(), KvError> {

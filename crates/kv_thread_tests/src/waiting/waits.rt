@@ -74,7 +74,10 @@ pub fn take_step<N: LiveName, R: Wait + Clock + Abort>(
 ) -> Result<(), KvError> {
     match step {
         Step::Do(one) => make(rt, alloc, live, one),
-        Step::Look => look(reader),
+        Step::Look => {
+            reader.version()?;
+            Ok(())
+        }
         Step::Moment(woken) => {
             equal(rt, reader.wait_timeout(rt, moment()), woken);
             Ok(())
@@ -85,11 +88,6 @@ pub fn take_step<N: LiveName, R: Wait + Clock + Abort>(
         }
         Step::For { revision, found } => finds(rt, reader, revision, found),
     }
-}
-
-fn look<N: LiveName>(reader: &mut Reader<N>) -> Result<(), KvError> {
-    reader.version()?;
-    Ok(())
 }
 
 fn revision_of(found: Option<Version>) -> Option<u64> {

@@ -2,10 +2,10 @@ use denote.Param.{param}
 use denote.Param.Send.{sendable}
 use Rattle.std.proofs.Crossing.{crosses}
 use Rattle.kv_bucket.proofs.Sent.{feed_send}
-use Rattle.kv_thread_tests.proofs.pairs.follow_beside.Goals as goal
+use Rattle.kv_thread_tests.proofs.pairs.beside_a_feed.Goals as goal
 
-pub beside-requires-send-F : goal.beside-requires-send-F
-beside-requires-send-F g c κs within =
+pub beside_the_writer-requires-send-F : goal.beside_the_writer-requires-send-F
+beside_the_writer-requires-send-F g c κs within =
     let feed = feed_send (param 0 g.row.N) g.N.LiveName c.type_bounds.send-N c.type_bounds.sync-N in
     let rt = c.type_bounds.sync-R in
     search (sendable, crosses) depth 20

@@ -2,7 +2,7 @@ use denote.Param.{param}
 use denote.Param.Send.{sendable}
 use Rattle.std.proofs.Crossing.{crosses}
 use Rattle.kv_bucket.proofs.Sent.{live_sync}
-use Rattle.kv_thread_tests.proofs.waiting.rounds.write_beside_two.Goals as goal
+use Rattle.kv_thread_tests.proofs.waiting.rounds.beside_a_follower.Goals as goal
 
 pub beside-requires-send-F : goal.beside-requires-send-F
 beside-requires-send-F g c κs within =
