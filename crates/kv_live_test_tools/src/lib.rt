@@ -4,17 +4,17 @@
 #![tactic(auto)]
 
 mod answers;
-mod batched;
-mod calls;
-mod moves;
+mod batch;
+mod calling;
+mod moving;
 mod opened;
 mod readers;
 mod sights;
 
 pub use answers::{Answer, Differs, on};
-pub use batched::batched;
-pub use calls::{Ask, Call, Step, calls, put_request, requests, steps};
-pub use moves::{FeedSight, Move, feed_of, feed_of_last, look_at, moves, stop};
+pub use batch::batched;
+pub use calling::{Ask, Call, Step, calls, put_request, requests, steps};
+pub use moving::{FeedSight, Move, feed_of, feed_of_last, look_at, moves, stop};
 pub use opened::{ClosingTest, OPENING, Opening, Test, open_bucket, run, run_closing, run_on};
 pub use readers::{both, last, reader_and_feed, shown_to, version};
 pub use sights::{Sight, look, look_through};

@@ -1,7 +1,7 @@
 //! The readers that a test is handed.
 
 use crate::answers::{Answer, on};
-use crate::moves::feed_of;
+use crate::moving::feed_of;
 use kv_bucket::{Feed, KvError, LiveName, Reader, Version};
 use kv_test_tools::once_more;
 use std::alloc::Global;
