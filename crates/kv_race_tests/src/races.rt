@@ -8,7 +8,6 @@ use kv_single::{Config, Filters, KvError, Options, Reply, Request, Start, Versio
 use kv_test_tools::{LATEST, once_more, put};
 use kv_watch::given;
 use std::alloc::Global;
-use std::fmt::Debug;
 use std::process::Abort;
 use std::sync::Wait;
 use std::test::Fail;
