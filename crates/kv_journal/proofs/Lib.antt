@@ -16,3 +16,6 @@ pub mod FewWrites
 pub mod Unrefused
 pub mod OtherKinds
 pub mod OnlyCheckpoint
+pub mod PassedOver
+pub mod StillRebuilt
+pub mod Retraced

@@ -1,1 +1,2 @@
 pub mod Redoes
+pub mod Rebuilt
