@@ -27,7 +27,7 @@ use Rattle.kv_durable.specs.declared.durable.Durable.{Durable}
 use Rattle.kv_durable.specs.declared.open.Found.{Found}
 use Rattle.kv_durable.specs.declared.error.DurableError.{DurableError}
 use Rattle.kv_durable.proofs.Readings.{opening_is}
-use Rattle.kv_durable.proofs.Starting.{none_before}
+use Rattle.kv_durable.proofs.Starting.{knows_fresh, no_checkpoint, none_before}
 
 -- a legal configuration is not refused
 pub legal_ok : (config : Configuration) → IsLegal config → configure config ≡ Ok config
@@ -133,7 +133,7 @@ IsGone has usable config seed old new found = (bytes : List ℕ) × (payloads : 
 module _ {F : Type 0} (has : F → List ℕ → List ℕ → Type 0) (usable : F → Bool) (config : Configuration) (seed : ℕ) (old mid new : F) (bytes : List ℕ)
     (are : (kept loose : List ℕ) → has old kept loose → bytes ≡ kept ++ loose) (same : (kept loose : List ℕ) → has old kept loose → has mid kept loose) (still : usable mid ≡ usable old) where
   pub begun_found : (r : Result Found DurableError) → bytes ≡ []
-      → IfOk r (λ found. Represents (empty config) found.bucket × (found.framing.seed ≡ seed) × (found.place ≡ length (beginning seed config)) × (found.dropped ≡ 0) × (found.checkpointed ≡ false) × (found.config.config ≡ config))
+      → IfOk r (λ found. Represents (empty config) found.bucket × (found.framing.seed ≡ seed) × (found.place ≡ length (beginning seed config)) × (found.dropped ≡ 0) × (found.checkpointed ≡ false) × (found.retraced ≡ true) × (found.config.config ≡ config))
       → OnOk r (usable mid ≡ true → has mid [] [] → has new (beginning seed config) []) → IfOk r (IsGone has usable config seed old new)
   begun_found (Err e) none ok file = tt
   begun_found (Ok found) none ok file =
@@ -143,8 +143,10 @@ module _ {F : Type 0} (has : F → List ℕ → List ℕ → Type 0) (usable : F
         [],
         [],
         record {
-          own = ok.5;
+          own = ok.6;
           plain = λ _. refl;
+          known = λ _. ok.5;
+          retraced = λ _. knows_fresh config found.checkpointed;
           represents = λ base b. subst (λ (acts : List Act). Represents (state_of config (acts ++ [])) found.bucket) (sym (none_before base b.stands)) ok.0;
           place = λ base b. ok.2 ∙ ap length (sym (whole base b found.framing.seed ok.1));
           new = λ _. (ok.1, refl, ok.3, refl, ok.4);
@@ -167,6 +169,8 @@ module _ {F : Type 0} (has : F → List ℕ → List ℕ → Type 0) (usable : F
         record {
           own = i.own;
           plain = i.tells.plain;
+          known = i.known;
+          retraced = i.retraced;
           represents = i.represents;
           place = i.place;
           new = λ none. absurd (some none);
@@ -231,35 +235,49 @@ empty_or_not : (bytes : List ℕ) → (bytes ≡ []) ⊎ (bytes ≡ [] → ⊥)
 empty_or_not [] = inl refl
 empty_or_not (x ∷ xs) = inr (λ e. absurd cc)
 
--- what was opened has read just the entries that were found
-pub has_read : {F : Type 0} (has : F → List ℕ → List ℕ → Type 0) (usable : F → Bool) (config : Configuration) (seed : ℕ) (old new : F) (found : Found) (durable : Durable F) (dropped : ℕ) → IsGone has usable config seed old new found
-    → found.checkpointed ≡ false → durable.bucket ≡ found.bucket → dropped ≡ found.dropped → durable.journal.framing ≡ found.framing → (usable old ≡ true → KeepsFound has usable new found durable)
-    → (entries : List Entry) × HasRead has usable config old entries durable dropped
+-- a new bucket is at what a file is at that has no checkpoint and no entry
+at_bare : {F : Type 0} (has : F → List ℕ → List ℕ → Type 0) (usable : F → Bool) (config : Configuration) (durable : Durable F) (base : Base) (entries : List Entry) → base ≡ fresh config → entries ≡ []
+    → (at : IsAt has usable (empty config) [] [] durable) → at.base ≡ fresh config → (there : IsAt has usable (state_of base.config (acts_before base ++ acts_of entries)) entries [] durable) × (there.base ≡ base)
+at_bare has usable config durable base entries bare none at based =
+    subst (λ (d : Base). (there : IsAt has usable (state_of d.config (acts_before d ++ acts_of entries)) entries [] durable) × (there.base ≡ d)) (sym bare)
+    (subst (λ (es : List Entry). (there : IsAt has usable (state_of config (acts_of es)) es [] durable) × (there.base ≡ fresh config)) (sym none) (at, based))
+
+-- what was opened has read just the entries that were found, behind what is known to stand before them
+pub has_read : {F : Type 0} (has : F → List ℕ → List ℕ → Type 0) (usable : F → Bool) (config : Configuration) (seed : ℕ) (old new : F) (found : Found) (durable : Durable F) (dropped : ℕ) (checkpointed : Bool) → IsGone has usable config seed old new found
+    → found.retraced ≡ true → durable.bucket ≡ found.bucket → dropped ≡ found.dropped → checkpointed ≡ found.checkpointed → durable.journal.framing ≡ found.framing → (usable old ≡ true → KeepsFound has usable new found durable)
+    → (base : Base) × (entries : List Entry) × (base.config ≡ config) × (checkpointed ≡ false → base ≡ fresh config) × HasRead has usable base old entries durable dropped
 unfolding opened_again
-has_read has usable config seed old new found durable dropped gone plain bucket told framing keeps =
+has_read {F} has usable config seed old new found durable dropped checkpointed gone retraced bucket told kind framing keeps =
     let entries = gone.2 in
     let is = gone.3 in
-    let b = is_fresh config gone.1 (is.plain plain) in (
+    let knows = is.retraced retraced in
+    let base = knows.0 in
+    let b = knows.1 in
+    let acts = acts_before base ++ acts_of entries in (
+      base,
       entries,
+      b.same,
+      (λ plain. knows.2 (sym kind ∙ plain)),
       (
-        subst (Represents (state_of config (acts_of entries))) (sym bucket) (is.represents (fresh config) b),
+        subst (Represents (state_of base.config acts)) (sym bucket) (subst (λ (c : Configuration). Represents (state_of c acts) found.bucket) (sym b.same) (is.represents base b)),
         (λ works kept loose h.
             let same : gone.0 ≡ kept ++ loose = gone.4 kept loose h in
-            let again = λ (some : gone.0 ≡ [] → ⊥). (opened_again has usable config seed new gone.0 gone.1 entries found durable dropped found.checkpointed some is bucket told refl framing (gone.5 works kept loose h) (keeps works)).each (fresh config) b in
-            let at : (at : IsAt has usable (state_of config (acts_of entries)) entries [] durable) × (at.base ≡ fresh config) =
+            let again = λ (some : gone.0 ≡ [] → ⊥). (opened_again has usable config seed new gone.0 gone.1 entries found durable dropped found.checkpointed some is bucket told refl framing (gone.5 works kept loose h) (keeps works)).each base b in
+            let bare : gone.0 ≡ [] → base ≡ fresh base.config = λ none. no_checkpoint base (b.stands ∙ (is.new none).3) in
+            let at : (at : IsAt has usable (state_of base.config acts) entries [] durable) × (at.base ≡ base) =
             elim (empty_or_not gone.0) [
               | inl none ↦
                   let n = (new_opened has usable config seed old new found durable dropped found.checkpointed gone works (from_empty has old kept loose (sym same ∙ none) h) bucket told refl framing (keeps works)).1 in
-                  subst (λ (es : List Entry). (at : IsAt has usable (state_of config (acts_of es)) es [] durable) × (at.base ≡ fresh config)) (sym (is.new none).1) (n.at, n.based)
+                  at_bare has usable config durable base entries (bare none ∙ ap fresh b.same) (is.new none).1 n.at n.based
               | inr some ↦ ((again some).at, (again some).based)
             ] in (
               at.0,
               at.1,
-              (λ empty. (is.new (same ∙ empty)).1),
+              (λ empty. ((is.new (same ∙ empty)).1, bare (same ∙ empty))),
               (λ some.
                   let read = is.read (λ e. some (sym same ∙ e)) in (
                     read.0,
-                    subst (λ (bs : List ℕ). IsReopened has usable (fresh config) bs entries read.0 durable dropped) same (again (λ e. some (sym same ∙ e))),
+                    subst (λ (bs : List ℕ). IsReopened has usable base bs entries read.0 durable dropped) same (again (λ e. some (sym same ∙ e))),
                   )),
             )),
       ),

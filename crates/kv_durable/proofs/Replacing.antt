@@ -5,9 +5,12 @@ use Rattle.kv_file.specs.declared.replace.ReplaceFault.{ReplaceFault}
 use Rattle.kv_file.specs.declared.replace.ReplaceFault.TheVariants.{Unchanged, Unknown}
 use Rattle.kv_frames.specs.Frames.{ArePayloads}
 use Rattle.kv_model.specs.Acceptance.{IsLawful}
+use Rattle.kv_model.specs.Acts.{Act}
 use Rattle.kv_model.specs.Configuration.{Configuration}
 use Rattle.kv_model.specs.State.{State}
 use Rattle.kv_single.specs.Held.{Represents}
+use Rattle.kv_store.specs.Standing.{StandsFor}
+use Rattle.kv_store.specs.Stored.{Stored}
 use Rattle.kv_journal.specs.Entries.{Entry}
 use Rattle.kv_durable.specs.Bases.{Base, IsLawfulBase, base_payloads, opening, opening_size, replaced_by}
 use Rattle.kv_durable.specs.Durables.{FitsInFrames, IsAt, IsNewFile, checkpoint_at}
@@ -112,6 +115,29 @@ module _ {F : Type 0} (has : F → List ℕ → List ℕ → Type 0) (usable : F
         → ((was base : Base) (ks ls : List Entry) → Keeps has usable was ks ls old.journal → bytes ≡ opening seed base → HasEntries has old.journal.framing.seed was ks ls file ⊎ HasEntries has seed base [] [] file)
         → HasEntries has old.journal.framing.seed at.base kept loose file ⊎ HasEntries has seed (checkpoint_at state) [] [] file
     left_there file seed bytes are on = on at.base (checkpoint_at state) kept loose at.keeps (bytes_are seed bytes are)
+
+  -- a version that is that of the bucket whose journal this is
+  module _ (was : Base) (kept loose : List Entry) (old : Journal F) (keeps : Keeps has usable was kept loose old) (acts : List Act) (version : Stored) (stands : StandsFor acts version) (same : version.config ≡ was.config) where
+    own_version : version.config ≡ old.config.config
+    own_version = same ∙ sym keeps.own
+
+    bytes_of : (seed : ℕ) (bytes : List ℕ) → ((as' : List Act) → StandsFor as' version → version.config ≡ old.config.config → bytes ≡ opening seed (replaced_by old.config.config as')) → bytes ≡ opening seed (replaced_by was.config acts)
+    bytes_of seed bytes are = subst (λ (c : Configuration). bytes ≡ opening seed (replaced_by c acts)) keeps.own (are acts stands own_version)
+
+    pub by_version : (new : Journal F) (seed : ℕ) (bytes : List ℕ) → ((as' : List Act) → StandsFor as' version → version.config ≡ old.config.config → bytes ≡ opening seed (replaced_by old.config.config as'))
+        → ((as' : List Act) → StandsFor as' version → version.config ≡ old.config.config → ArePayloads (base_payloads (replaced_by old.config.config as')))
+        → ((before base : Base) (ks ls : List Entry) → Keeps has usable before ks ls old → base.config ≡ before.config → IsLawfulBase base → ArePayloads (base_payloads base) → bytes ≡ opening seed base → Keeps has usable base [] [] new)
+        → Keeps has usable (replaced_by was.config acts) [] [] new
+    by_version new seed bytes are fit on =
+        let lawful = subst (λ (c : Configuration). IsLawful c acts) same stands.lawful in
+        let first = subst (λ (c : Configuration). ArePayloads (base_payloads (replaced_by c acts))) keeps.own (fit acts stands own_version) in
+        on was (replaced_by was.config acts) kept loose keeps refl lawful first (bytes_of seed bytes are)
+
+    pub left_by_version : (file : F) (seed named : ℕ) (bytes : List ℕ) → seed ≡ named → ((as' : List Act) → StandsFor as' version → version.config ≡ old.config.config → bytes ≡ opening seed (replaced_by old.config.config as'))
+        → ((before base : Base) (ks ls : List Entry) → Keeps has usable before ks ls old → bytes ≡ opening seed base → HasEntries has old.framing.seed before ks ls file ⊎ HasEntries has seed base [] [] file)
+        → HasEntries has old.framing.seed was kept loose file ⊎ HasEntries has named (replaced_by was.config acts) [] [] file
+    left_by_version file seed named bytes is are on =
+        subst (λ (n : ℕ). HasEntries has old.framing.seed was kept loose file ⊎ HasEntries has n (replaced_by was.config acts) [] [] file) is (on was (replaced_by was.config acts) kept loose keeps (bytes_of seed bytes are))
 
 pub by_fault : {P : Type 0} (fault : ReplaceFault) → (fault ≡ Unchanged → P) → (fault ≡ Unknown → P) → P
 by_fault Unchanged here there = here refl

@@ -1,5 +1,5 @@
 -- What stands before the entries of a file.
-use Rattle.std.proofs.Common.{◌≡◌, ℕ, true, false, List, [], ◌∷◌, ◌++◌, Option, Some, None, map, refl, sym, ap, ◌∙◌, subst}
+use Rattle.std.proofs.Common.{◌≡◌, ℕ, Bool, true, false, List, [], ◌∷◌, ◌++◌, Option, Some, None, map, refl, sym, ap, ◌∙◌, subst}
 use Rattle.std.specs.Prelude.{Result, Ok, Err, IfErr}
 use Rattle.std.proofs.lemmas.Bool.{true≢false}
 use Rattle.kv_frames.specs.Frames.{ArePayloads, Splits, frames, place_after}
@@ -11,8 +11,8 @@ use Rattle.kv_journal.specs.Checkpoints.{Checkpoint, checkpoint_of, checkpoint_p
 use Rattle.kv_journal.specs.Entries.{Entry, payloads_of}
 use Rattle.kv_journal.specs.Restored.{IsOnly, IsRestored}
 use Rattle.kv_journal.proofs.Restored.{stands_again}
-use Rattle.kv_durable.specs.Bases.{Base, IsBaseOf, acts_before, base_payloads}
-use Rattle.kv_durable.specs.Starts.{IsStarted}
+use Rattle.kv_durable.specs.Bases.{Base, IsBaseOf, KnowsBase, acts_before, base_payloads, fresh, replaced_by}
+use Rattle.kv_durable.specs.Starts.{BeginsWithActs, IsStarted}
 
 -- a checkpoint has a payload
 not_nothing : (c : Checkpoint) → checkpoint_payloads c ≡ [] → ⊥
@@ -37,9 +37,21 @@ none_before base none = by base.replaced none
     by None e = refl
     by (Some acts) e = absurd (not_nothing (checkpoint_of base.config acts) e)
 
+-- and no checkpoint
+pub no_checkpoint : (base : Base) → base_payloads base ≡ [] → base ≡ fresh base.config
+no_checkpoint base none = by base.replaced none
+  where
+    by : (replaced : Option (List Act)) → base_payloads (based base.config replaced) ≡ [] → based base.config replaced ≡ fresh base.config
+    by None e = refl
+    by (Some acts) e = absurd (not_nothing (checkpoint_of base.config acts) e)
+
+-- that of a file with no checkpoint is known
+pub knows_fresh : (config : Configuration) (checkpointed : Bool) → KnowsBase config [] checkpointed
+knows_fresh config checkpointed = (fresh config, record { same = refl; lawful = tt; stands = refl }, λ _. refl)
+
 pub plain_start : (config : Configuration) (seed at : ℕ) (bytes : List ℕ) (empty : Stored) → empty.config ≡ config → StandsFor [] empty
     → ((c : Checkpoint) (rest : List ℕ) → ArePayloads (checkpoint_payloads c) → bytes ≡ frames seed at (checkpoint_payloads c) ++ rest → ⊥)
-    → IsStarted config seed at bytes [] bytes (record { version = empty; place = at; checkpointed = false })
+    → IsStarted config seed at bytes [] bytes (record { version = empty; place = at; checkpointed = false; retraced = true })
 plain_start config seed at bytes empty same stands none = record {
   same = same;
   whole = refl;
@@ -47,6 +59,8 @@ plain_start config seed at bytes empty same stands none = record {
   place = refl;
   plain = λ _. refl;
   some = λ e _. true≢false (sym e);
+  known = λ _. refl;
+  retraced = λ _. knows_fresh config false;
   stands = λ base is. subst (λ (acts : List Act). StandsFor acts empty) (sym (none_before base is.stands)) stands;
   front = λ acts left lawful each whole. absurd (none (checkpoint_of config acts) left each whole);
   none = λ entries left splits. refl;
@@ -60,15 +74,22 @@ module _ (config : Configuration) (seed at : ℕ) (bytes : List ℕ) (legal : Is
       let same = only acts rest b.lawful (subst ArePayloads (sym b.stands) fit) (whole ∙ ap (λ (ps : List (List ℕ)). frames seed at ps ++ rest) (sym b.stands)) in
       stands_again config acts version legal b.lawful (subst (λ (d : Checkpoint). IsRestored config d version) (sym same) is)
 
-  pub restored_start : (version : Stored) (place : ℕ) → IsRestored config c version → place ≡ place_after at (checkpoint_payloads c)
-      → IsStarted config seed at bytes (checkpoint_payloads c) rest (record { version = version; place = place; checkpointed = true })
-  restored_start version place is there = record {
+  -- the acts that were found are such as the payloads stand in place of
+  knows_found : BeginsWithActs config seed at bytes → KnowsBase config (checkpoint_payloads c) true
+  knows_found f =
+      (replaced_by config f.0, record { same = refl; lawful = f.2; stands = ap checkpoint_payloads (only f.0 f.1 f.2 f.3 f.4) }, λ e. absurd (true≢false e))
+
+  pub restored_start : (version : Stored) (place : ℕ) (retraced : Bool) → (retraced ≡ true → BeginsWithActs config seed at bytes) → IsRestored config c version → place ≡ place_after at (checkpoint_payloads c)
+      → IsStarted config seed at bytes (checkpoint_payloads c) rest (record { version = version; place = place; checkpointed = true; retraced = retraced })
+  restored_start version place retraced found is there = record {
     same = is.same;
     whole = whole;
     fit = fit;
     place = there;
     plain = λ e. absurd (true≢false e);
     some = λ _. not_nothing c;
+    known = λ e. absurd (true≢false e);
+    retraced = λ e. knows_found (found e);
     stands = λ base b. over_bases config (λ (d : Base). IsBaseOf config (checkpoint_payloads c) d → StandsFor (acts_before d) version) (stands_for version is) base b.same b;
     front = λ acts left lawful each stands. ap checkpoint_payloads (only acts left lawful each stands);
     none = λ entries left splits. absurd (no_entries entries left splits);

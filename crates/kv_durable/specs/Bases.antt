@@ -1,5 +1,5 @@
 -- What the entries of a journal go on from.
-use Rattle.std.specs.Prelude.{◌≡◌, ℕ, List, [], ◌++◌, Option, None, Some, length, unwrap_or}
+use Rattle.std.specs.Prelude.{◌≡◌, ℕ, Bool, false, List, [], ◌++◌, Option, None, Some, length, unwrap_or}
 use Rattle.std.specs.Option.{option_map_or}
 use Rattle.kv_frames.specs.Frames.{frames}
 use Rattle.kv_model.specs.Acceptance.{IsLawful}
@@ -46,3 +46,8 @@ pub record IsBaseOf (config : Configuration) (payloads : List (List ℕ)) (base 
   pub same : base.config ≡ config
   pub lawful : IsLawfulBase base
   pub stands : base_payloads base ≡ payloads
+
+-- there is such a base: acts are known in whose place the checkpoint stands. Where there is no checkpoint, it is that of a file
+-- with none.
+abbrev pub KnowsBase : Configuration → List (List ℕ) → (checkpointed : Bool) → Type 0
+KnowsBase config payloads checkpointed = (base : Base) × IsBaseOf config payloads base × (checkpointed ≡ false → base ≡ fresh config)

@@ -9,7 +9,7 @@ use Rattle.kv_journal.specs.Header.{beginning}
 use Rattle.kv_journal.specs.Entries.{Entry, acts_of}
 use Rattle.kv_single.specs.Held.{Represents}
 use Rattle.kv_store.specs.Standing.{StandsFor}
-use Rattle.kv_durable.specs.Bases.{Base, IsBaseOf, acts_before, base_payloads, fresh, opening, replaced_by}
+use Rattle.kv_durable.specs.Bases.{Base, IsBaseOf, KnowsBase, acts_before, base_payloads, fresh, opening, replaced_by}
 use Rattle.kv_durable.specs.Durables.{IsAt, state_of}
 use Rattle.kv_durable.specs.Files.{Reads, file_of}
 use Rattle.kv_durable.specs.declared.durable.Durable.{Durable}
@@ -32,13 +32,15 @@ pub record IsNew {F : Type 0} (has : F → List ℕ → List ℕ → Type 0) (us
   pub based : at.base ≡ fresh config
   pub none : dropped ≡ 0
 
--- An opening has read these entries of a file with no checkpoint: the bucket is at the state of their acts. And whatever a usable
--- file had, all of them are on the disk: none, where it was empty; else those that are read of it, with a rest that was cut off.
-abbrev pub HasRead : {F : Type 0} → (F → List ℕ → List ℕ → Type 0) → (F → Bool) → Configuration → F → List Entry → Durable F → ℕ → Type 0
-HasRead has usable config file entries durable dropped = Represents (state_of config (acts_of entries)) durable.bucket
+-- An opening has read these entries of a file with this base: the bucket is at the state of its acts and of theirs. And whatever
+-- a usable file had, all of them are on the disk: none, and no checkpoint, where it was empty; else those that are read of it,
+-- with a rest that was cut off.
+abbrev pub HasRead : {F : Type 0} → (F → List ℕ → List ℕ → Type 0) → (F → Bool) → Base → F → List Entry → Durable F → ℕ → Type 0
+HasRead has usable base file entries durable dropped = Represents (state_of base.config (acts_before base ++ acts_of entries)) durable.bucket
     × (usable file ≡ true → (kept loose : List ℕ) → has file kept loose →
-    (at : IsAt has usable (state_of config (acts_of entries)) entries [] durable) × (at.base ≡ fresh config) × (kept ++ loose ≡ [] → entries ≡ [])
-    × ((kept ++ loose ≡ [] → ⊥) → (rest : List ℕ) × IsReopened has usable (fresh config) (kept ++ loose) entries rest durable dropped))
+    (at : IsAt has usable (state_of base.config (acts_before base ++ acts_of entries)) entries [] durable) × (at.base ≡ base)
+    × (kept ++ loose ≡ [] → (entries ≡ []) × (base ≡ fresh base.config))
+    × ((kept ++ loose ≡ [] → ⊥) → (rest : List ℕ) × IsReopened has usable base (kept ++ loose) entries rest durable dropped))
 
 -- What a failed opening leaves. Of a file with bytes these are left, and those that were on the disk are there, at least up to
 -- the end of what is read. An empty file has a beginning of what it was to begin with.
@@ -56,11 +58,13 @@ pub record TellsBase (config : Configuration) (bytes : List ℕ) (payloads : Lis
   pub front : (acts : List Act) (seed : ℕ) (left : List ℕ) → seed < 2 ^ 64 → IsLawful config acts → ArePayloads (base_payloads (replaced_by config acts)) →
       bytes ≡ opening seed (replaced_by config acts) ++ left → IsBaseOf config payloads (replaced_by config acts)
 
--- what was recovered of bytes: these entries, behind whatever the first payloads stand for
+-- what was recovered of bytes: these entries, behind whatever the first payloads stand for, which is known where it was retraced
 pub record IsRecovered (config : Configuration) (bytes : List ℕ) (payloads : List (List ℕ)) (entries : List Entry) (rest : List ℕ) (recovered : Recovered) : Type 0 where
   pub same : recovered.version.config ≡ config
   pub told : recovered.dropped ≡ length rest
   pub tells : TellsBase config bytes payloads recovered.checkpointed
+  pub known : recovered.checkpointed ≡ false → recovered.retraced ≡ true
+  pub retraced : recovered.retraced ≡ true → KnowsBase config payloads recovered.checkpointed
   pub reads : (base : Base) → IsBaseOf config payloads base → Reads base bytes recovered.framing.seed entries rest
   pub stands : (base : Base) → IsBaseOf config payloads base → StandsFor (acts_before base ++ acts_of entries) recovered.version
   pub place : (base : Base) → IsBaseOf config payloads base → recovered.place ≡ length (file_of recovered.framing.seed base entries)
@@ -78,6 +82,8 @@ pub record IsFoundIn (config : Configuration) (bytes : List ℕ) (payloads : Lis
   pub own : found.config.config ≡ config
   pub told : found.dropped ≡ length rest
   pub tells : TellsBase config bytes payloads found.checkpointed
+  pub known : found.checkpointed ≡ false → found.retraced ≡ true
+  pub retraced : found.retraced ≡ true → KnowsBase config payloads found.checkpointed
   pub reads : (base : Base) → IsBaseOf config payloads base → Reads base bytes found.framing.seed entries rest
   pub represents : (base : Base) → IsBaseOf config payloads base → Represents (state_of config (acts_before base ++ acts_of entries)) found.bucket
   pub place : (base : Base) → IsBaseOf config payloads base → found.place ≡ length (file_of found.framing.seed base entries)
@@ -87,6 +93,8 @@ pub record IsFoundIn (config : Configuration) (bytes : List ℕ) (payloads : Lis
 pub record IsFound (config : Configuration) (seed : ℕ) (bytes : List ℕ) (payloads : List (List ℕ)) (entries : List Entry) (found : Found) : Type 0 where
   pub own : found.config.config ≡ config
   pub plain : found.checkpointed ≡ false → payloads ≡ []
+  pub known : found.checkpointed ≡ false → found.retraced ≡ true
+  pub retraced : found.retraced ≡ true → KnowsBase config payloads found.checkpointed
   pub represents : (base : Base) → IsBaseOf config payloads base → Represents (state_of config (acts_before base ++ acts_of entries)) found.bucket
   pub place : (base : Base) → IsBaseOf config payloads base → found.place ≡ length (file_of found.framing.seed base entries)
   pub new : bytes ≡ [] → (found.framing.seed ≡ seed) × (entries ≡ []) × (found.dropped ≡ 0) × (payloads ≡ []) × (found.checkpointed ≡ false)

@@ -7,11 +7,17 @@ use Rattle.kv_model.specs.Configuration.{Configuration}
 use Rattle.kv_store.specs.Standing.{StandsFor}
 use Rattle.kv_journal.specs.Checkpoints.{checkpoint_of, checkpoint_payloads}
 use Rattle.kv_journal.specs.Entries.{Entry, payloads_of}
-use Rattle.kv_durable.specs.Bases.{Base, IsBaseOf, acts_before}
+use Rattle.kv_durable.specs.Bases.{Base, IsBaseOf, KnowsBase, acts_before}
 use Rattle.kv_durable.specs.declared.start.Started.{Started}
 
+-- the bytes, which lie at this place, begin with the checkpoint of lawful acts
+abbrev pub BeginsWithActs : Configuration → (seed at : ℕ) → (bytes : List ℕ) → Type 0
+BeginsWithActs config seed at bytes = (acts : List Act) × (rest : List ℕ) × IsLawful config acts × ArePayloads (checkpoint_payloads (checkpoint_of config acts))
+    × (bytes ≡ frames seed at (checkpoint_payloads (checkpoint_of config acts)) ++ rest)
+
 -- The bytes behind the configuration, which lie at this place, begin with a checkpoint of these payloads, or with none where
--- these are none. The version stands for the acts in whose place it stands, and entries begin behind it.
+-- these are none. The version stands for the acts in whose place it stands, and entries begin behind it. Where the start was
+-- retraced such acts are known.
 pub record IsStarted (config : Configuration) (seed at : ℕ) (bytes : List ℕ) (payloads : List (List ℕ)) (rest : List ℕ) (started : Started) : Type 0 where
   pub same : started.version.config ≡ config
   pub whole : bytes ≡ frames seed at payloads ++ rest
@@ -22,4 +28,6 @@ pub record IsStarted (config : Configuration) (seed at : ℕ) (bytes : List ℕ)
   pub stands : (base : Base) → IsBaseOf config payloads base → StandsFor (acts_before base) started.version
   pub front : (acts : List Act) (left : List ℕ) → IsLawful config acts → ArePayloads (checkpoint_payloads (checkpoint_of config acts)) →
       bytes ≡ frames seed at (checkpoint_payloads (checkpoint_of config acts)) ++ left → checkpoint_payloads (checkpoint_of config acts) ≡ payloads
+  pub known : started.checkpointed ≡ false → started.retraced ≡ true
+  pub retraced : started.retraced ≡ true → KnowsBase config payloads started.checkpointed
   pub none : (entries : List Entry) (left : List ℕ) → Splits seed at bytes (payloads_of entries) left → payloads ≡ []

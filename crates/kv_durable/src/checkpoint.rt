@@ -9,7 +9,7 @@ ghost use Rattle.kv_keys.specs.declared.error.KvError.TheVariants.{OutOfMemory};
 ghost use Rattle.kv_model.specs.Acts.{Act};
 ghost use Rattle.kv_model.specs.State.{State};
 ghost use Rattle.kv_store.specs.Standing.{StandsFor};
-ghost use Rattle.kv_durable.specs.Bases.{base_payloads, opening, replaced_by};
+ghost use Rattle.kv_durable.specs.Bases.{Base, base_payloads, opening, replaced_by};
 ghost use Rattle.kv_durable.specs.Durables.{FitsInFrames, IsAt, IsNewFile, IsRefusal, IsReplaced, checkpoint_at};
 ghost use Rattle.kv_durable.specs.Journals.{HasEntries, Keeps, is_stopped};
 ghost use Rattle.kv_durable.specs.declared.error.DurableError.TheVariants.{FileFault, Refused};
@@ -152,5 +152,49 @@ impl<F: JournalFile + Drop> Journal<F> {
         let place = bytes.len() as u64;
         let journal = Journal::new(file, other, config, place, self.appender.mode());
         Ok((journal, bytes))
+    }
+}
+
+impl<F: JournalFile> Journal<F> {
+    /// Replaces the file, where it lies in such a place, by one with this seed that has what the version stores, as
+    /// `Durable::checkpoint` does it of its bucket: for a layer that has the bucket and its journal side by side. The version is to
+    /// be that of the bucket whose journal this is. Choose the seed as for `Durable::checkpoint`.
+    ///
+    /// A fault before the new file takes the place of the old one leaves that in use, as `is_stopped` tells. After a fault whose
+    /// outcome is not known, nothing more is written.
+    pub fn replace_by_checkpoint<P>(
+        &mut self,
+        alloc: Global,
+        place: &P,
+        seed: u64,
+        version: &Version,
+    ) -> Result<(), DurableError>
+    where
+        F: ReplaceableFile<P>,
+        ensures ok { OnOk result ((was : Base) (kept loose : List Entry) (acts : List Act) → Keeps F.has F.usable was kept loose self.old →
+            StandsFor acts version.now → version.now.config ≡ was.config →
+            Keeps F.has F.usable (replaced_by was.config acts) [] [] self.new) }
+        ensures seed { OnOk result (self.new.framing.seed ≡ seed) }
+        ensures none { OnOk result (self.new.appender.waiting ≡ 0) }
+        ensures goes_on { OnErr result (is_stopped F.usable self.new ≡ false → (base : Base) (kept loose : List Entry) →
+            Keeps F.has F.usable base kept loose self.old → Keeps F.has F.usable base kept loose self.new) }
+        ensures left { OnErr result ((was : Base) (kept loose : List Entry) (acts : List Act) → Keeps F.has F.usable was kept loose self.old →
+            StandsFor acts version.now → version.now.config ≡ was.config →
+            HasEntries F.has self.old.framing.seed was kept loose self.new.appender.file
+            ⊎ HasEntries F.has seed (replaced_by was.config acts) [] [] self.new.appender.file) }
+        ensures refused { IfErr result (λ e. (x : AnError) → e ≡ Refused x → x ≡ OutOfMemory) }
+        ensures untouched { IfErr result (λ e. (x : AnError) → e ≡ Refused x → self.new ≡ self.old) }
+        ensures fault { IsErrOf result FileFault → (is_stopped F.usable self.old ≡ true)
+            ⊎ (F.faults self.old.appender.file < F.faults self.new.appender.file) }
+        ensures stopped { is_stopped F.usable self.old ≡ true → (result ≡ Err FileFault) × (self.new ≡ self.old) }
+        ensures no_other { IfErr result IsRefusal }
+        ensures same { OnErr result (self.new.framing ≡ self.old.framing) }
+        ensures sync { self.new.appender.sync ≡ self.old.appender.sync }
+    {
+        self.may_add()?;
+        let next = Framing::new(seed);
+        let bytes = file_of(alloc, &next, &self.config, version)?;
+        self.replace(place, next, bytes)?;
+        Ok(())
     }
 }

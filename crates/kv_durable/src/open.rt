@@ -13,7 +13,7 @@ ghost use Rattle.kv_model.specs.State.{empty};
 ghost use Rattle.kv_single.specs.Held.{Represents};
 ghost use Rattle.kv_durable.specs.Durables.{IsAt, IsRefusal, state_of};
 ghost use Rattle.kv_frames.specs.Frames.{ArePayloads};
-ghost use Rattle.kv_durable.specs.Bases.{Base, IsBaseOf, IsLawfulBase, acts_before, base_payloads};
+ghost use Rattle.kv_durable.specs.Bases.{Base, IsBaseOf, IsLawfulBase, acts_before, base_payloads, fresh};
 ghost use Rattle.kv_durable.specs.Files.{Reads, file_of};
 ghost use Rattle.kv_durable.specs.Journals.{CanFollow, Keeps};
 ghost use Rattle.kv_durable.specs.Openings.{HasRead, IsFound, IsFoundIn, IsNew, IsReopenedOn, LeavesBytes};
@@ -25,6 +25,7 @@ use crate::durable::{Durable, NotDone};
 use crate::error::DurableError;
 use crate::journal::Journal;
 use crate::recovery::recover;
+use crate::retrace::Retrace;
 use kv_file::{JournalFile, ReadFault, Sync};
 use kv_frames::Framing;
 use kv_journal::push_beginning;
@@ -41,6 +42,9 @@ pub struct Opened<F: JournalFile> {
     pub dropped: u64,
     /// Whether the file begins with a checkpoint. Then the bytes do not tell which acts that stands in place of.
     pub checkpointed: bool,
+    /// Whether acts are known that lead to what the file has: those of its entries, behind those in whose place its checkpoint,
+    /// if it has one, can stand.
+    pub retraced: bool,
 }
 
 // The bucket that a file was found to have, and how that goes on.
@@ -52,6 +56,7 @@ struct Found {
     place: u64,
     dropped: u64,
     checkpointed: bool,
+    retraced: bool,
 }
 
 fn read_all<F: JournalFile>(alloc: Global, file: &mut F) -> Result<Vec<u8>, DurableError>
@@ -103,7 +108,7 @@ fn begin_in<F: JournalFile>(
     requires { IsLegal config.now }
     ensures ok { IfOk result (λ found. Represents (empty config.now) found.bucket × (found.framing.seed ≡ seed)
         × (found.place ≡ length (beginning seed config.now)) × (found.dropped ≡ 0) × (found.checkpointed ≡ false)
-        × (found.config.config ≡ config.now)) }
+        × (found.retraced ≡ true) × (found.config.config ≡ config.now)) }
     ensures file { OnOk result (F.usable file.old ≡ true → F.has file.old [] [] → F.has file.new (beginning seed config.now) []) }
     ensures usable { OnOk result (F.usable file.new ≡ F.usable file.old) }
     ensures refused { IfErr result (λ e. (x : AnError) → e ≡ Refused x → Refuses x (configure config.now)) }
@@ -126,6 +131,7 @@ fn begin_in<F: JournalFile>(
         place,
         dropped: 0,
         checkpointed: false,
+        retraced: true,
     })
 }
 
@@ -136,6 +142,7 @@ fn go_on_in<F: JournalFile>(
     config: &Config,
     file: &mut F,
     bytes: &[u8],
+    retrace: Retrace,
 ) -> Result<Found, DurableError>
     requires short { length bytes.now < 2 ^ 63 }
     requires legal { IsLegal config.now }
@@ -159,7 +166,7 @@ fn go_on_in<F: JournalFile>(
     ensures never { IfErr result (λ e. (e ≢ FileBusy) × (e ≢ HasCheckpoint)) }
 {
     let own = OwnConfig::copy_of(alloc, config)?;
-    let recovered = recover(alloc, config, bytes)?;
+    let recovered = recover(alloc, config, bytes, retrace)?;
     file.cut(recovered.place)?;
     Ok(Found {
         bucket: Bucket::from_version(alloc, recovered.version),
@@ -168,6 +175,7 @@ fn go_on_in<F: JournalFile>(
         place: recovered.place,
         dropped: recovered.dropped,
         checkpointed: recovered.checkpointed,
+        retraced: recovered.retraced,
     })
 }
 
@@ -184,6 +192,7 @@ fn found_in<F: JournalFile>(
     config: &Config,
     file: &mut F,
     seed: u64,
+    retrace: Retrace,
 ) -> Result<Found, DurableError>
     ensures ok { IfOk result (λ found. (bytes : List ℕ) × (payloads : List (List ℕ)) × (entries : List Entry)
         × IsFound config.now seed bytes payloads entries found
@@ -214,13 +223,13 @@ fn found_in<F: JournalFile>(
     if has_none(text) {
         return begin_in(alloc, config, file, seed);
     }
-    go_on_in(alloc, config, file, text)
+    go_on_in(alloc, config, file, text, retrace)
 }
 
 // The bucket that was found, with its file.
 fn opened_of<F: JournalFile>(file: F, found: Found, sync: Sync) -> Opened<F>
     ensures parts { (result.durable.bucket ≡ found.bucket) × (result.dropped ≡ found.dropped)
-        × (result.checkpointed ≡ found.checkpointed) }
+        × (result.checkpointed ≡ found.checkpointed) × (result.retraced ≡ found.retraced) }
     ensures journal { (result.durable.journal.framing ≡ found.framing) × (result.durable.journal.appender.file ≡ file)
         × (result.durable.journal.appender.sync ≡ sync) }
     ensures keeps { (base : Base) (entries : List Entry) → found.framing.seed < 2 ^ 64 → found.config.config ≡ base.config →
@@ -235,12 +244,14 @@ fn opened_of<F: JournalFile>(file: F, found: Found, sync: Sync) -> Opened<F>
         place,
         dropped,
         checkpointed,
+        retraced,
     } = found;
     let journal = Journal::new(file, framing, config, place, sync);
     Opened {
         durable: Durable::from_parts(bucket, journal),
         dropped,
         checkpointed,
+        retraced,
     }
 }
 
@@ -251,18 +262,25 @@ impl<F: JournalFile> Durable<F> {
     /// place, and changes nothing. The bucket has no watches, and all that it has is on the disk.
     ///
     /// Of a file that begins with a checkpoint the bytes do not tell which acts that stands in place of: the bucket is at the
-    /// state of whatever lawful acts it is the checkpoint of, with those of the entries behind them.
+    /// state of whatever lawful acts it is the checkpoint of, with those of the entries behind them. With `Retrace::Yes` it looks
+    /// for such acts: it makes what the checkpoint has once more in memory, by real calls, and compares the checkpoint of that
+    /// with the file. It tells by `retraced` whether it has found some; then the bucket is at the state of lawful acts. It finds
+    /// none for a checkpoint that no bucket can have.
     ///
-    /// It reads the file once, into memory, and makes each act again. Nothing else is to write the file meanwhile.
+    /// It reads the file once, into memory, and makes each act again. To retrace a checkpoint takes about as long again as to
+    /// take it, and as much memory as what it stores, until the call has answered; of a file with no checkpoint it takes
+    /// nothing. Nothing else is to write the file meanwhile.
     pub fn open(
         alloc: Global,
         config: &Config,
         file: F,
         seed: u64,
         sync: Sync,
+        retrace: Retrace,
     ) -> Result<Opened<F>, NotDone<F>>
-        ensures represents { IfOk result (λ o. o.checkpointed ≡ false →
+        ensures represents { IfOk result (λ o. o.retraced ≡ true →
             (acts : List Act) × Represents (state_of config.now acts) o.durable.bucket) }
+        ensures plain { IfOk result (λ o. o.checkpointed ≡ false → o.retraced ≡ true) }
         ensures restored { IfOk result (λ o. (payloads : List (List ℕ)) × (entries : List Entry) × ((base : Base) →
             IsBaseOf config.now payloads base → Represents (state_of config.now (acts_before base ++ acts_of entries)) o.durable.bucket)) }
         ensures new { IfOk result (λ o. F.usable file ≡ true → F.has file [] [] →
@@ -270,8 +288,9 @@ impl<F: JournalFile> Durable<F> {
         ensures reopened { IfOk result (λ o. F.usable file ≡ true → (kept loose : List ℕ) → F.has file kept loose →
             (kept ++ loose ≡ [] → ⊥) →
             IsReopenedOn F.has F.usable config.now (kept ++ loose) o.durable o.dropped o.checkpointed) }
-        ensures read { IfOk result (λ o. o.checkpointed ≡ false → (entries : List Entry)
-            × HasRead F.has F.usable config.now file entries o.durable o.dropped) }
+        ensures read { IfOk result (λ o. o.retraced ≡ true → (base : Base) × (entries : List Entry) × (base.config ≡ config.now)
+            × (o.checkpointed ≡ false → base ≡ fresh config.now)
+            × HasRead F.has F.usable base file entries o.durable o.dropped) }
         ensures torn { IfOk result (λ _. (kept loose : List ℕ) → F.has file kept loose →
             (base : Base) (other : ℕ) (entries : List Entry) (rest : List ℕ) → base.config ≡ config.now →
             Reads base (kept ++ loose) other entries rest → ShowsDamage other (length (file_of other base entries)) rest → ⊥) }
@@ -292,7 +311,7 @@ impl<F: JournalFile> Durable<F> {
         ensures never { IfErr result (λ r. (r.error ≢ FileBusy) × (r.error ≢ HasCheckpoint)) }
     {
         let mut file = file;
-        match found_in(alloc, config, &mut file, seed) {
+        match found_in(alloc, config, &mut file, seed, retrace) {
             Ok(found) => Ok(opened_of(file, found, sync)),
             Err(error) => Err(NotDone { error, file }),
         }

@@ -19,6 +19,7 @@ ghost use Rattle.kv_durable.specs.Refusals.{IsDamaged};
 ghost use Rattle.kv_durable.specs.declared.error.DurableError.TheVariants.{FileBusy, FileFault, HasCheckpoint, OtherBucket, Refused};
 
 use crate::error::DurableError;
+use crate::retrace::Retrace;
 use crate::start::started_of;
 use kv_frames::Framing;
 use kv_journal::{BeginningError, Begun, ReplayError, Replayed, begin, replay, shows_damage};
@@ -40,6 +41,9 @@ pub struct Recovered {
     pub dropped: u64,
     /// Whether it begins with a checkpoint.
     pub checkpointed: bool,
+    /// Whether acts are known that lead to the version: those of its entries, behind those in whose place its checkpoint, if it
+    /// has one, can stand.
+    pub retraced: bool,
 }
 
 // What the bytes begin with.
@@ -102,8 +106,14 @@ fn replayed_of(
 /// bucket's, and an entry that cannot stand behind what is before it. It reads the bytes once, and makes each act again.
 ///
 /// Of a file that begins with a checkpoint the bytes do not tell which acts that stands in place of: whatever lawful acts it
-/// is the checkpoint of, the version stands for these, and those of the entries behind them.
-pub fn recover(alloc: Global, config: &Config, bytes: &[u8]) -> Result<Recovered, DurableError>
+/// is the checkpoint of, the version stands for these, and those of the entries behind them. With `Retrace::Yes` such acts are
+/// looked for, as [`Durable::open`](crate::Durable) does it.
+pub fn recover(
+    alloc: Global,
+    config: &Config,
+    bytes: &[u8],
+    retrace: Retrace,
+) -> Result<Recovered, DurableError>
     requires { length bytes.now < 2 ^ 63 }
     ensures ok { IfOk result (λ r. (payloads : List (List ℕ)) × (entries : List Entry) × (rest : List ℕ)
         × IsRecovered config.now bytes.now payloads entries rest r) }
@@ -120,9 +130,10 @@ pub fn recover(alloc: Global, config: &Config, bytes: &[u8]) -> Result<Recovered
     let empty = Version::empty(alloc, config)?;
     let begun = begun_of(alloc, bytes, config)?;
     let first = behind(bytes, begun.place);
-    let started = started_of(alloc, empty, config, &begun, first)?;
+    let started = started_of(alloc, empty, config, &begun, first, retrace)?;
     let start = started.place;
     let checkpointed = started.checkpointed;
+    let retraced = started.retraced;
     let entries = behind(bytes, start);
     let replayed = replayed_of(alloc, started.version, &begun.framing, start, entries)?;
     let place = replayed.place;
@@ -137,5 +148,6 @@ pub fn recover(alloc: Global, config: &Config, bytes: &[u8]) -> Result<Recovered
         place,
         dropped,
         checkpointed,
+        retraced,
     })
 }

@@ -1,6 +1,6 @@
 //! What stands before the entries of a file: a checkpoint, or nothing.
 
-ghost use Rattle.std.specs.Prelude.{◌≡◌, ◌≢◌, ◌+◌, ◌<◌, ◌^◌, ◌++◌, [], ℕ, List, false, true, length, IfErr, IfOk};
+ghost use Rattle.std.specs.Prelude.{◌≡◌, ◌≢◌, ◌+◌, ◌<◌, ◌^◌, ◌++◌, [], ℕ, List, false, true, length, Ok, IfErr, IfOk};
 ghost use Rattle.kv_frames.specs.Frames.{ArePayloads, Splits, frames};
 ghost use Rattle.kv_keys.specs.declared.error.KvError.{KvError as AnError};
 ghost use Rattle.kv_keys.specs.declared.error.KvError.TheVariants.{OutOfMemory};
@@ -8,24 +8,60 @@ ghost use Rattle.kv_journal.specs.Checkpoints.{checkpoint_of, checkpoint_payload
 ghost use Rattle.kv_journal.specs.Entries.{Entry, payloads_of};
 ghost use Rattle.kv_model.specs.Acceptance.{IsLawful};
 ghost use Rattle.kv_model.specs.Acts.{Act};
+ghost use Rattle.kv_model.specs.Configuration.{IsLegal};
 ghost use Rattle.kv_store.specs.Standing.{StandsFor};
 ghost use Rattle.kv_durable.specs.Refusals.{IsDamaged};
-ghost use Rattle.kv_durable.specs.Starts.{IsStarted};
+ghost use Rattle.kv_durable.specs.Starts.{BeginsWithActs, IsStarted};
 ghost use Rattle.kv_durable.specs.declared.error.DurableError.TheVariants.{FileBusy, FileFault, HasCheckpoint, OtherBucket, Refused};
 
 use crate::error::DurableError;
-use kv_journal::{Begun, ReplayError, begins_checkpoint, restore};
+use crate::retrace::Retrace;
+use kv_journal::{Begun, ReplayError, begins_checkpoint, restore, retrace};
 use kv_keys::KvError;
 use kv_model::Config;
 use kv_store::Version;
 use std::alloc::Global;
 
-/// The version before the first entry, where that begins, and whether a checkpoint stands before it.
+/// The version before the first entry, where that begins, whether a checkpoint stands before it, and whether acts are known
+/// that lead to it.
 #[derive(Drop)]
 pub(crate) struct Started {
     pub version: Version,
     pub place: u64,
     pub checkpointed: bool,
+    pub retraced: bool,
+}
+
+// Whether acts are found in whose place the checkpoint can stand that was restored of these bytes. It does not look for them
+// where that is not asked for.
+fn is_retraced(
+    alloc: Global,
+    config: &Config,
+    begun: &Begun,
+    restored: &Version,
+    bytes: &[u8],
+    asked: Retrace,
+) -> Result<bool, DurableError>
+    requires { IsLegal config.now }
+    ensures found { result ≡ Ok true → BeginsWithActs config.now begun.now.framing.seed begun.now.place bytes.now }
+    ensures err { IfErr result (λ e. e ≡ Refused OutOfMemory) }
+{
+    match asked {
+        Retrace::No => Ok(false),
+        Retrace::Yes => {
+            let empty = Version::empty(alloc, config)?;
+            let found = retrace(
+                alloc,
+                empty,
+                config,
+                &begun.framing,
+                restored,
+                begun.place,
+                bytes,
+            )?;
+            Ok(found)
+        }
+    }
 }
 
 // The version of the checkpoint that the bytes begin with.
@@ -35,6 +71,7 @@ fn restored_of(
     config: &Config,
     begun: &Begun,
     bytes: &[u8],
+    asked: Retrace,
 ) -> Result<Started, DurableError>
     requires stands { StandsFor [] empty }
     requires config { empty.config ≡ config.now }
@@ -49,11 +86,15 @@ fn restored_of(
     ensures err { IfErr result (λ e. (e ≢ FileFault) × (e ≢ FileBusy) × (e ≢ HasCheckpoint) × (e ≢ OtherBucket) × ((x : AnError) → e ≡ Refused x → x ≡ OutOfMemory)) }
 {
     match restore(alloc, empty, config, &begun.framing, begun.place, bytes) {
-        Ok(restored) => Ok(Started {
-            version: restored.version,
-            place: restored.place,
-            checkpointed: true,
-        }),
+        Ok(restored) => {
+            let retraced = is_retraced(alloc, config, begun, &restored.version, bytes, asked)?;
+            Ok(Started {
+                version: restored.version,
+                place: restored.place,
+                checkpointed: true,
+                retraced,
+            })
+        }
         Err(ReplayError::OutOfMemory) => Err(DurableError::Refused(KvError::OutOfMemory)),
         Err(ReplayError::Damaged { at }) => Err(DurableError::FileDamaged { at }),
     }
@@ -66,6 +107,7 @@ pub(crate) fn started_of(
     config: &Config,
     begun: &Begun,
     bytes: &[u8],
+    asked: Retrace,
 ) -> Result<Started, DurableError>
     requires stands { StandsFor [] empty }
     requires config { empty.config ≡ config.now }
@@ -80,11 +122,12 @@ pub(crate) fn started_of(
     ensures err { IfErr result (λ e. (e ≢ FileFault) × (e ≢ FileBusy) × (e ≢ HasCheckpoint) × (e ≢ OtherBucket) × ((x : AnError) → e ≡ Refused x → x ≡ OutOfMemory)) }
 {
     if begins_checkpoint(&begun.framing, begun.place, bytes) {
-        return restored_of(alloc, empty, config, begun, bytes);
+        return restored_of(alloc, empty, config, begun, bytes, asked);
     }
     Ok(Started {
         version: empty,
         place: begun.place,
         checkpointed: false,
+        retraced: true,
     })
 }

@@ -37,6 +37,7 @@ pub(crate) fn same_again(
         durable,
         dropped,
         checkpointed,
+        ..
     } = reopened(alloc, bucket.journal().file().kept())?;
     assert!(rt; checkpointed == has_checkpoint);
     equal(rt, dropped, 0);

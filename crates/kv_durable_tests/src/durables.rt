@@ -2,7 +2,7 @@
 
 use crate::equal::equal;
 use crate::twice::twice;
-use kv_durable::{BatchError, Durable, DurableError, Opened, Sync};
+use kv_durable::{BatchError, Durable, DurableError, Opened, Retrace, Sync};
 use kv_file::{JournalFile, MemoryFile, Torn};
 use kv_keys::KvError;
 use kv_model::{Config, Request};
@@ -14,7 +14,7 @@ use std::test::Fail;
 
 pub(crate) type Bucket = Durable<MemoryFile>;
 
-const SEED: u64 = 0x0123_4567_89AB_CDEF;
+pub(crate) const SEED: u64 = 0x0123_4567_89AB_CDEF;
 
 // How many steps there are.
 pub(crate) const STEPS: usize = 9;
@@ -30,7 +30,7 @@ pub(crate) fn opened(
     file: MemoryFile,
     sync: Sync,
 ) -> Result<Opened<MemoryFile>, DurableError> {
-    match Durable::open(alloc, &config(alloc)?, file, SEED, sync) {
+    match Durable::open(alloc, &config(alloc)?, file, SEED, sync, Retrace::No) {
         Ok(opened) => Ok(opened),
         Err(refused) => Err(refused.error),
     }
@@ -282,7 +282,7 @@ fn until_it_fails(
 ) -> Result<(MemoryFile, usize), DurableError> {
     let mut file = empty(alloc);
     file.fail_after(calls);
-    let mut bucket = match Durable::open(alloc, &config(alloc)?, file, SEED, sync) {
+    let mut bucket = match Durable::open(alloc, &config(alloc)?, file, SEED, sync, Retrace::No) {
         Ok(opened) => opened.durable,
         Err(refused) => return Ok((refused.file, 0)),
     };
@@ -405,7 +405,7 @@ fn another_bucket_is_told_once(rt: &impl Abort, alloc: Global) -> Result<(), Dur
     let mut config = config(alloc)?;
     config.history = 3;
     let file = MemoryFile::new(alloc, Vec::from_slice(alloc, &course.bytes)?);
-    match Durable::open(alloc, &config, file, SEED, Sync::Each) {
+    match Durable::open(alloc, &config, file, SEED, Sync::Each, Retrace::No) {
         Ok(_) => assert!(rt; false),
         Err(refused) => {
             let is_memory = refused.error == DurableError::Refused(KvError::OutOfMemory);

@@ -23,6 +23,8 @@ mod frames;
 #[cfg(test)]
 mod replaced;
 #[cfg(test)]
+mod retraced;
+#[cfg(test)]
 mod sample;
 #[cfg(test)]
 mod shrinking;

@@ -20,7 +20,7 @@ use crate::made::{Lent, Made};
 use crate::outbox::Outbox;
 use crate::ready::ready_end;
 use crate::request::{Limits, config_of};
-use kv_durable::{Durable, DurableError, Opened, Sync};
+use kv_durable::{Durable, DurableError, Opened, Retrace, Sync};
 use kv_frames::Framing;
 use kv_journal::push_beginning;
 use kv_single::{Config, KvError};
@@ -83,7 +83,14 @@ fn opened_of(
     ensures other { IfErr result (λ e. e ≡ OtherBucket → AreOfAnother config.now bytes.now) }
 {
     let found = Vec::from_slice(alloc, bytes)?;
-    match Durable::open(alloc, config, Outbox::of(found), seed, sync_of(sync)) {
+    match Durable::open(
+        alloc,
+        config,
+        Outbox::of(found),
+        seed,
+        sync_of(sync),
+        Retrace::No,
+    ) {
         Ok(opened) => Ok(opened),
         Err(refused) => Err(refused.error),
     }

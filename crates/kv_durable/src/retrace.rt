@@ -1,0 +1,10 @@
+//! What an opening is to find out of a checkpoint.
+
+/// Whether an opening retraces a checkpoint: looks for acts in whose place it can stand.
+#[derive(Clone, Copy, Debug, PartialEq, Eq)]
+pub enum Retrace {
+    /// It makes what the checkpoint has once more in memory, and compares.
+    Yes,
+    /// It takes what the checkpoint has, and asks no more.
+    No,
+}

@@ -1,0 +1,167 @@
+//! Tests of openings that retrace a checkpoint: acts are found that lead to it.
+
+use crate::checkpointed::NEXT_SEED;
+use crate::durables::{Bucket, SEED, STEPS, config, opened, step};
+use crate::equal::equal;
+use crate::twice::twice;
+use kv_durable::{Durable, DurableError, Opened, Retrace, Sync};
+use kv_file::MemoryFile;
+use kv_store::Version;
+use kv_test_tools::{delete, is_same_at, purge, put};
+use std::alloc::Global;
+use std::process::Abort;
+use std::test::Fail;
+
+const KEYS: &[&str] = &["app.port", "app.host", "app.name"];
+
+// Opens the bucket of these bytes, which keeps so many writes of each key.
+fn opened_with(
+    alloc: Global,
+    history: u64,
+    bytes: &[u8],
+    asked: Retrace,
+) -> Result<Opened<MemoryFile>, DurableError> {
+    let mut config = config(alloc)?;
+    config.history = history;
+    let file = MemoryFile::new(alloc, Vec::from_slice(alloc, bytes)?);
+    match Durable::open(alloc, &config, file, SEED, Sync::Each, asked) {
+        Ok(opened) => Ok(opened),
+        Err(refused) => Err(refused.error),
+    }
+}
+
+fn is_same(first: &Version, second: &Version) -> bool {
+    if first.status() != second.status() || first.floor() != second.floor() {
+        return false;
+    }
+    for revision in 0..first.revision() {
+        if !is_same_at(first, second, revision + 1) {
+            return false;
+        }
+    }
+    true
+}
+
+// Opens the file of a bucket once more, with these wishes, and compares.
+fn again(
+    rt: &impl Abort,
+    alloc: Global,
+    history: u64,
+    bucket: &Bucket,
+    asked: Retrace,
+) -> Result<Opened<MemoryFile>, DurableError> {
+    let second = opened_with(alloc, history, bucket.journal().file().kept(), asked)?;
+    equal(rt, second.dropped, 0);
+    assert!(rt; is_same(bucket.bucket().version(), second.durable.bucket().version()));
+    Ok(second)
+}
+
+// The checkpoint of a bucket is retraced where that is asked for, and not where it is not. The bucket is the same.
+fn is_retraced(
+    rt: &impl Abort,
+    alloc: Global,
+    history: u64,
+    bucket: &mut Bucket,
+) -> Result<(), DurableError> {
+    let plain = again(rt, alloc, history, bucket, Retrace::No)?;
+    assert!(rt; plain.retraced != plain.checkpointed);
+    bucket.checkpoint(&(), NEXT_SEED)?;
+    let without = again(rt, alloc, history, bucket, Retrace::No)?;
+    assert!(rt; without.checkpointed && !without.retraced);
+    let with = again(rt, alloc, history, bucket, Retrace::Yes)?;
+    assert!(rt; with.checkpointed && with.retraced);
+    Ok(())
+}
+
+// Puts, deletes and purges of three keys, and now and then a compaction to a few revisions back.
+fn turn(alloc: Global, bucket: &mut Bucket, number: u64) -> Result<(), DurableError> {
+    let key = KEYS[(number % 3) as usize];
+    if number % 10 == 9 {
+        let floor = bucket.bucket().version().revision().saturating_sub(4);
+        return bucket.compact(floor);
+    }
+    let request = match number % 7 {
+        3 => delete(alloc, key, None)?,
+        5 => purge(alloc, key, None)?,
+        _ => put(alloc, key, "80")?,
+    };
+    bucket.write(&request)?;
+    Ok(())
+}
+
+// Each checkpoint of a course is retraced, also where the file began with one, and where writes have ended.
+fn a_course_is_retraced(rt: &impl Abort, alloc: Global, history: u64) -> Result<(), DurableError> {
+    let mut bucket = opened_with(alloc, history, &[], Retrace::Yes)?.durable;
+    for number in 0..64u64 {
+        turn(alloc, &mut bucket, number)?;
+        is_retraced(rt, alloc, history, &mut bucket)?;
+    }
+    bucket.seal()?;
+    is_retraced(rt, alloc, history, &mut bucket)
+}
+
+fn each_course_is_retraced(rt: &impl Abort, alloc: Global) -> Result<(), DurableError> {
+    for history in [1u64, 2, 5] {
+        a_course_is_retraced(rt, alloc, history)?;
+    }
+    Ok(())
+}
+
+#[test]
+fn a_checkpoint_is_retraced(rt: HostRuntime) -> Result<(), Fail> {
+    Ok(twice(|| each_course_is_retraced(&rt, rt.alloc()))?)
+}
+
+// A bucket that stores little of many writes, before the compaction and behind it.
+fn a_gap_is_retraced(rt: &impl Abort, alloc: Global, writes: u64) -> Result<(), DurableError> {
+    let mut bucket = opened_with(alloc, 1, &[], Retrace::Yes)?.durable;
+    bucket.write(&put(alloc, "app.host", "kv")?)?;
+    bucket.write(&purge(alloc, "app.name", None)?)?;
+    for _ in 0..writes {
+        bucket.write(&put(alloc, "app.port", "80")?)?;
+    }
+    let floor = bucket.bucket().version().revision();
+    bucket.compact(floor)?;
+    is_retraced(rt, alloc, 1, &mut bucket)?;
+    bucket.write(&put(alloc, "app.name", "durable")?)?;
+    is_retraced(rt, alloc, 1, &mut bucket)
+}
+
+fn each_gap_is_retraced(rt: &impl Abort, alloc: Global) -> Result<(), DurableError> {
+    for writes in [1u64, 64, 1000] {
+        a_gap_is_retraced(rt, alloc, writes)?;
+    }
+    Ok(())
+}
+
+#[test]
+fn a_checkpoint_of_what_is_left_of_many_writes_is_retraced(rt: HostRuntime) -> Result<(), Fail> {
+    Ok(twice(|| each_gap_is_retraced(&rt, rt.alloc()))?)
+}
+
+// Entries behind a checkpoint that was retraced are read as they are without one.
+fn entries_go_on(rt: &impl Abort, alloc: Global, steps: usize) -> Result<(), DurableError> {
+    let mut bucket = opened(alloc, MemoryFile::new(alloc, Vec::new(alloc)), Sync::Each)?.durable;
+    for number in 0..steps {
+        step(alloc, &mut bucket, number)?;
+    }
+    bucket.checkpoint(&(), NEXT_SEED)?;
+    for number in steps..STEPS {
+        step(alloc, &mut bucket, number)?;
+        let with = again(rt, alloc, 2, &bucket, Retrace::Yes)?;
+        assert!(rt; with.checkpointed && with.retraced);
+    }
+    Ok(())
+}
+
+fn entries_go_on_behind_each(rt: &impl Abort, alloc: Global) -> Result<(), DurableError> {
+    for steps in 0..STEPS + 1 {
+        entries_go_on(rt, alloc, steps)?;
+    }
+    Ok(())
+}
+
+#[test]
+fn entries_go_on_behind_a_checkpoint_that_is_retraced(rt: HostRuntime) -> Result<(), Fail> {
+    Ok(twice(|| entries_go_on_behind_each(&rt, rt.alloc()))?)
+}
