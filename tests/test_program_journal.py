@@ -223,7 +223,7 @@ class Failing(ProgramJournal):
         self.addCleanup(room.cleanup)
         self.library = failing.library(room.name)
 
-    def fails_each(self, arguments: list[str], script: str, prepare: Callable[[], object], told: str = "") -> str:
+    def fails_each(self, arguments: list[str], script: str, prepare: Callable[[], object], told: str = "", may_go_on: bool = False) -> str:
         """Runs the script with each of its calls of the file failing in turn: what was answered has to be there in the end, and the
         whole is what a beginning of the script leads to. It gives the calls of a run in which none fails, and which is told so of the file."""
         states = [self.in_memory("".join(script.splitlines(keepends=True)[:lines]) + READS).splitlines()[-9:] for lines in range(len(script.splitlines()) + 1)]
@@ -237,8 +237,12 @@ class Failing(ProgramJournal):
                     with self.subTest(call=calls[at - 1], at=at, how=how, once=once):
                         prepare()
                         done = failing.ran(self.library, self.folder, ["--journal", self.file, *arguments], script.encode(), at, how, once)
-                        self.assertEqual(done.returncode, 1)
-                        self.assertIn(done.stderr.decode(), (FAULT, told + FAULT))
+                        if may_go_on and done.returncode == 0:
+                            # a checkpoint has failed, and the old file has all
+                            self.assertEqual((done.stdout, done.stderr), (whole.stdout, told.encode()))
+                        else:
+                            self.assertEqual(done.returncode, 1)
+                            self.assertIn(done.stderr.decode(), (FAULT, told + FAULT))
                         self.assertTrue(whole.stdout.startswith(done.stdout))
                         self.assertTrue(done.stdout == b"" or done.stdout.endswith(b"\n"))
                         answered = len(done.stdout.splitlines())
@@ -247,7 +251,7 @@ class Failing(ProgramJournal):
                             self.assertEqual(done.stdout, b"")
                             self.run_on(READS, wanted=1, faults="kvbucket: FileDamaged at byte 0\n")
                             continue
-                        again = subprocess.run([path, "--journal", self.file], input=READS.encode(), capture_output=True, timeout=120)
+                        again = subprocess.run([path, "--journal", self.file, *arguments], input=READS.encode(), capture_output=True, timeout=120)
                         self.assertEqual(again.returncode, 0, again.stderr)
                         # a line more may have been done than was answered
                         self.assertIn(again.stdout.decode().splitlines(), states[answered:])
@@ -360,7 +364,7 @@ class Dumped(ProgramJournal):
         self.dumped(faults="kvbucket: left out 5 bytes at the end of %s\n" % self.file)
 
 
-class DumpedBehindACheckpoint(ProgramJournal):
+class BehindACheckpoint(ProgramJournal):
     # What is stored behind these: of a, whose history is longer than what is kept, the last two puts, of b nothing, and all that
     # came behind the floor.
     SCRIPT = "put a MQ==\nput b Mg==\nput a Mw==\ndelete b\nput a NQ==\ncompact 4\ndelete c\nput d -\npurge d\n"
@@ -403,7 +407,67 @@ class DumpedBehindACheckpoint(ProgramJournal):
     def test_a_checkpoint_that_is_no_buckets_is_damage(self) -> None:
         self.run_on("", "--history", "2")
         self.put_data(journal.checkpointed(self.data(), self.STORED, 8, 9, 4, False))
-        self.check("numbers", ["--dump", self.file, "--history", "2"], 1, faults="kvbucket: FileDamaged at byte ", exact=False)
+        for option in ("--dump", "--journal"):
+            self.check(option, [option, self.file, "--history", "2"], 1, faults="kvbucket: FileDamaged at byte ", exact=False)
+
+    def test_runs_go_on_behind_it(self) -> None:
+        reads = "history a\nhistory b\nhistory c\nhistory d\nkeys >\nget a 3\nget a 1\nget d\nstatus\nwatch > from=5\ntake 1 9\n"
+        more = "put b Ng==\nupdate a 3 -\nupdate a 5 Nw==\ncompact 4\ncompact 6\nbatch 2\nput e -\ndelete b\n"
+        whole = self.in_memory(self.SCRIPT + reads + more, "--history", "2").splitlines()[self.SCRIPT.count("\n"):]
+        before = self.in_memory(self.SCRIPT + more, "--history", "2")
+        again = self.in_memory(self.SCRIPT + more + reads, "--history", "2")[len(before):].splitlines()
+        self.begin()
+        checkpoint = self.data()
+        self.assertEqual(self.run_on(reads + more, "--history", "2").splitlines(), whole)
+        for _ in range(2):
+            self.assertEqual(self.run_on(reads, "--history", "2").splitlines(), again)
+        self.assertTrue(self.data().startswith(checkpoint))
+        behind = [entry for entry in self.kept()[len(self.STORED) + 1:] if entry[0] != "closed"]
+        self.assertEqual(behind, [("put", "b", b"6"), ("put", "a", b"7"), ("compact", 4), ("compact", 6), ("batch", [("put", "e", b""), ("delete", "b", b"")])])
+
+    def test_a_run_finds_that_writes_have_ended(self) -> None:
+        self.begin(True)
+        self.assertEqual(self.run_on("put a MQ==\nstatus\n", "--history", "2"), "".join(
+            self.in_memory(self.SCRIPT + "seal\nput a MQ==\nstatus\n", "--history", "2").splitlines(True)[-2:]))
+
+    def test_a_run_drops_a_torn_end(self) -> None:
+        self.begin()
+        whole = self.data()
+        self.put_data(whole + bytes(7))
+        self.run_on("", "--history", "2", faults="kvbucket: dropped 7 bytes at the end of %s\n" % self.file)
+        self.assertTrue(self.data().startswith(whole))
+        self.assertEqual(self.run_on("get a\n", "--history", "2"), self.in_memory(self.SCRIPT + "get a\n", "--history", "2").splitlines(True)[-1])
+
+    def test_one_that_no_acts_lead_to_is_refused(self) -> None:
+        # every write above the floor is stored, and this one is not
+        lost = [write for write in self.STORED if write[0] != 7]
+        self.run_on("", "--history", "2")
+        self.put_data(journal.checkpointed(self.data(), lost, 8, 4, 4, False))
+        before = self.data()
+        self.assertEqual(self.run_on("put a MQ==\n", "--history", "2", wanted=1, faults="kvbucket: HasCheckpoint\n"), "")
+        self.assertEqual(self.data(), before)
+
+
+class Shrinking(Failing):
+    # twelve writes of one key, of which one is kept
+    SCRIPT = "".join("put a %s\n" % word(b"value %d" % i) for i in range(1, 13)) + "compact 11\nput b MQ==\nseal\n"
+
+    def test_a_compaction_replaces_the_file(self) -> None:
+        for when in ("each", "3", "close"):
+            with self.subTest(when):
+                self.away()
+                self.run_on(self.SCRIPT.replace("compact 11\n", ""), "--sync", when)
+                long = len(self.data())
+                self.away()
+                self.assertEqual(self.run_on(self.SCRIPT, "--sync", when), self.in_memory(self.SCRIPT))
+                self.assertLess(2 * len(self.data()), long)
+                self.assertFalse(os.path.exists(self.file + ".checkpoint"))
+                self.assertEqual(self.run_on(READS), self.in_memory(self.SCRIPT + READS)[len(self.in_memory(self.SCRIPT)):])
+
+    def test_each_call_may_fail(self) -> None:
+        calls = self.fails_each([], self.SCRIPT, self.away, may_go_on=True)
+        # synced before it is renamed, and the folder behind
+        self.assertIn("wsnos", calls)
 
 
 if __name__ == "__main__":

@@ -2,6 +2,7 @@
 use Rattle.std.proofs.Common.{◌≡◌, ℕ, Bool, true, false, cond, List, [], ◌∷◌, ◌++◌, Option, Some, None, Result, Ok, Err, refl, sym, ap, ◌∙◌, subst, inl, inr, append-nil}
 use Rattle.std.specs.Prelude.{IfErr, IfOk, IsErrOf, IsOk, OnErr, OnOk}
 use Rattle.kv_keys.specs.declared.error.KvError.{KvError}
+use Rattle.kv_model.specs.Acts.{IsPrefix}
 use Rattle.kv_model.specs.Given.{Item}
 use Rattle.kv_model.specs.State.{State, Watch, after, after_item, after_stop, after_take, add_watch, has_room, next_of, open_at, opened}
 use Rattle.kv_model.specs.declared.call.Call.TheVariants as calls
@@ -18,6 +19,7 @@ use Rattle.kv_durable.specs.declared.error.DurableError.TheVariants.{Refused, Fi
 use Rattle.kv_durable.specs.declared.error.BatchError.{BatchError}
 use Rattle.kv_durable.specs.declared.error.BatchError.TheVariants as batches
 use Rattle.kv_model.specs.declared.batch.BatchRefused.{BatchRefused}
+use Rattle.kv_durable.proofs.Living.{more_acts}
 use Rattle.kv_durable.proofs.Recording.{added_kept, all_added}
 use Rattle.kv_keys.specs.declared.error.KvError.TheVariants.{OutOfMemory}
 use Rattle.kv_model.specs.Answers.{Answer}
@@ -85,10 +87,12 @@ module _ {F : Type 0} (has : F → List ℕ → List ℕ → Type 0) (usable : F
       → new.journal ≡ old.journal → KeepsOn has usable old new
   watches_on later old new step late same = λ base state kept loose has_kept. record {
     later = later state;
+    later_base = base;
     on_disk = kept;
     behind = loose;
-    grown = ([], append-nil kept);
-    whole = ([], append-nil (kept ++ loose));
+    grown = ([], append-nil (acts_before base ++ acts_of kept));
+    whole = ([], append-nil (acts_before base ++ acts_of (kept ++ loose)));
+    based = inl (refl, ([], append-nil kept), ([], append-nil (kept ++ loose)));
     sync = rw same refl;
     each = λ each none. none;
     has_kept = record {
@@ -117,12 +121,16 @@ module _ {F : Type 0} (has : F → List ℕ → List ℕ → Type 0) (usable : F
       | inl keeps ↦
           let there = recorded state kept loose (record { base = base; config = has_kept.config; represents = has_kept.represents; acts = has_kept.acts; keeps = keeps }) in
           let entries = told_next old.journal (told state) in
+          let first = added_kept kept loose entries there.0 there.1 there.2 in
+          let all : IsPrefix (kept ++ loose) (there.0 ++ there.1) = (entries, sym (all_added kept loose entries there.0 there.1 there.2)) in
           record {
             later = later state;
+            later_base = base;
             on_disk = there.0;
             behind = there.1;
-            grown = added_kept kept loose entries there.0 there.1 there.2;
-            whole = (entries, sym (all_added kept loose entries there.0 there.1 there.2));
+            grown = more_acts (acts_before base) kept there.0 first;
+            whole = more_acts (acts_before base) (kept ++ loose) (there.0 ++ there.1) all;
+            based = inl (refl, first, all);
             sync = same;
             each = λ each none. there.3 each;
             has_kept = record {
@@ -137,15 +145,17 @@ module _ {F : Type 0} (has : F → List ℕ → List ℕ → Type 0) (usable : F
 
     -- the file failed
     pub handed_on : IsHanded has usable told old new → new.bucket ≡ old.bucket → is_stopped usable new.journal ≡ true → (is_stopped usable old.journal ≡ true → new ≡ old)
-        → (new.journal.framing ≡ old.journal.framing) × (new.journal.appender.sync ≡ old.journal.appender.sync) → KeepsOn has usable old new
+        → new.journal.appender.sync ≡ old.journal.appender.sync → KeepsOn has usable old new
     handed_on handed bucket stops stopped same = λ base state kept loose has_kept. elim has_kept.file [
       | inl keeps ↦ record {
         later = state;
+        later_base = base;
         on_disk = kept;
         behind = loose;
-        grown = ([], append-nil kept);
-        whole = ([], append-nil (kept ++ loose));
-        sync = same.1;
+        grown = ([], append-nil (acts_before base ++ acts_of kept));
+        whole = ([], append-nil (acts_before base ++ acts_of (kept ++ loose)));
+        based = inl (refl, ([], append-nil kept), ([], append-nil (kept ++ loose)));
+        sync = same;
         each = λ each none. none;
         has_kept = record {
           config = has_kept.config;
@@ -154,8 +164,9 @@ module _ {F : Type 0} (has : F → List ℕ → List ℕ → Type 0) (usable : F
           file = inr (
             stops,
             (
+              old.journal.framing.seed,
               told_next old.journal (told state),
-              rw same.0 (handed state kept loose (record { base = base; config = has_kept.config; represents = has_kept.represents; acts = has_kept.acts; keeps = keeps })),
+              handed state kept loose (record { base = base; config = has_kept.config; represents = has_kept.represents; acts = has_kept.acts; keeps = keeps }),
             ),
           );
         };
@@ -167,8 +178,8 @@ module _ {F : Type 0} (has : F → List ℕ → List ℕ → Type 0) (usable : F
     pub called_on : {X : Type 0} (result : Result X DurableError) → OnOk result (IsRecorded has usable later told old new) → IfErr result (λ e. (x : KvError) → e ≡ Refused x → new ≡ old)
         → OnErr result (new.bucket ≡ old.bucket) → OnErr result (IsHanded has usable told old new) → (IsErrOf result FileFault → is_stopped usable new.journal ≡ true)
         → (is_stopped usable old.journal ≡ true → (result ≡ Err FileFault) × (new ≡ old)) → IfErr result IsRefusal
-        → (new.journal.framing ≡ old.journal.framing) × (new.journal.appender.sync ≡ old.journal.appender.sync) → KeepsOn has usable old new
-    called_on {X} (Ok x) recorded untouched bucket handed stops stopped no_other same = recorded_on recorded (λ is. let no : ⊥ = cc (stopped is).0 in no) same.1
+        → new.journal.appender.sync ≡ old.journal.appender.sync → KeepsOn has usable old new
+    called_on {X} (Ok x) recorded untouched bucket handed stops stopped no_other same = recorded_on recorded (λ is. let no : ⊥ = cc (stopped is).0 in no) same
     called_on {X} (Err (Refused e)) recorded untouched bucket handed stops stopped no_other same = same_on old new (untouched e refl)
     called_on {X} (Err FileFault) recorded untouched bucket handed stops stopped no_other same = handed_on handed bucket (stops refl) (λ is. (stopped is).1) same
     called_on {X} (Err (FileDamaged at)) recorded untouched bucket handed stops stopped no_other same = absurd no_other
@@ -182,11 +193,11 @@ module _ {F : Type 0} (has : F → List ℕ → List ℕ → Type 0) (usable : F
           → IfErr result (λ e. (x : BatchRefused) → e ≡ batches.Refused x → new ≡ old)
           → OnErr result (new.bucket ≡ old.bucket) → OnErr result (IsHanded has usable told old new) → (IsErrOf result batches.FileFault → is_stopped usable new.journal ≡ true)
           → ((requests ≡ [] → ⊥) → is_stopped usable old.journal ≡ true → (result ≡ Err batches.FileFault) × (new ≡ old))
-          → (new.journal.framing ≡ old.journal.framing) × (new.journal.appender.sync ≡ old.journal.appender.sync) → KeepsOn has usable old new
+          → new.journal.appender.sync ≡ old.journal.appender.sync → KeepsOn has usable old new
       batched_on {X} result none recorded untouched bucket handed stops stopped same = by requests refl
         where
           some : (ws : List R) (r : Result X BatchError) → result ≡ r → (requests ≡ [] → ⊥) → KeepsOn has usable old new
-          some ws (Ok x) is filled = recorded_on (subst (λ (r : Result X BatchError). OnOk r ((requests ≡ [] → ⊥) → IsRecorded has usable later told old new)) is recorded filled) (λ stop. let no : ⊥ = cc ((stopped filled stop).0, is) in no) same.1
+          some ws (Ok x) is filled = recorded_on (subst (λ (r : Result X BatchError). OnOk r ((requests ≡ [] → ⊥) → IsRecorded has usable later told old new)) is recorded filled) (λ stop. let no : ⊥ = cc ((stopped filled stop).0, is) in no) same
           some ws (Err (batches.Refused e)) is filled = same_on old new (subst (λ (r : Result X BatchError). IfErr r (λ e. (x : BatchRefused) → e ≡ batches.Refused x → new ≡ old)) is untouched e refl)
           some ws (Err batches.FileFault) is filled =
               handed_on (subst (λ (r : Result X BatchError). OnErr r (IsHanded has usable told old new)) is handed) (subst (λ (r : Result X BatchError). OnErr r (new.bucket ≡ old.bucket)) is bucket) (stops is)

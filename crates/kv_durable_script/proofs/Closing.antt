@@ -39,7 +39,7 @@ module _ {F : Type 0} (has : F → List ℕ → List ℕ → Type 0) (usable : F
       → (at : IsAt has usable state kept loose first) → ClosesBehind has usable form at.base state kept loose unread left first file
   closes form state kept loose unread left first last file on goes closed ends at =
       let more = on at.base state kept loose (record { config = at.config; represents = at.represents; acts = at.acts; file = inl at.keeps }) in
-      let there = at_of at.base more.later more.on_disk more.behind last goes more.has_kept in
+      let there = at_of more.later_base more.later more.on_disk more.behind last goes more.has_kept in
       record {
         last = last;
         more = more;
@@ -60,7 +60,7 @@ module _ {F : Type 0} (has : F → List ℕ → List ℕ → Type 0) (usable : F
         more = more;
         answered = left_at;
         file_has = λ goes.
-            let there = at_of at.base more.later more.on_disk more.behind last goes more.has_kept in
+            let there = at_of more.later_base more.later more.on_disk more.behind last goes more.has_kept in
             subst (λ (b : Base). HasEnded has b more.on_disk more.behind more.later.acts last.journal file) there.1 (ended more.later more.on_disk more.behind there.0);
       }
 

@@ -1,4 +1,5 @@
 pub mod Called
+pub mod Checkpointed
 pub mod Ends
 pub mod Closing
 pub mod Telling

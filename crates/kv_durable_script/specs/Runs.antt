@@ -56,7 +56,7 @@ HasEnded has base kept loose acts journal file =
 pub record ClosesBehind {F : Type 0} (has : F → List ℕ → List ℕ → Type 0) (usable : F → Bool) (form : Form) (base : Base) (state : State) (kept loose : List Entry) (unread left : Option (List ℕ)) (first : Durable F) (file : F) : Type 0 where
   pub last : Durable F
   pub more : KeepsMore has usable base first kept loose last
-  pub closed : IsClosed has base more.on_disk more.behind more.later.acts last.journal file
+  pub closed : IsClosed has more.later_base more.on_disk more.behind more.later.acts last.journal file
   pub input : List ℕ
   pub read : Consumes unread left input
   pub answered : Represents (state_behind form (outside state) input) last.bucket
@@ -69,4 +69,4 @@ pub record KeepsAnswered {F : Type 0} (has : F → List ℕ → List ℕ → Typ
   pub last : Durable F
   pub more : KeepsMore has usable base first kept loose last
   pub answered : LeftAt form (outside state) unread left held holds last.bucket
-  pub file_has : is_stopped usable last.journal ≡ false → HasEnded has base more.on_disk more.behind more.later.acts last.journal file
+  pub file_has : is_stopped usable last.journal ≡ false → HasEnded has more.later_base more.on_disk more.behind more.later.acts last.journal file

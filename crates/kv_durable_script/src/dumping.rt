@@ -21,7 +21,7 @@ ghost use Rattle.kv_durable_script.specs.inside.Dumpable.{CanDumpEntry};
 
 use crate::lines::push_entry;
 use crate::stored::write_stored;
-use kv_durable::{DurableError, recover};
+use kv_durable::{DurableError, Retrace, recover};
 use kv_frames::Framing;
 use kv_journal::begin;
 use kv_keys::KvError;
@@ -145,7 +145,7 @@ pub fn dump<K: Output>(
     ensures no_fault { IfErr result (λ e. (e ≢ FileFault) × (e ≢ FileBusy) × (e ≢ HasCheckpoint)) }
 {
     config.check()?;
-    let recovered = recover(alloc, config, bytes)?;
+    let recovered = recover(alloc, config, bytes, Retrace::No)?;
     if recovered.checkpointed {
         write_stored(alloc, &recovered.version, sink)?;
         return Ok(recovered.dropped);

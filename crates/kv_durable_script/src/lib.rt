@@ -5,12 +5,15 @@ mod dumping;
 pub mod laws;
 mod lines;
 mod running;
+mod shrinking;
 mod stored;
 mod target;
 
 pub use dumping::dump;
 pub use kv_durable::{
-    Durable, DurableError, JournalFile, NotDone, OpenFault, Opened, Sync, SystemFile,
+    Durable, DurableError, JournalFile, NotDone, OpenFault, Opened, ReplaceableFile, Retrace, Sync,
+    SystemFile, SystemPlace,
 };
 pub use running::{Finished, run_durable};
+pub use shrinking::{Compacts, InPlace, Replacing};
 pub use target::OnDurable;

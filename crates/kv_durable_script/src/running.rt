@@ -12,6 +12,7 @@ ghost use Rattle.kv_durable.specs.Endings.{IsClosed};
 ghost use Rattle.kv_durable.specs.declared.error.DurableError.TheVariants.{Refused};
 ghost use Rattle.kv_durable_script.specs.Runs.{ClosesBehind, EndsBy, HasEnded, IsOutcome, IsUnclosed, KeepsAnswered};
 
+use crate::shrinking::Compacts;
 use crate::target::OnDurable;
 use kv_durable::{Durable, DurableError};
 use kv_file::JournalFile;
@@ -64,11 +65,15 @@ fn close<F: JournalFile>(durable: Durable<F>, run: Result<(), DurableError>) -> 
 /// answers to all lines that are known so far are written before more is asked for. Where the file fails the run ends, behind the
 /// answers to the lines before.
 ///
+/// Compactions are made as `compaction` has it: with [`Replacing`](crate::Replacing) one that makes the file much smaller replaces
+/// it, so that a script can bound it.
+///
 /// A file that begins with a checkpoint is run on as any other. The run then begins at the state of the acts in whose place that
 /// stands, whatever lawful acts these are, and of the entries behind it.
-pub fn run_durable<F: JournalFile, S: BoundedInput, K: Output>(
+pub fn run_durable<F: JournalFile, C: Compacts<F> + Drop, S: BoundedInput, K: Output>(
     alloc: Global,
     durable: Durable<F>,
+    compaction: C,
     source: &mut S,
     sink: &mut K,
     form: Form,
@@ -94,7 +99,13 @@ pub fn run_durable<F: JournalFile, S: BoundedInput, K: Output>(
     ensures read_fault { IsErrOf result.result (Refused ReadFault) → S.failed_between source.old source.new }
     ensures write_fault { IsErrOf result.result (Refused WriteFault) → K.failed_between sink.old sink.new }
 {
-    let Ended { target, result } = run_on(alloc, OnDurable::new(durable), source, sink, form);
+    let Ended { target, result } = run_on(
+        alloc,
+        OnDurable::new(durable, compaction),
+        source,
+        sink,
+        form,
+    );
     let is_stopped = target.durable().journal().is_stopped();
     close(target.into_durable(), outcome_of(result, is_stopped))
 }

@@ -3,6 +3,7 @@
 ghost use Rattle.std.specs.Prelude.{◌≡◌};
 ghost use Rattle.kv_durable_script.specs.Keeping.{batch_told_as, told_as};
 
+use crate::shrinking::Compacts;
 use kv_durable::{BatchError, Durable, DurableError};
 use kv_file::JournalFile;
 use kv_keys::{Filters, KvError};
@@ -13,16 +14,20 @@ use kv_single::Bucket;
 /// A durable bucket that a script runs on. A call that its file refuses is answered as one that could not be made;
 /// whether the file has failed its journal tells.
 #[derive(Drop)]
-pub struct OnDurable<F: JournalFile> {
+pub struct OnDurable<F: JournalFile, C> {
     durable: Durable<F>,
+    compaction: C,
 }
 
-impl<F: JournalFile> OnDurable<F> {
-    /// The bucket, to run a script on.
-    pub fn new(durable: Durable<F>) -> OnDurable<F>
+impl<F: JournalFile, C: Drop> OnDurable<F, C> {
+    /// The bucket, to run a script on that is compacted so.
+    pub fn new(durable: Durable<F>, compaction: C) -> OnDurable<F, C>
         ensures { result.durable ≡ durable }
     {
-        OnDurable { durable }
+        OnDurable {
+            durable,
+            compaction,
+        }
     }
 
     /// The bucket.
@@ -36,7 +41,10 @@ impl<F: JournalFile> OnDurable<F> {
     pub fn into_durable(self) -> Durable<F>
         ensures { result ≡ self.durable }
     {
-        let OnDurable { durable } = self;
+        let OnDurable {
+            durable,
+            compaction: _,
+        } = self;
         durable
     }
 }
@@ -64,7 +72,7 @@ fn batch_refusal_of(error: BatchError) -> BatchRefused
     }
 }
 
-impl<F: JournalFile> Target for OnDurable<F> {
+impl<F: JournalFile, C: Compacts<F> + Drop> Target for OnDurable<F, C> {
     ghost use Rattle.kv_durable_script.specs.Keeping.{KeepsOn, keeps_on_itself, keeps_on_later};
 
     ghost bucket = { λ k. k.durable.bucket };
@@ -97,7 +105,7 @@ impl<F: JournalFile> Target for OnDurable<F> {
     }
 
     fn compact(&mut self, floor: u64) -> Result<(), KvError> {
-        match self.durable.compact(floor) {
+        match self.compaction.compact(&mut self.durable, floor) {
             Ok(()) => Ok(()),
             Err(error) => Err(refusal_of(error)),
         }

@@ -9,14 +9,18 @@ use Rattle.clap.specs.Walk.{Text}
 use Rattle.kv_keys.specs.Outcome.{Refuses}
 use Rattle.kv_keys.specs.declared.error.KvError.{KvError}
 use Rattle.kv_keys.specs.declared.error.KvError.TheVariants.{OutOfMemory, BadBucket, BadConfig, BadKey, BadFilter, OptionsClash, ValueTooLarge, Sealed, JournalFull, KeyExists, WrongLastRevision, KeyNotFound, NoSuchWatch, TooManyWatches, NoReader, BadCommand, ReadFault, WriteFault, BadFloor, WatchBehind, Lagged}
+use Rattle.kv_model.specs.Acts.{Act}
 use Rattle.kv_model.specs.Configuration.{Configuration, IsLegal, configure}
 use Rattle.kv_script.specs.declared.form.Form.{Form}
 use Rattle.kv_replay.specs.Faults.{IsWriteOrMemory}
 use Rattle.kv_replay.proofs.Ending.{by_cause}
 use Rattle.kv_replay.proofs.Progress.{starts}
+use Rattle.kv_replay.specs.Sessions.{outside}
+use Rattle.kv_durable.specs.Durables.{state_of}
 use Rattle.kv_durable.specs.Refusals.{IsDamaged}
 use Rattle.kv_durable.specs.declared.error.DurableError.{DurableError}
 use Rattle.kv_durable.specs.declared.error.DurableError.TheVariants.{FileBusy, FileDamaged, FileFault, HasCheckpoint, OtherBucket, Refused}
+use Rattle.kv_durable_script.specs.Runs.{EndsBy}
 use Rattle.kv_durable_script.specs.Scripts.{CanBeScript, IsScript}
 use Rattle.kv_durable_script.proofs.Scripting.{can_be_script}
 use Rattle.kv_run.specs.Arguments.{Wanted, is_in_memory}
@@ -89,7 +93,7 @@ unbegun_read config e legal why = elim why [
   | inr fault ↦ unbegun_fault config e legal fault
 ]
 
--- the file begins with a checkpoint
+-- the file begins with a checkpoint for which no acts are known
 pub unbegun_checkpoint : (config : Configuration) (e : DurableError) → IsLegal config → e ≡ HasCheckpoint → IsUnbegun config e
 unbegun_checkpoint config e legal is = subst (λ (e : DurableError). IsUnbegun config e) (sym is) legal
 
@@ -242,18 +246,24 @@ module _ (wanted : Wanted) (unread left held holds : Option (List ℕ)) (Same Re
   abbrev Ends : DurableError → Type 0
   Ends e = EndsOnFile wanted unread left held holds Same ReaderFailed WriterFailed Still Torn e
 
-  -- damage is found before anything is read or written
-  damaged_unbegun : (e : DurableError) → IsDamaged e → Ends e → Same × Still
-  damaged_unbegun (FileDamaged at) damaged ends = elim ends [
-    | inl nothing ↦ nothing.1
+  -- by an error that ends neither a run nor a dump, nothing was begun
+  never_begun : (e : DurableError) → ((acts : List Act) → EndsBy wanted.form (outside (state_of wanted.config acts)) unread left held holds e → ⊥)
+      → ¬ (e ≡ Refused OutOfMemory) → ¬ (e ≡ Refused WriteFault) → Ends e → IsUnbegun wanted.config e × (Same × Still)
+  never_begun e no_run no_memory no_write ends = elim ends [
+    | inl nothing ↦ nothing
     | inr other ↦ elim other [
-      | inl run ↦ absurd run.2.0.0.3
+      | inl run ↦ absurd (no_run run.2.0.0.1 run.2.0.0.3)
       | inr dump ↦ absurd (elim dump.4.0.1 [
-        | inl memory ↦ let no : ⊥ = cc memory in no
-        | inr write ↦ let no : ⊥ = cc write.0 in no
+        | inl memory ↦ no_memory memory
+        | inr write ↦ no_write write.0
       ])
     ]
   ]
+
+  -- damage is found before anything is read or written
+  damaged_unbegun : (e : DurableError) → IsDamaged e → Ends e → Same × Still
+  damaged_unbegun (FileDamaged at) damaged ends =
+      (never_begun (FileDamaged at) (λ acts run. run) (λ memory. let no : ⊥ = cc memory in no) (λ write. let no : ⊥ = cc write in no) ends).1
   damaged_unbegun (Refused error) damaged ends = absurd damaged
   damaged_unbegun FileFault damaged ends = absurd damaged
   damaged_unbegun FileBusy damaged ends = absurd damaged
@@ -264,28 +274,14 @@ module _ (wanted : Wanted) (unread left held holds : Option (List ℕ)) (Same Re
   IsOfConfiguration e = (error : KvError) × (e ≡ Refused error) × (configure wanted.config ≡ Err error) × (Same × Still)
 
   bad_bucket : Ends (Refused BadBucket) → IsOfConfiguration (Refused BadBucket)
-  bad_bucket ends = elim ends [
-    | inl nothing ↦ (BadBucket, refl, nothing.0, nothing.1)
-    | inr other ↦ elim other [
-      | inl run ↦ absurd run.2.0.0.3
-      | inr dump ↦ absurd (elim dump.4.0.1 [
-        | inl memory ↦ let no : ⊥ = cc memory in no
-        | inr write ↦ let no : ⊥ = cc write.0 in no
-      ])
-    ]
-  ]
+  bad_bucket ends =
+      let nothing = never_begun (Refused BadBucket) (λ acts run. run) (λ memory. let no : ⊥ = cc memory in no) (λ write. let no : ⊥ = cc write in no) ends in
+      (BadBucket, refl, nothing.0, nothing.1)
 
   bad_config : Ends (Refused BadConfig) → IsOfConfiguration (Refused BadConfig)
-  bad_config ends = elim ends [
-    | inl nothing ↦ (BadConfig, refl, nothing.0, nothing.1)
-    | inr other ↦ elim other [
-      | inl run ↦ absurd run.2.0.0.3
-      | inr dump ↦ absurd (elim dump.4.0.1 [
-        | inl memory ↦ let no : ⊥ = cc memory in no
-        | inr write ↦ let no : ⊥ = cc write.0 in no
-      ])
-    ]
-  ]
+  bad_config ends =
+      let nothing = never_begun (Refused BadConfig) (λ acts run. run) (λ memory. let no : ⊥ = cc memory in no) (λ write. let no : ⊥ = cc write in no) ends in
+      (BadConfig, refl, nothing.0, nothing.1)
 
   -- an error with the status 2 is a refusal of the configuration
   pub of_configuration : (e : DurableError) → file_status e ≡ 2 → Ends e → IsOfConfiguration e

@@ -1,10 +1,10 @@
 //! The program on a bucket in a file, and the script of a file.
 
-ghost use Rattle.std.specs.Prelude.{◌≡◌, ◌⊎◌, ◌≤◌, ◌<◌, ◌+◌, ◌^◌, ℕ, List, false, None, Some, Ok, IfErr, IfOk, OnErr, OnOk, codes, length};
+ghost use Rattle.std.specs.Prelude.{◌≡◌, ◌⊎◌, ◌≤◌, ◌<◌, ◌+◌, ◌^◌, ℕ, List, true, None, Some, Ok, IfErr, IfOk, OnErr, OnOk, codes, length};
 ghost use Rattle.std.specs.Io.KnownBytes.{Appends};
 ghost use Rattle.kv_keys.specs.declared.error.KvError.TheVariants.{OutOfMemory};
 ghost use Rattle.kv_model.specs.Acts.{Act};
-ghost use Rattle.kv_model.specs.Configuration.{IsLegal, configure};
+ghost use Rattle.kv_model.specs.Configuration.{Configuration, IsLegal, configure};
 ghost use Rattle.kv_single.specs.Held.{Represents};
 ghost use Rattle.kv_replay.specs.declared.streams.TheConstants.{READ_CALLS};
 ghost use Rattle.kv_durable.specs.Durables.{state_of};
@@ -18,7 +18,8 @@ use crate::arguments::Arguments;
 use crate::clashes::{accuse, clash, when_of};
 use crate::telling::{fail, tell_torn};
 use kv_durable_script::{
-    Durable, DurableError, Finished, Opened, Sync as When, SystemFile, dump, run_durable,
+    Durable, DurableError, Finished, Opened, Replacing, Retrace, Sync as When, SystemFile,
+    SystemPlace, dump, run_durable,
 };
 use kv_keys::KvError;
 use kv_model::Config;
@@ -50,18 +51,19 @@ fn seed<T: RandomSource>(rt: &T) -> Result<u64, DurableError>
     }
 }
 
-/// What was opened, where its file begins with no checkpoint.
-fn without_checkpoint(opened: Opened<SystemFile>) -> Result<Opened<SystemFile>, DurableError>
-    ensures ok { IfOk result (λ o. (o ≡ opened) × (opened.checkpointed ≡ false)) }
+/// What was opened, where acts are known that lead to what its file has.
+fn with_acts(opened: Opened<SystemFile>) -> Result<Opened<SystemFile>, DurableError>
+    ensures ok { IfOk result (λ o. (o ≡ opened) × (opened.retraced ≡ true)) }
     ensures err { IfErr result (λ e. e ≡ HasCheckpoint) }
 {
-    if opened.checkpointed {
+    if !opened.retraced {
         return Err(DurableError::HasCheckpoint);
     }
     Ok(opened)
 }
 
-/// Opens the bucket of a file, which is made if it isn't there. One that begins with a checkpoint is refused.
+/// Opens the bucket of a file, which is made if it isn't there. One that begins with a checkpoint for which no acts are found is
+/// refused.
 fn open<T: Files<File = File> + RandomSource>(
     rt: &T,
     alloc: Global,
@@ -75,13 +77,21 @@ fn open<T: Files<File = File> + RandomSource>(
 {
     let seed = seed(rt)?;
     let file = SystemFile::open(rt, path)?;
-    match Durable::open(alloc, config, file, seed, when) {
-        Ok(opened) => without_checkpoint(opened),
+    match Durable::open(alloc, config, file, seed, when, Retrace::Yes) {
+        Ok(opened) => with_acts(opened),
         Err(refused) => Err(refused.error),
     }
 }
 
-/// Runs the script of the reader on the bucket of a file.
+/// The path of the file that a checkpoint is written to: beside the one whose place it takes, as from C.
+fn path_beside(alloc: Global, path: &str) -> Result<String, DurableError>
+    ensures { IfErr result (λ e. (config : Configuration) → IsUnbegun config e) }
+{
+    let next = format!(in alloc; "{path}.checkpoint")?;
+    Ok(next)
+}
+
+/// Runs the script of the reader on the bucket of a file. A compaction that makes the file much smaller replaces it.
 fn run<T: Files<File = File> + RandomSource, R: Input, W: Output, F: Output>(
     rt: &T,
     alloc: Global,
@@ -104,17 +114,28 @@ fn run<T: Files<File = File> + RandomSource, R: Input, W: Output, F: Output>(
         ⊎ F.failed_between faults.old faults.new }
 {
     let config = legal_config(alloc, arguments)?;
+    let next = path_beside(alloc, path)?;
     let when = when_of(arguments.sync()).unwrap_or(When::Each);
     let Opened {
         durable,
         dropped,
-        checkpointed: _,
+        ..
     } = open(rt, alloc, &config, path, when)?;
     tell_torn(alloc, dropped, "dropped", path, faults)?;
     let mut source = Bounded::new(reader, READ_CALLS);
+    let place = SystemPlace {
+        rt,
+        path,
+        next: next.as_str(),
+    };
+    let replacing = Replacing {
+        place: &place,
+        seeds: rt,
+    };
     let Finished { file: _, result } = run_durable(
         alloc,
         durable,
+        replacing,
         &mut source,
         writer,
         arguments.form(),

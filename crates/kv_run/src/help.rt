@@ -17,7 +17,8 @@ Options:
                             and show each watch from its beginning
       --text                values are text: in a line all that stands behind the space, in an answer a JSON string
       --journal FILE        keep the bucket in FILE, which is made if it isn't there: each answer to a write, a seal or a
-                            compaction comes after its record
+                            compaction comes after its record; a compaction that leaves FILE more than twice too large
+                            replaces it by what is stored: it writes FILE.checkpoint, and renames it
       --sync WHEN           when records are brought onto the disk: each one before its answer, so many at a time and at
                             the end, or only at the end: each, a number from 1, or close [each]
       --dump FILE           write the commands that make the bucket of FILE anew, and read no script
@@ -56,7 +57,7 @@ Exit status, and what to do:
      FileDamaged            the file was changed from outside, or is no journal: take a copy that is whole
      FileBusy               another process has the file: wait for its end
      OtherBucket            the file has another name, history or limit: give the options that it was made with
-     HasCheckpoint          the file begins with a checkpoint: a program that uses the library opens it
+     HasCheckpoint          no writes are found that lead to the file's checkpoint: a program that uses the library opens it
   2  BadBucket, BadConfig   the name, or a number, is not as the options say: give another
      and other faults       an argument is unknown, twice there, or has no such value: standard error shows which
 

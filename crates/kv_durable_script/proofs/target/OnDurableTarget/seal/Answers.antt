@@ -14,7 +14,7 @@ returns-in-Ok-clause-same g c =
 pub returns-in-Err-clause-same : goal.returns-in-Err-clause-same
 returns-in-Err-clause-same g c =
     called_on g.F.JournalFile.has g.F.JournalFile.usable (λ state. after state calls.Seal) (λ _. did Seal ∷ []) _ _ (Err c.in-Err.error) tt c.in-Err.ensures.untouched c.in-Err.ensures.unchanged c.in-Err.ensures.handed c.in-Err.ensures.stops c.in-Err.ensures.stopped
-    c.in-Err.ensures.no_other c.in-Err.ensures.same
+    c.in-Err.ensures.no_other c.in-Err.ensures.same.1
 
 pub returns-in-Err-clause-err : goal.returns-in-Err-clause-err
 returns-in-Err-clause-err g c = c.refusal_of.ensures ∙ only_memory c.in-Err.error c.in-Err.ensures.refused

@@ -16,7 +16,7 @@ returns-in-Ok-clause-same g c =
 pub returns-in-Err-clause-same : goal.returns-in-Err-clause-same
 returns-in-Err-clause-same g c =
     called_on g.F.JournalFile.has g.F.JournalFile.usable (λ state. after state (calls.Write c.args.request.now)) (λ state. map did (act_of (accept state.config (asked c.args.request.now) state.acts))) _ _ (Err c.in-Err.error) tt c.in-Err.ensures.untouched c.in-Err.ensures.unchanged c.in-Err.ensures.handed c.in-Err.ensures.stops c.in-Err.ensures.stopped
-    c.in-Err.ensures.no_other c.in-Err.ensures.same
+    c.in-Err.ensures.no_other c.in-Err.ensures.same.1
 
 pub returns-in-Err-clause-refused : goal.returns-in-Err-clause-refused
 returns-in-Err-clause-refused g c = λ other state r.
