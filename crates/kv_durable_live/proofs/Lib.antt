@@ -2,3 +2,4 @@ pub mod Living
 pub mod Accepting
 pub mod Opening
 pub mod Sent
+pub mod Checkpointing

@@ -1,44 +1,87 @@
 -- What an opening of what was read goes on from.
-use Rattle.std.proofs.Common.{◌≡◌, ℕ, Bool, true, List, [], ◌++◌, Result, Ok, Err, refl, sym, ap, ◌∙◌, subst, append-nil}
+use Rattle.std.proofs.Common.{◌≡◌, ◌⊎◌, ℕ, Bool, true, false, List, [], ◌∷◌, ◌++◌, Result, Ok, Err, refl, sym, ap, ◌∙◌, subst, append-nil, inl, inr}
 use Rattle.std.specs.Prelude.{IfOk}
 use Rattle.kv_bucket.specs.Keeping as keeping
 use Rattle.kv_bucket.specs.Keeping.{KeeperState}
-use Rattle.kv_durable.specs.Bases.{Base, fresh}
+use Rattle.kv_durable.specs.Bases.{Base, acts_before, fresh}
 use Rattle.kv_durable.specs.Durables.{state_of}
 use Rattle.kv_durable.specs.Files.{Reads}
 use Rattle.kv_durable.specs.Journals.{Keeps}
+use Rattle.kv_durable.specs.Openings.{HasRead, IsReopenedOn}
 use Rattle.kv_durable.specs.declared.durable.Durable.{Durable}
 use Rattle.kv_durable.specs.declared.journal.Journal.{Journal}
-use Rattle.kv_durable_live.specs.Openings.{AreRead, GoesOnFrom}
+use Rattle.kv_durable_live.specs.Openings.{AreRead, GoesOnFrom, IsRead}
 use Rattle.kv_durable_live.specs.Sharing.{IsAt}
 use Rattle.kv_journal.specs.Entries.{Entry, acts_of}
 use Rattle.kv_model.specs.Acts.{Act}
 use Rattle.kv_model.specs.Configuration.{Configuration}
+use Rattle.kv_single.specs.Held.{Represents}
 
 pub both_ok : {X E : Type 0} (r : Result X E) (P Q R : X → Type 0) → ((x : X) → P x → Q x → R x) → IfOk r P → IfOk r Q → IfOk r R
 both_ok (Ok x) P Q R f p q = f x p q
 both_ok (Err e) P Q R f p q = tt
 
+none_or_some : (bytes : List ℕ) → (bytes ≡ []) ⊎ (bytes ≡ [] → ⊥)
+none_or_some [] = inl refl
+none_or_some (b ∷ bs) = inr (λ e. absurd cc)
+
+-- a base is fresh where the file has no checkpoint, which is told of it
+fresh_or : (checkpointed : Bool) (P : Type 0) → (checkpointed ≡ false → P) → (checkpointed ≡ true → ⊥) → P
+fresh_or false P plain never = plain refl
+fresh_or true P plain never = absurd (never refl)
+
 module _ {F : Type 0} (has : F → List ℕ → List ℕ → Type 0) (usable : F → Bool) (config : Configuration) where
+  -- what an opening has read, by what it tells
+  pub is_read : (file : F) (base : Base) (entries : List Entry) (durable : Durable F) (dropped : ℕ) (checkpointed : Bool) → base.config ≡ config → (checkpointed ≡ false → base ≡ fresh config) → HasRead has usable base file entries durable dropped
+      → (usable file ≡ true → (kept loose : List ℕ) → has file kept loose → (kept ++ loose ≡ [] → ⊥) → IsReopenedOn has usable config (kept ++ loose) durable dropped checkpointed)
+      → IsRead has usable config file base entries durable dropped
+  is_read file base entries durable dropped checkpointed own plain read again = record {
+    own = own;
+    read = read;
+    plain = λ works kept loose h seed es rest reads.
+        elim (none_or_some (kept ++ loose)) [
+          | inl none ↦ ((read.1 works kept loose h).2 none).1 ∙ ap fresh own
+          | inr some ↦
+              let tells = (again works kept loose h some).tells in
+              fresh_or checkpointed (base ≡ fresh config) plain (λ is. tells.some is (sym (tells.read (fresh config) seed es rest refl reads).stands))
+        ];
+  }
+
+  pub represents_read : (file : F) (durable : Durable F) (dropped : ℕ) (acts : List Act) → AreRead has usable config file durable dropped acts → Represents (state_of config acts) durable.bucket
+  represents_read file durable dropped acts read =
+      let before = acts_before read.0 ++ acts_of read.1 in
+      subst (λ (as' : List Act). Represents (state_of config as') durable.bucket) (sym read.2) (subst (λ (c : Configuration). Represents (state_of c before) durable.bucket) read.3.own read.3.read.0)
+
   pub goes_on_from : (file : F) (durable : Durable F) (dropped : ℕ) (journal : Journal F) (began acts : List Act) → AreRead has usable config file durable dropped acts → journal ≡ durable.journal → began ≡ acts → GoesOnFrom has usable config file journal began
   goes_on_from file durable dropped journal began acts read same is = λ works kept loose h.
-      let entries = read.0 in
-      let all = read.1.1.1 works kept loose h in (
+      let base = read.0 in
+      let entries = read.1 in
+      let there = read.3 in
+      let all = there.read.1 works kept loose h in (
+        base,
         entries,
-        is ∙ read.1.0,
-        subst (Keeps has usable (fresh config) entries []) (sym same) (subst (λ (b : Base). Keeps has usable b entries [] durable.journal) all.1 all.0.keeps),
-        all.2,
-        (λ some. let again = all.3 some in (again.0, subst (λ (j : Journal F). Reads (fresh config) (kept ++ loose) j.framing.seed entries again.0) (sym same) again.1.reads)),
+        there.own,
+        is ∙ read.2,
+        subst (Keeps has usable base entries []) (sym same) (subst (λ (b : Base). Keeps has usable b entries [] durable.journal) all.1 all.0.keeps),
+        (λ none. ((all.2 none).0, (all.2 none).1 ∙ ap fresh there.own)),
+        (λ some. let again = all.3 some in (again.0, subst (λ (j : Journal F). Reads base (kept ++ loose) j.framing.seed entries again.0) (sym same) again.1.reads)),
+        there.plain works kept loose h,
       )
 
   pub new_from : (file : F) (journal : Journal F) (acts : List Act) → GoesOnFrom has usable config file journal acts → usable file ≡ true → has file [] [] → Keeps has usable (fresh config) [] [] journal × (acts ≡ [])
   new_from file journal acts from works h =
       let there = from works [] [] h in
-      let none : there.0 ≡ [] = there.3 refl in
-      (subst (λ (es : List Entry). Keeps has usable (fresh config) es [] journal) none there.2, there.1 ∙ ap acts_of none)
+      let none = there.5 refl in (
+        subst (λ (b : Base). Keeps has usable b [] [] journal) none.1 (subst (λ (es : List Entry). Keeps has usable there.0 es [] journal) none.0 there.4),
+        there.3 ∙ ap (λ (b : Base). acts_before b ++ acts_of there.1) none.1 ∙ ap acts_of none.0,
+      )
 
-  pub at_opened : (began : List Act) (entries : List Entry) (kept : KeeperState) (journal : Journal F) → keeping.IsAt (state_of config began) kept → began ≡ acts_of entries → Keeps has usable (fresh config) entries [] journal → IsAt has usable (state_of config began) entries [] kept journal
-  at_opened began entries kept journal at is keeps = record {
-    durable = record { base = fresh config; config = refl; represents = at.represents; acts = is ∙ ap acts_of (sym (append-nil entries)); keeps = keeps };
-    published = at.published;
-  }
+  pub at_opened : (began : List Act) (base : Base) (entries : List Entry) (kept : KeeperState) (journal : Journal F) → keeping.IsAt (state_of config began) kept → base.config ≡ config → began ≡ acts_before base ++ acts_of entries → Keeps has usable base entries [] journal
+      → (at : IsAt has usable (state_of config began) entries [] kept journal) × (at.durable.base ≡ base)
+  at_opened began base entries kept journal at own is keeps = (
+    record {
+      durable = record { base = base; config = own; represents = at.represents; acts = is ∙ ap (λ (es : List Entry). acts_before base ++ acts_of es) (sym (append-nil entries)); keeps = keeps };
+      published = at.published;
+    },
+    refl,
+  )

@@ -4,6 +4,7 @@
 
 mod acceptance;
 mod batch;
+mod checkpoint;
 mod close;
 mod compaction;
 mod keeper;
@@ -14,6 +15,9 @@ mod write;
 
 pub use keeper::DurableKeeper;
 pub use kv_bucket::{BatchReceipt, Feed, LiveName, Mark, Reader, Receipt};
-pub use kv_durable::{BatchError, DurableError, Journal, JournalFile, NotDone, Sync, SystemFile};
+pub use kv_durable::{
+    BatchError, DurableError, Journal, JournalFile, NotDone, ReplaceableFile, Sync, SystemFile,
+    SystemPlace,
+};
 pub use live::DurableLive;
 pub use open::{NotOpened, OpenError, Opened};

@@ -16,7 +16,7 @@ ghost use Rattle.kv_model.specs.declared.batch.BatchRefused.{BatchRefused as ARe
 
 use crate::keeper::DurableKeeper;
 use kv_bucket::{LiveName, Notifier, Receipt};
-use kv_durable::{BatchError, DurableError, JournalFile, NotDone};
+use kv_durable::{BatchError, DurableError, JournalFile, NotDone, ReplaceableFile};
 use kv_model::Request;
 use std::sync::{Mutex, MutexGuard, Wait};
 
@@ -143,6 +143,16 @@ impl<N: LiveName, F: JournalFile> DurableLive<N, F> {
         ensures no_other { IfErr result IsRefusal }
     {
         self.keeper.lock(rt).compact(rt, floor)
+    }
+
+    /// Replaces the file by a checkpoint, as `DurableKeeper::checkpoint` does. It has the lock until that is on the disk: writes wait,
+    /// and reads of what is published do not.
+    pub fn checkpoint<P, R: Wait>(&self, rt: &R, place: &P, seed: u64) -> Result<(), DurableError>
+    where
+        F: ReplaceableFile<P>,
+        ensures no_other { IfErr result IsRefusal }
+    {
+        self.keeper.lock(rt).checkpoint(place, seed)
     }
 
     /// Brings all that was accepted onto the disk. Where the file fails, or has failed, it is a FileFault, and no other.

@@ -1,12 +1,11 @@
 //! Opening a durable bucket that threads share.
 
-ghost use Rattle.std.specs.Prelude.{◌≡◌, List, [], Ok, All, length, false, true, IfErr, IfOk};
+ghost use Rattle.std.specs.Prelude.{◌≡◌, ◌++◌, List, [], Ok, All, length, true, IfErr, IfOk};
 ghost use Rattle.kv_bucket.specs.Keeping.{may_open};
-ghost use Rattle.kv_durable.specs.Bases.{fresh};
+ghost use Rattle.kv_durable.specs.Bases.{Base, acts_before, fresh};
 ghost use Rattle.kv_durable.specs.Durables.{state_of};
 ghost use Rattle.kv_durable.specs.Journals.{Keeps};
-ghost use Rattle.kv_durable.specs.Openings.{HasRead};
-ghost use Rattle.kv_durable_live.specs.Openings.{GoesOnFrom};
+ghost use Rattle.kv_durable_live.specs.Openings.{GoesOnFrom, IsRead};
 ghost use Rattle.kv_durable_live.specs.Sharing.{IsAt};
 ghost use Rattle.kv_journal.specs.Entries.{Entry, acts_of};
 ghost use Rattle.kv_single.specs.Held.{Represents};
@@ -14,7 +13,7 @@ ghost use Rattle.kv_single.specs.Held.{Represents};
 use crate::keeper::DurableKeeper;
 use crate::live::DurableLive;
 use kv_bucket::{Began, Bucket, ChosenActs, Config, KvError, Live, LiveName, Notifier, Reader};
-use kv_durable::{Durable, DurableError, Journal, JournalFile, NotDone, Sync};
+use kv_durable::{Durable, DurableError, Journal, JournalFile, NotDone, Retrace, Sync};
 use std::alloc::Global;
 use std::marker::Brand;
 use std::snapshot::Snapshot;
@@ -31,8 +30,8 @@ pub struct Opened<F: JournalFile> {
 pub enum OpenError {
     /// As `Durable::open` refuses it, or `Live::open`.
     Refused(DurableError),
-    /// The file begins with a checkpoint. What is published begins with acts, and the file does not tell those in whose place a
-    /// checkpoint stands; open such a file by `Durable::open`.
+    /// The file begins with a checkpoint for which no acts were found. What is published begins with acts, and the file does not
+    /// tell those in whose place a checkpoint stands. `Durable::open` opens such a file.
     HasCheckpoint,
 }
 
@@ -92,15 +91,15 @@ fn of_read<F: JournalFile>(
     read: kv_durable::Opened<F>,
     readers: usize,
 ) -> Result<Opened<F>, NotOpened<F>>
-    requires { read.checkpointed ≡ false → (entries : List Entry)
-        × HasRead F.has F.usable config.now before.now.value entries read.durable read.dropped }
+    requires { read.retraced ≡ true → (base : Base) × (entries : List Entry)
+        × IsRead F.has F.usable config.now before.now.value base entries read.durable read.dropped }
     ensures ok { IfOk result (λ o. (may_open config.now readers ≡ Ok config.now)
         × (o.opened.opening.config ≡ config.now) × (o.opened.readers ≡ readers)) }
     ensures from { IfOk result (λ o.
         GoesOnFrom F.has F.usable config.now before.now.value o.journal o.opened.opening.book.began) }
     ensures journal { IfOk result (λ o. o.journal ≡ read.durable.journal) }
 {
-    if read.checkpointed {
+    if !read.retraced {
         let (_, journal) = read.durable.into_parts();
         return Err(NotOpened {
             error: OpenError::HasCheckpoint,
@@ -116,6 +115,9 @@ impl<F: JournalFile> DurableLive<Brand, F> {
     /// Opens the bucket of a file, for 1 to 32 readers. An empty file is made that of a new bucket, with this seed, and any other
     /// goes on, as `Durable::open` does it: what is published begins with the acts that the file has. The configuration and the
     /// number of readers are checked before the file is touched.
+    ///
+    /// Of a file that begins with a checkpoint, acts are looked for in whose place that can stand, as `Retrace::Yes` does it, at
+    /// its cost. What is published begins with these: all that is read of the bucket is the same whichever they are.
     pub fn open(
         alloc: Global,
         config: &Config,
@@ -139,7 +141,7 @@ impl<F: JournalFile> DurableLive<Brand, F> {
             });
         }
         let before = Snapshot::of(&file);
-        match Durable::open(alloc, config, file, seed, sync) {
+        match Durable::open(alloc, config, file, seed, sync, Retrace::Yes) {
             Ok(read) => of_read(alloc, config, &before, read, readers),
             Err(refused) => Err(NotOpened {
                 error: OpenError::Refused(refused.error),
@@ -157,9 +159,10 @@ impl<F: JournalFile> Opened<F> {
         rt: &R,
     ) -> Result<(DurableKeeper<N, F>, Notifier<N>, Vec<Reader<N>>), NotDone<F>>
         requires { self.opened.opening ≡ N.opening }
-        ensures at { IfOk result (λ r. (entries : List Entry) → N.opening.book.began ≡ acts_of entries →
-            Keeps F.has F.usable (fresh N.opening.config) entries [] self.journal →
-            IsAt F.has F.usable (state_of N.opening.config N.opening.book.began) entries [] r.0.keeper r.0.journal) }
+        ensures at { IfOk result (λ r. (base : Base) (entries : List Entry) → base.config ≡ N.opening.config →
+            N.opening.book.began ≡ acts_before base ++ acts_of entries → Keeps F.has F.usable base entries [] self.journal →
+            (at : IsAt F.has F.usable (state_of N.opening.config N.opening.book.began) entries [] r.0.keeper r.0.journal)
+            × (at.durable.base ≡ base)) }
         ensures ok { IfOk result
             (λ r. (r.0.journal ≡ self.journal) × (length r.2.items ≡ self.opened.readers)
             × All (λ reader. (reader.seen ≡ []) × (reader.told ≡ N.opening.book.began)) r.2.items) }

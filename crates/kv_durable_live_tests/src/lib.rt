@@ -4,6 +4,8 @@
 #![tactic(auto)]
 
 #[cfg(test)]
+mod checkpointed;
+#[cfg(test)]
 mod equal;
 #[cfg(test)]
 mod faults;

@@ -2,7 +2,7 @@
 
 ghost use Rattle.std.specs.Prelude.{◌≡◌};
 
-use kv_durable::Durable;
+use kv_durable::{Durable, Retrace};
 use kv_durable_live::{
     DurableError, DurableLive, JournalFile, LiveName, NotOpened, OpenError, Opened, Reader, Sync,
 };
@@ -95,6 +95,7 @@ pub fn second_life(alloc: Global, file: &MemoryFile) -> Result<Durable<MemoryFil
         MemoryFile::new(alloc, bytes),
         SEED,
         Sync::Each,
+        Retrace::No,
     ) {
         Ok(opened) => Ok(opened.durable),
         Err(refused) => Err(refused.error),

@@ -1,21 +1,18 @@
-use Rattle.std.proofs.Common.{List, refl, sym, subst}
-use Rattle.kv_durable.specs.Durables.{state_of}
+use Rattle.std.proofs.Common.{◌++◌, refl}
+use Rattle.kv_durable.specs.Bases.{acts_before}
 use Rattle.kv_durable_live.specs.Openings.{GoesOnFrom}
-use Rattle.kv_durable_live.proofs.Opening.{both_ok, goes_on_from}
+use Rattle.kv_durable_live.proofs.Opening.{both_ok, goes_on_from, represents_read}
 use Rattle.kv_durable_live.proofs.open.of_read.Goals as goal
 use Rattle.kv_journal.specs.Entries.{acts_of}
-use Rattle.kv_model.specs.Acts.{Act}
-use Rattle.kv_single.specs.Held.{Represents}
 
 pub of-acts-requires : goal.of-acts-requires
 of-acts-requires g c =
-    let read = c.requires c.if-read.false in
-    (acts_of read.0, (read.0, (refl, read.1)))
+    let read = c.requires c.if-not-read.false in
+    (acts_before read.0 ++ acts_of read.1, (read.0, read.1, refl, read.2))
 
 pub named-requires-clause-represents : goal.named-requires-clause-represents
 named-requires-clause-represents g c =
-    let read = c.of-acts.ensures in
-    subst (λ (acts : List Act). Represents (state_of c.args.config.now acts) c.args.read.durable.bucket) (sym read.1.0) read.1.1.0
+    represents_read g.F.JournalFile.has g.F.JournalFile.usable c.args.config.now c.args.before.now.value c.args.read.durable c.args.read.dropped c.of-acts.result c.of-acts.ensures
 
 pub returns-clause-from : goal.returns-clause-from
 returns-clause-from g c =

@@ -2,14 +2,21 @@ use Rattle.std.proofs.Common.{[], ◌≡◌, sym, subst, true}
 use Rattle.std.proofs.lemmas.Result.{IfOk-weaker}
 use Rattle.kv_durable.specs.Bases.{fresh}
 use Rattle.kv_durable.specs.Journals.{Keeps}
-use Rattle.kv_durable.specs.Openings.{HasRead}
-use Rattle.kv_durable_live.proofs.Opening.{new_from}
+use Rattle.kv_durable_live.specs.Openings.{IsRead}
+use Rattle.kv_durable_live.proofs.Opening.{is_read, new_from}
 use Rattle.kv_durable_live.proofs.open.DurableLive+Brand+F.open.Goals as goal
 
 pub of_read-requires : goal.of_read-requires
-of_read-requires g c = λ plain.
-    let read = c.in-Ok.ensures.read plain in
-    (read.0, subst (λ file. HasRead g.F.JournalFile.has g.F.JournalFile.usable c.args.config.now file read.0 c.in-Ok.read.durable c.in-Ok.read.dropped) (sym c.of-before.ensures) read.1)
+of_read-requires g c = λ found.
+    let has = g.F.JournalFile.has in
+    let usable = g.F.JournalFile.usable in
+    let o = c.in-Ok.read in
+    let read = c.in-Ok.ensures.read found in (
+      read.0,
+      read.1,
+      subst (λ file. IsRead has usable c.args.config.now file read.0 read.1 o.durable o.dropped) (sym c.of-before.ensures)
+          (is_read has usable c.args.config.now c.args.file read.0 read.1 o.durable o.dropped o.checkpointed read.2 read.3 read.4 c.in-Ok.ensures.reopened),
+    )
 
 pub returns-in-Ok-clause-new : goal.returns-in-Ok-clause-new
 returns-in-Ok-clause-new g c =
