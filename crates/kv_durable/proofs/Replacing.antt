@@ -13,7 +13,7 @@ use Rattle.kv_store.specs.Standing.{StandsFor}
 use Rattle.kv_store.specs.Stored.{Stored}
 use Rattle.kv_journal.specs.Entries.{Entry}
 use Rattle.kv_durable.specs.Bases.{Base, IsLawfulBase, base_payloads, opening, opening_size, replaced_by}
-use Rattle.kv_durable.specs.Durables.{FitsInFrames, IsAt, IsNewFile, checkpoint_at}
+use Rattle.kv_durable.specs.Durables.{IsAt, checkpoint_at}
 use Rattle.kv_durable.specs.Files.{file_of, frames_behind}
 use Rattle.kv_durable.specs.Journals.{HasEntries, Keeps}
 use Rattle.kv_durable.specs.declared.durable.Durable.{Durable}
@@ -67,54 +67,52 @@ module _ {F : Type 0} (has : F → List ℕ → List ℕ → Type 0) (usable : F
         | inr there ↦ inr (subst (λ (w : List ℕ). has file w []) (is ∙ sym (append-nil (opening seed base))) there)
       ]
 
-  module _ (state : State) (kept loose : List Entry) (old : Durable F) (at : IsAt has usable state kept loose old) where
-    own_config : old.journal.config.config ≡ state.config
-    own_config = at.keeps.own ∙ at.config
+  -- the version that is written is that of the bucket
+  module _ (version : Stored) (old : Durable F) (own : version ≡ old.bucket.version) (state : State) (ks ls : List Entry) (at : IsAt has usable state ks ls old) where
+    stands : StandsFor state.acts version
+    stands = subst (StandsFor state.acts) (sym own) at.represents.version
 
-    same_config : old.bucket.version.config ≡ old.journal.config.config
-    same_config = at.represents.config ∙ sym own_config
+    config : version.config ≡ at.base.config
+    config = ap (λ (v : Stored). v.config) own ∙ at.represents.config ∙ sym at.config
 
-    pub bytes_are : (seed : ℕ) (bytes : List ℕ) → IsNewFile old seed bytes → bytes ≡ opening seed (checkpoint_at state)
-    bytes_are seed bytes are = subst (λ (c : Configuration). bytes ≡ opening seed (replaced_by c state.acts)) own_config (are state.acts at.represents.version same_config)
+    -- what holds of what replaces the entries of each journal holds of the checkpoint
+    pub by_checkpoint : (P : Base → Type 0) → ((was : Base) (kept loose : List Entry) (acts : List Act) → Keeps has usable was kept loose old.journal → StandsFor acts version → version.config ≡ was.config → P (replaced_by was.config acts))
+        → P (checkpoint_at state)
+    by_checkpoint P on = subst (λ (c : Configuration). P (replaced_by c state.acts)) at.config (on at.base ks ls state.acts at.keeps stands config)
 
-    -- how many they are
-    pub size_is : (seed named : ℕ) (bytes : List ℕ) → IsNewFile old seed bytes → seed ≡ named → length bytes ≡ opening_size named (checkpoint_at state)
-    size_is seed named bytes are same = ap length (bytes_are seed bytes are) ∙ ap (λ (n : ℕ). opening_size n (checkpoint_at state)) same
-
-    pub next_at : (new : Durable F) (seed : ℕ) (bytes : List ℕ) → IsNewFile old seed bytes → FitsInFrames old → new.bucket ≡ old.bucket
-        → ((was base : Base) (ks ls : List Entry) → Keeps has usable was ks ls old.journal → base.config ≡ was.config → IsLawfulBase base → ArePayloads (base_payloads base) → bytes ≡ opening seed base → Keeps has usable base [] [] new.journal)
+    pub is_replaced : (new : Durable F) → new.bucket ≡ old.bucket
+        → ((was : Base) (kept loose : List Entry) (acts : List Act) → Keeps has usable was kept loose old.journal → StandsFor acts version → version.config ≡ was.config → Keeps has usable (replaced_by was.config acts) [] [] new.journal)
         → (next : IsAt has usable state [] [] new) × (next.base ≡ checkpoint_at state)
-    next_at new seed bytes are fit bucket on =
-        let base = checkpoint_at state in
-        let lawful = subst (λ (c : Configuration). IsLawful c state.acts) at.represents.config at.represents.version.lawful in
-        let first = subst (λ (c : Configuration). ArePayloads (base_payloads (replaced_by c state.acts))) own_config (fit state.acts at.represents.version same_config) in (
-          record {
-            base = base;
-            config = refl;
-            represents = subst (Represents state) (sym bucket) at.represents;
-            acts = sym (append-nil state.acts);
-            keeps = on at.base base kept loose at.keeps (sym at.config) lawful first (bytes_are seed bytes are);
-          },
-          refl,
-        )
-
-    pub still_at : (new : Durable F) → new.bucket ≡ old.bucket → ((base : Base) (ks ls : List Entry) → Keeps has usable base ks ls old.journal → Keeps has usable base ks ls new.journal)
-        → (next : IsAt has usable state kept loose new) × (next.base ≡ at.base)
-    still_at new bucket on = (
+    is_replaced new bucket on = (
       record {
-        base = at.base;
-        config = at.config;
+        base = checkpoint_at state;
+        config = refl;
         represents = subst (Represents state) (sym bucket) at.represents;
-        acts = at.acts;
-        keeps = on at.base kept loose at.keeps;
+        acts = sym (append-nil state.acts);
+        keeps = by_checkpoint (λ (base : Base). Keeps has usable base [] [] new.journal) on;
       },
       refl,
     )
 
-    pub left_there : (file : F) (seed : ℕ) (bytes : List ℕ) → IsNewFile old seed bytes
-        → ((was base : Base) (ks ls : List Entry) → Keeps has usable was ks ls old.journal → bytes ≡ opening seed base → HasEntries has old.journal.framing.seed was ks ls file ⊎ HasEntries has seed base [] [] file)
-        → HasEntries has old.journal.framing.seed at.base kept loose file ⊎ HasEntries has seed (checkpoint_at state) [] [] file
-    left_there file seed bytes are on = on at.base (checkpoint_at state) kept loose at.keeps (bytes_are seed bytes are)
+    pub is_left : (file : F) (seed : ℕ) → ((was : Base) (kept loose : List Entry) (acts : List Act) → Keeps has usable was kept loose old.journal → StandsFor acts version → version.config ≡ was.config
+        → HasEntries has old.journal.framing.seed was kept loose file ⊎ HasEntries has seed (replaced_by was.config acts) [] [] file)
+        → HasEntries has old.journal.framing.seed at.base ks ls file ⊎ HasEntries has seed (checkpoint_at state) [] [] file
+    is_left file seed on =
+        subst (λ (c : Configuration). HasEntries has old.journal.framing.seed at.base ks ls file ⊎ HasEntries has seed (replaced_by c state.acts) [] [] file) at.config (on at.base ks ls state.acts at.keeps stands config)
+
+  -- the old file is in use
+  pub still_at : (old new : Durable F) → new.bucket ≡ old.bucket → ((base : Base) (kept loose : List Entry) → Keeps has usable base kept loose old.journal → Keeps has usable base kept loose new.journal)
+      → (state : State) (ks ls : List Entry) (at : IsAt has usable state ks ls old) → (next : IsAt has usable state ks ls new) × (next.base ≡ at.base)
+  still_at old new bucket on = λ state ks ls at. (
+    record {
+      base = at.base;
+      config = at.config;
+      represents = subst (Represents state) (sym bucket) at.represents;
+      acts = at.acts;
+      keeps = on at.base ks ls at.keeps;
+    },
+    refl,
+  )
 
   -- a version that is that of the bucket whose journal this is
   module _ (was : Base) (kept loose : List Entry) (old : Journal F) (keeps : Keeps has usable was kept loose old) (acts : List Act) (version : Stored) (stands : StandsFor acts version) (same : version.config ≡ was.config) where
@@ -123,6 +121,10 @@ module _ {F : Type 0} (has : F → List ℕ → List ℕ → Type 0) (usable : F
 
     bytes_of : (seed : ℕ) (bytes : List ℕ) → ((as' : List Act) → StandsFor as' version → version.config ≡ old.config.config → bytes ≡ opening seed (replaced_by old.config.config as')) → bytes ≡ opening seed (replaced_by was.config acts)
     bytes_of seed bytes are = subst (λ (c : Configuration). bytes ≡ opening seed (replaced_by c acts)) keeps.own (are acts stands own_version)
+
+    -- how many they are
+    pub size_of : (seed named : ℕ) (bytes : List ℕ) → seed ≡ named → ((as' : List Act) → StandsFor as' version → version.config ≡ old.config.config → bytes ≡ opening seed (replaced_by old.config.config as')) → length bytes ≡ opening_size named (replaced_by was.config acts)
+    size_of seed named bytes is are = ap length (bytes_of seed bytes are) ∙ ap (λ (n : ℕ). opening_size n (replaced_by was.config acts)) is
 
     pub by_version : (new : Journal F) (seed : ℕ) (bytes : List ℕ) → ((as' : List Act) → StandsFor as' version → version.config ≡ old.config.config → bytes ≡ opening seed (replaced_by old.config.config as'))
         → ((as' : List Act) → StandsFor as' version → version.config ≡ old.config.config → ArePayloads (base_payloads (replaced_by old.config.config as')))

@@ -11,9 +11,8 @@ use Rattle.kv_store.specs.Standing.{StandsFor}
 use Rattle.kv_store.specs.Stored.{Stored}
 use Rattle.kv_model.specs.State.{State}
 use Rattle.kv_single.specs.Held.{Bucketed, Represents}
-use Rattle.kv_frames.specs.Frames.{ArePayloads}
 use Rattle.kv_journal.specs.Entries.{Entry, acts_of}
-use Rattle.kv_durable.specs.Bases.{Base, acts_before, base_payloads, opening, replaced_by}
+use Rattle.kv_durable.specs.Bases.{Base, acts_before, replaced_by}
 use Rattle.kv_journal.specs.Records.{Content, did_all}
 use Rattle.kv_durable.specs.Journals.{HasEntries, IsLeft, Keeps, told_next}
 use Rattle.kv_durable.specs.declared.durable.Durable.{Durable}
@@ -54,16 +53,6 @@ IsRecorded has usable later told old new = (state : State) (kept loose : List En
 abbrev pub IsHanded : {F : Type 0} → (F → List ℕ → List ℕ → Type 0) → (F → Bool) → (State → List Content) → Durable F → Durable F → Type 0
 IsHanded has usable told old new = (state : State) (kept loose : List Entry) (at : IsAt has usable state kept loose old) →
     IsLeft has old.journal.framing.seed at.base kept (loose ++ told_next old.journal (told state)) new.journal.appender.file
-
--- the bytes are a whole file with this seed that has what the bucket stores, and none of the acts that led to it
-abbrev pub IsNewFile : {F : Type 0} → Durable F → ℕ → List ℕ → Type 0
-IsNewFile durable seed bytes = (acts : List Act) → StandsFor acts durable.bucket.version → durable.bucket.version.config ≡ durable.journal.config.config →
-    bytes ≡ opening seed (replaced_by durable.journal.config.config acts)
-
--- each part of such a file fits in a frame
-abbrev pub FitsInFrames : {F : Type 0} → Durable F → Type 0
-FitsInFrames durable = (acts : List Act) → StandsFor acts durable.bucket.version → durable.bucket.version.config ≡ durable.journal.config.config →
-    ArePayloads (base_payloads (replaced_by durable.journal.config.config acts))
 
 -- that of a file which begins with a checkpoint of a state
 abbrev pub checkpoint_at : State → Base

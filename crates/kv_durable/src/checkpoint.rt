@@ -10,7 +10,7 @@ ghost use Rattle.kv_model.specs.Acts.{Act};
 ghost use Rattle.kv_model.specs.State.{State};
 ghost use Rattle.kv_store.specs.Standing.{StandsFor};
 ghost use Rattle.kv_durable.specs.Bases.{Base, base_payloads, opening, replaced_by};
-ghost use Rattle.kv_durable.specs.Durables.{FitsInFrames, IsAt, IsNewFile, IsRefusal, IsReplaced, checkpoint_at};
+ghost use Rattle.kv_durable.specs.Durables.{IsAt, IsRefusal, IsReplaced, checkpoint_at};
 ghost use Rattle.kv_durable.specs.Journals.{HasEntries, Keeps, is_stopped};
 ghost use Rattle.kv_durable.specs.declared.error.DurableError.TheVariants.{FileFault, Refused};
 
@@ -25,7 +25,7 @@ use kv_store::Version;
 use std::alloc::Global;
 
 // The bytes of a file that begins with the checkpoint of a version, and has nothing behind it.
-fn file_of(
+pub(crate) fn file_of(
     alloc: Global,
     framing: &Framing,
     own: &OwnConfig,
@@ -44,53 +44,6 @@ fn file_of(
 }
 
 impl<F: JournalFile> Durable<F> {
-    // The bytes of a file that has what the bucket stores.
-    pub(crate) fn new_file(&self, framing: &Framing) -> Result<Vec<u8>, DurableError>
-        ensures items { IfOk result (λ v. IsNewFile self.now framing.now.seed v.items) }
-        ensures payloads { OnOk result (FitsInFrames self.now) }
-        ensures err { IfErr result (λ e. e ≡ Refused OutOfMemory) }
-    {
-        let bucket = self.bucket.single();
-        file_of(
-            bucket.alloc(),
-            framing,
-            &self.journal.config,
-            bucket.version(),
-        )
-    }
-
-    // Puts such a file in the place of the old one.
-    pub(crate) fn replace_by<P>(
-        &mut self,
-        place: &P,
-        framing: Framing,
-        bytes: Vec<u8>,
-    ) -> Result<(), DurableError>
-    where
-        F: ReplaceableFile<P>,
-        requires new { IsNewFile self.old framing.seed bytes.items }
-        requires fits { FitsInFrames self.old }
-        ensures ok { OnOk result (IsReplaced F.has F.usable (λ state. state) self.old self.new) }
-        ensures seed { OnOk result (self.new.journal.framing.seed ≡ framing.seed) }
-        ensures none { OnOk result (self.new.journal.appender.waiting ≡ 0) }
-        ensures bucket { self.new.bucket ≡ self.old.bucket }
-        ensures goes_on { OnErr result (is_stopped F.usable self.new.journal ≡ false →
-            (state : State) (kept loose : List Entry) (at : IsAt F.has F.usable state kept loose self.old) →
-            (next : IsAt F.has F.usable state kept loose self.new) × (next.base ≡ at.base)) }
-        ensures left { OnErr result ((state : State) (kept loose : List Entry) (at : IsAt F.has F.usable state kept loose self.old) →
-            HasEntries F.has self.old.journal.framing.seed at.base kept loose self.new.journal.appender.file
-            ⊎ HasEntries F.has framing.seed (checkpoint_at state) [] [] self.new.journal.appender.file) }
-        ensures err { IfErr result (λ e. e ≡ FileFault) }
-        ensures failed { OnErr result (F.usable self.old.journal.appender.file ≡ true →
-            F.faults self.old.journal.appender.file < F.faults self.new.journal.appender.file) }
-        ensures same { OnErr result (self.new.journal.framing ≡ self.old.journal.framing) }
-        ensures place { OnErr result (self.new.journal.appender.place ≡ self.old.journal.appender.place) }
-        ensures sync { self.new.journal.appender.sync ≡ self.old.journal.appender.sync }
-    {
-        self.journal.replace(place, framing, bytes)?;
-        Ok(())
-    }
-
     /// Replaces the file, where it lies in such a place, by one with this seed that has what the bucket stores, and none of the
     /// acts that led to it. Choose the seed at random, and another for each file: a disk can leave blocks of the old file in
     /// the new one. Whatever a crash leaves, it is the old file or the whole new one, and both are of the same bucket.
@@ -119,10 +72,9 @@ impl<F: JournalFile> Durable<F> {
         ensures no_other { IfErr result IsRefusal }
         ensures sync { self.new.journal.appender.sync ≡ self.old.journal.appender.sync }
     {
-        self.journal.may_add()?;
-        let framing = Framing::new(seed);
-        let bytes = self.new_file(&framing)?;
-        self.replace_by(place, framing, bytes)
+        let bucket = self.bucket.single();
+        self.journal
+            .replace_by_checkpoint(bucket.alloc(), place, seed, bucket.version())
     }
 }
 

@@ -7,23 +7,28 @@ ghost use Rattle.kv_journal.specs.Records.{did};
 ghost use Rattle.kv_keys.specs.Outcome.{Refuses};
 ghost use Rattle.kv_keys.specs.declared.error.KvError.{KvError as AnError};
 ghost use Rattle.kv_keys.specs.declared.error.KvError.TheVariants.{OutOfMemory};
-ghost use Rattle.kv_model.specs.Acts.{Compact as ACompaction};
+ghost use Rattle.kv_model.specs.Acts.{Act, Compact as ACompaction};
 ghost use Rattle.kv_model.specs.Answers.{Compacted};
 ghost use Rattle.kv_model.specs.State.{State, after, may_compact};
 ghost use Rattle.kv_model.specs.declared.call.Call.TheVariants.{Compact};
 ghost use Rattle.kv_single.specs.Held.{Represents};
 ghost use Rattle.kv_single.specs.Stepping.{IsStep};
-ghost use Rattle.kv_durable.specs.Bases.{opening_size};
+ghost use Rattle.kv_store.specs.Standing.{StandsFor};
+ghost use Rattle.kv_durable.specs.Bases.{Base, opening_size, replaced_by};
 ghost use Rattle.kv_durable.specs.Durables.{HasEither, IsAt, IsHanded, IsRecorded, IsRefusal, IsReplaced, checkpoint_at};
-ghost use Rattle.kv_durable.specs.Journals.{HasEntries, is_stopped, place_behind};
+ghost use Rattle.kv_durable.specs.Journals.{HasEntries, Keeps, is_stopped, place_behind};
 ghost use Rattle.kv_durable.specs.declared.error.DurableError.{DurableError as ARefusal};
 ghost use Rattle.kv_durable.specs.declared.error.DurableError.TheVariants.{FileFault, Refused};
 ghost use Rattle.kv_durable.specs.declared.shrinking.Shrunk.TheVariants.{Failed, Left, Replaced};
 
+use crate::checkpoint::file_of;
 use crate::durable::Durable;
 use crate::error::DurableError;
+use crate::journal::Journal;
 use kv_file::{JournalFile, ReplaceableFile};
 use kv_frames::Framing;
+use kv_store::Version;
+use std::alloc::Global;
 
 /// What came of the file behind a compaction that was made.
 #[derive(Clone, Copy, Debug, PartialEq, Eq)]
@@ -38,8 +43,8 @@ pub enum Shrunk {
 }
 
 impl Shrunk {
-    // What came of it, by whether it was replaced.
-    fn of(replaced: Result<bool, DurableError>) -> Shrunk
+    /// What came of it, by whether it was replaced.
+    pub fn of(replaced: Result<bool, DurableError>) -> Shrunk
         ensures left { result ≡ Left → replaced ≡ Ok false }
         ensures replaced { result ≡ Replaced → replaced ≡ Ok true }
         ensures failed { (e : ARefusal) → result ≡ Failed e → replaced ≡ Err e }
@@ -52,16 +57,65 @@ impl Shrunk {
     }
 }
 
-impl<F: JournalFile> Durable<F> {
+impl<F: JournalFile> Journal<F> {
     // Whether the file has more than twice so many bytes.
     fn has_twice(&self, bytes: usize) -> bool
-        ensures yes { result ≡ true → 2 * bytes < self.now.journal.appender.place }
-        ensures no { result ≡ false → self.now.journal.appender.place ≤ 2 * bytes }
+        ensures yes { result ≡ true → 2 * bytes < self.now.appender.place }
+        ensures no { result ≡ false → self.now.appender.place ≤ 2 * bytes }
     {
         let bytes = bytes as u64;
-        self.journal.place().saturating_sub(bytes) > bytes
+        self.place().saturating_sub(bytes) > bytes
     }
 
+    /// Replaces the file as `replace_by_checkpoint` does, where it has more than twice the bytes of the new one, and tells whether
+    /// it did: as `Durable::compact_and_checkpoint` does it behind its compaction.
+    pub fn replace_if_large<P>(
+        &mut self,
+        alloc: Global,
+        place: &P,
+        seed: u64,
+        version: &Version,
+    ) -> Result<bool, DurableError>
+    where
+        F: ReplaceableFile<P>,
+        ensures left { result ≡ Ok false → self.new ≡ self.old }
+        ensures small { result ≡ Ok false → (was : Base) (kept loose : List Entry) (acts : List Act) →
+            Keeps F.has F.usable was kept loose self.old → StandsFor acts version.now → version.now.config ≡ was.config →
+            self.old.appender.place ≤ 2 * opening_size seed (replaced_by was.config acts) }
+        ensures large { (result ≡ Ok true) ⊎ (result ≡ Err FileFault) → (was : Base) (kept loose : List Entry) (acts : List Act) →
+            Keeps F.has F.usable was kept loose self.old → StandsFor acts version.now → version.now.config ≡ was.config →
+            2 * opening_size seed (replaced_by was.config acts) < self.old.appender.place }
+        ensures replaced { result ≡ Ok true → (was : Base) (kept loose : List Entry) (acts : List Act) →
+            Keeps F.has F.usable was kept loose self.old → StandsFor acts version.now → version.now.config ≡ was.config →
+            Keeps F.has F.usable (replaced_by was.config acts) [] [] self.new }
+        ensures seed { result ≡ Ok true → self.new.framing.seed ≡ seed }
+        ensures none { result ≡ Ok true → self.new.appender.waiting ≡ 0 }
+        ensures goes_on { OnErr result (is_stopped F.usable self.new ≡ false → (base : Base) (kept loose : List Entry) →
+            Keeps F.has F.usable base kept loose self.old → Keeps F.has F.usable base kept loose self.new) }
+        ensures either { OnErr result ((was : Base) (kept loose : List Entry) (acts : List Act) → Keeps F.has F.usable was kept loose self.old →
+            StandsFor acts version.now → version.now.config ≡ was.config →
+            HasEntries F.has self.old.framing.seed was kept loose self.new.appender.file
+            ⊎ HasEntries F.has seed (replaced_by was.config acts) [] [] self.new.appender.file) }
+        ensures refused { IfErr result (λ e. (x : AnError) → e ≡ Refused x → x ≡ OutOfMemory) }
+        ensures untouched { IfErr result (λ e. (x : AnError) → e ≡ Refused x → self.new ≡ self.old) }
+        ensures fault { IsErrOf result FileFault → F.usable self.old.appender.file ≡ true → (2 ^ 62 ≤ self.new.appender.place)
+            ⊎ (F.faults self.old.appender.file < F.faults self.new.appender.file) }
+        ensures same { OnErr result (self.new.framing ≡ self.old.framing) }
+        ensures no_other { IfErr result IsRefusal }
+        ensures sync { self.new.appender.sync ≡ self.old.appender.sync }
+    {
+        let next = Framing::new(seed);
+        let bytes = file_of(alloc, &next, &self.config, version)?;
+        if !self.has_twice(bytes.len()) {
+            return Ok(false);
+        }
+        self.may_add()?;
+        self.replace(place, next, bytes)?;
+        Ok(true)
+    }
+}
+
+impl<F: JournalFile> Durable<F> {
     // Replaces the file where it has more than twice the bytes of the new one, and tells whether it did.
     fn replace_large<P>(&mut self, place: &P, seed: u64) -> Result<bool, DurableError>
     where
@@ -89,14 +143,9 @@ impl<F: JournalFile> Durable<F> {
         ensures no_other { IfErr result IsRefusal }
         ensures sync { self.new.journal.appender.sync ≡ self.old.journal.appender.sync }
     {
-        let framing = Framing::new(seed);
-        let bytes = self.new_file(&framing)?;
-        if !self.has_twice(bytes.len()) {
-            return Ok(false);
-        }
-        self.journal.may_add()?;
-        self.replace_by(place, framing, bytes)?;
-        Ok(true)
+        let bucket = self.bucket.single();
+        self.journal
+            .replace_if_large(bucket.alloc(), place, seed, bucket.version())
     }
 
     /// Compacts to the floor, as `compact` does. Where the file then has more than twice the bytes of a new one, it is replaced

@@ -1,44 +1,48 @@
-use Rattle.std.proofs.Common.{◌≡◌, ◌⊎◌, ◌∙◌, ◌*◌, ◌<◌, ◌≤◌, ℕ, List, [], arith, length, refl, subst}
-use Rattle.kv_file.proofs.Added.{when_err}
+use Rattle.std.proofs.Common.{◌≡◌, ◌⊎◌, ◌∙◌, ◌*◌, ◌<◌, ◌≤◌, List, [], ap, false, refl}
+use Rattle.std.proofs.lemmas.Result.{IfErr-weaker}
 use Rattle.kv_journal.specs.Entries.{Entry}
 use Rattle.kv_model.specs.State.{State}
+use Rattle.kv_single.specs.Held.{Bucketed}
+use Rattle.kv_durable.specs.Bases.{opening_size}
 use Rattle.kv_durable.specs.Durables.{IsAt, checkpoint_at}
-use Rattle.kv_durable.specs.Journals.{HasEntries}
-use Rattle.kv_durable.proofs.Replacing.{size_is, still_at}
+use Rattle.kv_durable.specs.Journals.{HasEntries, is_stopped}
+use Rattle.kv_durable.proofs.Replacing.{by_checkpoint, is_left, is_replaced, still_at}
 use Rattle.kv_durable.proofs.durable.Durable.replace_large.Goals as goal
 
-pub returns-in_err-bytes-clause-goes_on : goal.returns-in_err-bytes-clause-goes_on
-returns-in_err-bytes-clause-goes_on g c = when_err c.from_residual.result (λ _ state kept loose at.
-    still_at g.F.JournalFile.has g.F.JournalFile.usable state kept loose c.args.self.now at c.args.self.now refl (λ base ks ls keeps. keeps))
-
-pub returns-then-not-has_twice-clause-small : goal.returns-then-not-has_twice-clause-small
-returns-then-not-has_twice-clause-small g c = λ _ state kept loose at.
-    let size = size_is g.F.JournalFile.has g.F.JournalFile.usable state kept loose c.args.self.now at c.new-framing.result.seed c.args.seed c.in_ok-bytes.bytes.items c.in_ok-bytes.ensures.items c.new-framing.ensures in
-    let len : c.in_ok-bytes.bytes.len ≡ length c.in_ok-bytes.bytes.items = omega (arith, c.in_ok-bytes.bytes.ok) in
-    subst (λ (n : ℕ). c.args.self.now.journal.appender.place ≤ 2 * n) (c.len.ensures ∙ len ∙ size) (c.has_twice.ensures.no c.if-not-has_twice.true)
-
-pub returns-in_err-may_add-clause-large : goal.returns-in_err-may_add-clause-large
-returns-in_err-may_add-clause-large g c = λ _ state kept loose at.
-    let size = size_is g.F.JournalFile.has g.F.JournalFile.usable state kept loose c.args.self.now at c.new-framing.result.seed c.args.seed c.in_ok-bytes.bytes.items c.in_ok-bytes.ensures.items c.new-framing.ensures in
-    let len : c.in_ok-bytes.bytes.len ≡ length c.in_ok-bytes.bytes.items = omega (arith, c.in_ok-bytes.bytes.ok) in
-    subst (λ (n : ℕ). 2 * n < c.args.self.now.journal.appender.place) (c.len.ensures ∙ len ∙ size) (c.has_twice.ensures.yes c.if-not-has_twice.false)
-
-pub returns-in_err-replace_by-clause-large : goal.returns-in_err-replace_by-clause-large
-returns-in_err-replace_by-clause-large g c = λ _ state kept loose at.
-    let size = size_is g.F.JournalFile.has g.F.JournalFile.usable state kept loose c.args.self.now at c.new-framing.result.seed c.args.seed c.in_ok-bytes.bytes.items c.in_ok-bytes.ensures.items c.new-framing.ensures in
-    let len : c.in_ok-bytes.bytes.len ≡ length c.in_ok-bytes.bytes.items = omega (arith, c.in_ok-bytes.bytes.ok) in
-    subst (λ (n : ℕ). 2 * n < c.args.self.now.journal.appender.place) (c.len.ensures ∙ len ∙ size) (c.has_twice.ensures.yes c.if-not-has_twice.false)
-
-pub returns-in_err-replace_by-clause-either : goal.returns-in_err-replace_by-clause-either
-returns-in_err-replace_by-clause-either g c =
-    let has = g.F.JournalFile.has in
+pub returns-clause-small : goal.returns-clause-small
+returns-clause-small g c = λ e state ks ls at.
     let old = c.args.self.now in
-    let file = c.replace_by.new.self.journal.appender.file in
-    when_err c.from_residual-in_err-replace_by.result (subst (λ (n : ℕ). (state : State) (kept loose : List Entry) (at : IsAt has g.F.JournalFile.usable state kept loose old) →
-    HasEntries has old.journal.framing.seed at.base kept loose file ⊎ HasEntries has n (checkpoint_at state) [] [] file) c.new-framing.ensures c.in_err-replace_by.ensures.left)
+    let own = c.version.ensures.value ∙ ap (λ (b : Bucketed). b.version) c.single-bucket.ensures in
+    by_checkpoint g.F.JournalFile.has g.F.JournalFile.usable c.version.result.now old own state ks ls at (λ base. old.journal.appender.place ≤ 2 * opening_size c.args.seed base) (c.replace_if_large.ensures.small e)
 
 pub returns-clause-large : goal.returns-clause-large
-returns-clause-large g c = λ _ state kept loose at.
-    let size = size_is g.F.JournalFile.has g.F.JournalFile.usable state kept loose c.args.self.now at c.new-framing.result.seed c.args.seed c.in_ok-bytes.bytes.items c.in_ok-bytes.ensures.items c.new-framing.ensures in
-    let len : c.in_ok-bytes.bytes.len ≡ length c.in_ok-bytes.bytes.items = omega (arith, c.in_ok-bytes.bytes.ok) in
-    subst (λ (n : ℕ). 2 * n < c.args.self.now.journal.appender.place) (c.len.ensures ∙ len ∙ size) (c.has_twice.ensures.yes c.if-not-has_twice.false)
+returns-clause-large g c = λ e state ks ls at.
+    let old = c.args.self.now in
+    let own = c.version.ensures.value ∙ ap (λ (b : Bucketed). b.version) c.single-bucket.ensures in
+    by_checkpoint g.F.JournalFile.has g.F.JournalFile.usable c.version.result.now old own state ks ls at (λ base. 2 * opening_size c.args.seed base < old.journal.appender.place) (c.replace_if_large.ensures.large e)
+
+pub returns-clause-replaced : goal.returns-clause-replaced
+returns-clause-replaced g c = λ e state ks ls at.
+    let own = c.version.ensures.value ∙ ap (λ (b : Bucketed). b.version) c.single-bucket.ensures in
+    is_replaced g.F.JournalFile.has g.F.JournalFile.usable c.version.result.now c.args.self.now own state ks ls at (record c.args.self.now { journal = c.replace_if_large.new.self }) refl (c.replace_if_large.ensures.replaced e)
+
+pub returns-clause-goes_on : goal.returns-clause-goes_on
+returns-clause-goes_on g c =
+    let has = g.F.JournalFile.has in
+    let usable = g.F.JournalFile.usable in
+    let old = c.args.self.now in
+    let new = record c.args.self.now { journal = c.replace_if_large.new.self } in
+    IfErr-weaker c.replace_if_large.result _
+    (λ _. is_stopped usable new.journal ≡ false → (state : State) (kept loose : List Entry) (at : IsAt has usable state kept loose old) → (next : IsAt has usable state kept loose new) × (next.base ≡ at.base))
+    (λ _ on goes. still_at has usable old new refl (on goes)) c.replace_if_large.ensures.goes_on
+
+pub returns-clause-either : goal.returns-clause-either
+returns-clause-either g c =
+    let has = g.F.JournalFile.has in
+    let usable = g.F.JournalFile.usable in
+    let old = c.args.self.now in
+    let file = c.replace_if_large.new.self.appender.file in
+    let own = c.version.ensures.value ∙ ap (λ (b : Bucketed). b.version) c.single-bucket.ensures in
+    IfErr-weaker c.replace_if_large.result _
+    (λ _. (state : State) (kept loose : List Entry) (at : IsAt has usable state kept loose old) → HasEntries has old.journal.framing.seed at.base kept loose file ⊎ HasEntries has c.args.seed (checkpoint_at state) [] [] file)
+    (λ _ on state ks ls at. is_left has usable c.version.result.now old own state ks ls at file c.args.seed on) c.replace_if_large.ensures.either
