@@ -1,5 +1,5 @@
 -- Lives of a durable bucket that threads share.
-use Rattle.std.proofs.Common.{◌≡◌, ◌⊎◌, ◌<◌, ◌^◌, ℕ, Bool, List, [], ◌∷◌, ◌++◌, Result, map, refl, sym, ap, ◌∙◌, subst, inl, inr, append-nil}
+use Rattle.std.proofs.Common.{◌≡◌, ◌⊎◌, ◌<◌, ◌^◌, ℕ, Bool, List, [], ◌∷◌, ◌++◌, Result, Ok, Err, map, refl, sym, ap, ◌∙◌, subst, inl, inr, append-nil}
 use Rattle.kv_bucket.specs.Batches.{IsKeptBatch}
 use Rattle.kv_bucket.specs.Keeping as kept
 use Rattle.kv_bucket.specs.Keeping.{IsKeptStep, KeeperState}
@@ -17,13 +17,15 @@ use Rattle.kv_file.specs.File.{MayLeave}
 use Rattle.kv_file.specs.declared.appender.Sync.TheVariants.{Each}
 use Rattle.kv_journal.specs.Entries.{AreLawful, Entry, acts_of}
 use Rattle.kv_journal.specs.Records.{Content}
-use Rattle.kv_model.specs.Acts.{Act, IsPrefix, Write}
-use Rattle.kv_model.specs.Answers.{Answer}
+use Rattle.kv_model.specs.Acts.{Act, Compact, IsPrefix, Write}
+use Rattle.kv_model.specs.Answers.{Answer, Compacted}
 use Rattle.kv_model.specs.Batches.{accept_all, after_batch}
 use Rattle.kv_model.specs.Requests.{asked}
-use Rattle.kv_model.specs.State.{State, after}
+use Rattle.kv_model.specs.State.{State, after, after_compact, may_compact}
 use Rattle.kv_model.specs.declared.batch.BatchRefused.{BatchRefused}
+use Rattle.kv_keys.specs.declared.error.KvError.{KvError}
 use Rattle.kv_model.specs.declared.call.Call.{Call}
+use Rattle.kv_model.specs.declared.call.Call.TheVariants as calls
 use Rattle.kv_model.specs.declared.request.Request.{Request}
 use Rattle.kv_publish.proofs.Prefixes.{prefix_self, prefix_trans}
 use Rattle.kv_single.specs.Held.{Represents}
@@ -85,6 +87,14 @@ module _ {F : Type 0} (has : F → List ℕ → List ℕ → Type 0) (usable : F
   pub replaced_goes_on : (old new : Shared F) → durables.IsReplaced has usable (λ s. s) (durable_of old.kept old.journal) (durable_of new.kept new.journal)
       → new.kept ≡ old.kept → new.journal.appender.sync ≡ old.journal.appender.sync → GoesOn has usable old new
   replaced_goes_on old new on same sync = replaced_behind (λ s. s) old new (λ state at. subst (kept.IsAt state) (sym same) at) (λ state. prefix_self state.acts) on sync
+
+  compacted_grows : (state : State) (r : Result ℕ KvError) → IsPrefix state.acts (after_compact state r).acts
+  compacted_grows state (Ok floor) = (Compact floor ∷ [], refl)
+  compacted_grows state (Err e) = prefix_self state.acts
+
+  pub compacted_goes_on : (floor : ℕ) (old new : Shared F) → IsKeptStep old.kept (calls.Compact floor) (Compacted floor) new.kept
+      → durables.IsReplaced has usable (λ state. after state (calls.Compact floor)) (durable_of old.kept old.journal) (durable_of new.kept new.journal) → new.journal.appender.sync ≡ old.journal.appender.sync → GoesOn has usable old new
+  compacted_goes_on floor old new step on sync = replaced_behind (λ state. after state (calls.Compact floor)) old new (λ state at. (step state at).1) (λ state. compacted_grows state (may_compact floor state)) on sync
 
   pub not_replaced_goes_on : (old new : Shared F) → ((state : State) (entries loose : List Entry) (at : IsAt has usable state entries loose old.kept old.journal) → (next : IsAt has usable state entries loose new.kept new.journal) × (next.durable.base ≡ at.durable.base))
       → new.kept ≡ old.kept → new.journal.appender.sync ≡ old.journal.appender.sync → GoesOn has usable old new

@@ -1,6 +1,6 @@
 //! The one way in which something is accepted: what it leads to is made apart, added to the file, and only then published.
 
-ghost use Rattle.std.specs.Prelude.{◌≡◌, ◌<◌, ◌^◌, ◌&&◌, ◌∷◌, [], ℕ, true, is_ok, length, IfOk, OnErr, OnOk};
+ghost use Rattle.std.specs.Prelude.{◌≡◌, ◌<◌, ◌≤◌, ◌^◌, ◌&&◌, ◌∷◌, [], ℕ, true, is_ok, length, IfOk, OnErr, OnOk};
 ghost use Rattle.kv_bucket.specs.Batches.{ComeNext};
 ghost use Rattle.kv_bucket.specs.Keeping.{ComesNext, kept_with};
 ghost use Rattle.kv_durable.specs.Journals.{AddsFrames, LeavesFrames};
@@ -44,6 +44,7 @@ impl<N: LiveName, F: JournalFile> DurableKeeper<N, F> {
             self.new.journal.appender.waiting < n) }
         ensures framing { self.new.journal.framing ≡ self.old.journal.framing }
         ensures sync { self.new.journal.appender.sync ≡ self.old.journal.appender.sync }
+        ensures count { F.faults self.old.journal.appender.file ≤ F.faults self.new.journal.appender.file }
         ensures usable { F.usable self.new.journal.appender.file ≡ (F.usable self.old.journal.appender.file && is_ok result) }
         ensures failed { OnErr result (F.usable self.old.journal.appender.file ≡ true →
             F.faults self.old.journal.appender.file < F.faults self.new.journal.appender.file) }

@@ -1,6 +1,6 @@
 //! Seals and compactions of a durable bucket that threads share.
 
-ghost use Rattle.std.specs.Prelude.{◌≡◌, ◌⊎◌, ◌<◌, ◌^◌, ◌∷◌, [], ℕ, true, false, Ok, Err, length, IfErr, IfOk, IsErrOf, OnErr, OnOk};
+ghost use Rattle.std.specs.Prelude.{◌≡◌, ◌⊎◌, ◌<◌, ◌≤◌, ◌^◌, ◌∷◌, [], ℕ, true, false, Ok, Err, length, IfErr, IfOk, IsErrOf, OnErr, OnOk};
 ghost use Rattle.kv_bucket.specs.Keeping.{ComesNext, IsAt, IsKeptStep, kept_with};
 ghost use Rattle.kv_durable.specs.Durables.{IsHanded, IsRecorded, IsRefusal};
 ghost use Rattle.kv_durable.specs.Journals.{IsFrameOf, is_stopped};
@@ -105,6 +105,8 @@ impl<N: LiveName, F: JournalFile> DurableKeeper<N, F> {
             (durable_of self.old.keeper self.old.journal) (durable_of self.new.keeper self.new.journal)) }
         ensures every { OnOk result ((n : ℕ) → self.old.journal.appender.sync ≡ Every n → 0 < n →
             self.new.journal.appender.waiting < n) }
+        ensures still { OnOk result (F.usable self.new.journal.appender.file ≡ true) }
+        ensures count { F.faults self.old.journal.appender.file ≤ F.faults self.new.journal.appender.file }
         ensures refused { IfErr result (λ e. (x : AnError) → e ≡ Refused x → (state : State) →
             IsAt state self.old.keeper → Refuses x (may_compact floor state)) }
         ensures untouched { IfErr result (λ e. (x : AnError) → e ≡ Refused x → self.new ≡ self.old) }

@@ -15,11 +15,12 @@ ghost use Rattle.kv_file.specs.declared.appender.Sync.TheVariants.{Each};
 ghost use Rattle.kv_journal.specs.Entries.{AreLawful, Entry, acts_of};
 ghost use Rattle.kv_journal.specs.Records.{Content};
 ghost use Rattle.kv_model.specs.Acts.{Act, IsPrefix};
-ghost use Rattle.kv_model.specs.Answers.{Answer};
+ghost use Rattle.kv_model.specs.Answers.{Answer, Compacted};
 ghost use Rattle.kv_model.specs.Batches.{accept_all, after_batch};
 ghost use Rattle.kv_model.specs.Requests.{asked};
 ghost use Rattle.kv_model.specs.State.{State, after};
 ghost use Rattle.kv_model.specs.declared.call.Call.{Call};
+ghost use Rattle.kv_model.specs.declared.call.Call.TheVariants.{Compact};
 ghost use Rattle.kv_model.specs.declared.request.Request.{Request};
 ghost use Rattle.kv_single.specs.Held.{Represents};
 
@@ -32,8 +33,8 @@ pub fn published_is_in_the_file<F: JournalFile>()
         shared.kept.published ≡ acts_before at.durable.base ++ acts_of (entries ++ loose) }
 {}
 
-/// Each call that is answered goes on: one that was recorded, as a write, a seal and a compaction; a batch; a sync; and a
-/// checkpoint, also one that left the old file in use.
+/// Each call that is answered goes on: one that was recorded, as a write, a seal and a compaction; a batch; a sync; a
+/// checkpoint, also one that left the old file in use; and a compaction with a checkpoint behind it.
 pub fn each_call_goes_on<F: JournalFile>()
     ensures recorded { (call : Call) (answer : Answer) (told : State → List Content) (old new : Shared F) →
         IsKeptStep old.kept call answer new.kept →
@@ -52,6 +53,9 @@ pub fn each_call_goes_on<F: JournalFile>()
     ensures replaced { (old new : Shared F) →
         IsReplaced F.has F.usable (λ state. state) (durable_of old.kept old.journal) (durable_of new.kept new.journal) →
         new.kept ≡ old.kept → new.journal.appender.sync ≡ old.journal.appender.sync → GoesOn F.has F.usable old new }
+    ensures compacted { (floor : ℕ) (old new : Shared F) → IsKeptStep old.kept (Compact floor) (Compacted floor) new.kept →
+        IsReplaced F.has F.usable (λ state. after state (Compact floor)) (durable_of old.kept old.journal) (durable_of new.kept new.journal) →
+        new.journal.appender.sync ≡ old.journal.appender.sync → GoesOn F.has F.usable old new }
     ensures not_replaced { (old new : Shared F) → ((state : State) (entries loose : List Entry)
         (at : IsAt F.has F.usable state entries loose old.kept old.journal) →
         (next : IsAt F.has F.usable state entries loose new.kept new.journal) × (next.durable.base ≡ at.durable.base)) →

@@ -11,13 +11,14 @@ mod keeper;
 pub mod laws;
 mod live;
 mod open;
+mod shrinking;
 mod write;
 
 pub use keeper::DurableKeeper;
 pub use kv_bucket::{BatchReceipt, Feed, LiveName, Mark, Reader, Receipt};
 pub use kv_durable::{
-    BatchError, DurableError, Journal, JournalFile, NotDone, ReplaceableFile, Sync, SystemFile,
-    SystemPlace,
+    BatchError, DurableError, Journal, JournalFile, NotDone, ReplaceableFile, Shrunk, Sync,
+    SystemFile, SystemPlace,
 };
 pub use live::DurableLive;
 pub use open::{NotOpened, OpenError, Opened};

@@ -16,7 +16,7 @@ ghost use Rattle.kv_model.specs.declared.batch.BatchRefused.{BatchRefused as ARe
 
 use crate::keeper::DurableKeeper;
 use kv_bucket::{LiveName, Notifier, Receipt};
-use kv_durable::{BatchError, DurableError, JournalFile, NotDone, ReplaceableFile};
+use kv_durable::{BatchError, DurableError, JournalFile, NotDone, ReplaceableFile, Shrunk};
 use kv_model::Request;
 use std::sync::{Mutex, MutexGuard, Wait};
 
@@ -143,6 +143,23 @@ impl<N: LiveName, F: JournalFile> DurableLive<N, F> {
         ensures no_other { IfErr result IsRefusal }
     {
         self.keeper.lock(rt).compact(rt, floor)
+    }
+
+    /// Compacts to the floor, and replaces the file where it is large, as `DurableKeeper::compact_and_checkpoint` does.
+    pub fn compact_and_checkpoint<P, R: Wait>(
+        &self,
+        rt: &R,
+        floor: u64,
+        place: &P,
+        seed: u64,
+    ) -> Result<Shrunk, DurableError>
+    where
+        F: ReplaceableFile<P>,
+        ensures no_other { IfErr result IsRefusal }
+    {
+        self.keeper
+            .lock(rt)
+            .compact_and_checkpoint(rt, floor, place, seed)
     }
 
     /// Replaces the file by a checkpoint, as `DurableKeeper::checkpoint` does. It has the lock until that is on the disk: writes wait,
