@@ -12,7 +12,7 @@ use std::process::Abort;
 use std::sync::Wait;
 use std::test::Fail;
 
-const NEXT_SEED: u64 = 0xFEDC_BA98_7654_3210;
+pub const NEXT_SEED: u64 = 0xFEDC_BA98_7654_3210;
 
 // A bucket of one thread, behind writes of which some are stored no more, and a checkpoint.
 fn first_life(alloc: Global) -> Result<Durable<MemoryFile>, DurableError> {
@@ -27,13 +27,13 @@ fn first_life(alloc: Global) -> Result<Durable<MemoryFile>, DurableError> {
     Ok(bucket)
 }
 
-fn copied(alloc: Global, file: &MemoryFile) -> Result<MemoryFile, DurableError> {
+pub fn copied(alloc: Global, file: &MemoryFile) -> Result<MemoryFile, DurableError> {
     let bytes = Vec::from_slice(alloc, file.kept())?;
     Ok(MemoryFile::new(alloc, bytes))
 }
 
 // The second has all of the first, under the same revisions.
-fn has_all<R: Abort>(rt: &R, first: &Version, second: &Version) {
+pub fn has_all<R: Abort>(rt: &R, first: &Version, second: &Version) {
     for revision in 1..first.revision().saturating_add(1) {
         assert!(rt; is_same_at(first, second, revision));
     }
@@ -66,7 +66,7 @@ impl<R: Wait + Abort> Test<R> for GoesOn<'_> {
 }
 
 // A shared bucket goes on from the file of the first life, and the life after it has all.
-fn goes_on_from<R: Wait + Abort>(
+pub fn goes_on_from<R: Wait + Abort>(
     rt: &R,
     alloc: Global,
     first: &Durable<MemoryFile>,

@@ -16,4 +16,6 @@ mod reopened;
 #[cfg(test)]
 mod sharing;
 #[cfg(test)]
+mod shrinking;
+#[cfg(test)]
 mod writers;

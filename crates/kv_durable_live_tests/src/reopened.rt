@@ -34,7 +34,7 @@ impl<R: Wait + Abort> Test<R> for First {
 #[derive(Clone, Copy)]
 struct Second;
 
-fn next_revision<N: LiveName>(feed: &mut Feed<N>) -> u64 {
+pub fn next_revision<N: LiveName>(feed: &mut Feed<N>) -> u64 {
     match feed.take() {
         Taken::Entry(shown) => shown.revision(),
         Taken::Marker | Taken::Empty => 0,
@@ -87,7 +87,7 @@ fn follow_all<N: LiveName, R: Abort>(
     }
 }
 
-fn popped<N: LiveName>(readers: &mut Vec<Reader<N>>) -> Result<Reader<N>, KvError> {
+pub fn popped<N: LiveName>(readers: &mut Vec<Reader<N>>) -> Result<Reader<N>, KvError> {
     readers.pop().ok_or(KvError::NoReader)
 }
 
