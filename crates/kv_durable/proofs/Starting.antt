@@ -12,7 +12,7 @@ use Rattle.kv_journal.specs.Entries.{Entry, payloads_of}
 use Rattle.kv_journal.specs.Restored.{IsOnly, IsRestored}
 use Rattle.kv_journal.proofs.Restored.{stands_again}
 use Rattle.kv_durable.specs.Bases.{Base, IsBaseOf, KnowsBase, acts_before, base_payloads, fresh, replaced_by}
-use Rattle.kv_durable.specs.Starts.{BeginsWithActs, IsStarted}
+use Rattle.kv_durable.specs.Starts.{IsStarted, StandsFirst}
 
 -- a checkpoint has a payload
 not_nothing : (c : Checkpoint) → checkpoint_payloads c ≡ [] → ⊥
@@ -74,14 +74,9 @@ module _ (config : Configuration) (seed at : ℕ) (bytes : List ℕ) (legal : Is
       let same = only acts rest b.lawful (subst ArePayloads (sym b.stands) fit) (whole ∙ ap (λ (ps : List (List ℕ)). frames seed at ps ++ rest) (sym b.stands)) in
       stands_again config acts version legal b.lawful (subst (λ (d : Checkpoint). IsRestored config d version) (sym same) is)
 
-  -- the acts that were found are such as the payloads stand in place of
-  knows_found : BeginsWithActs config seed at bytes → KnowsBase config (checkpoint_payloads c) true
-  knows_found f =
-      (replaced_by config f.0, record { same = refl; lawful = f.2; stands = ap checkpoint_payloads (only f.0 f.1 f.2 f.3 f.4) }, λ e. absurd (true≢false e))
-
-  pub restored_start : (version : Stored) (place : ℕ) (retraced : Bool) → (retraced ≡ true → BeginsWithActs config seed at bytes) → IsRestored config c version → place ≡ place_after at (checkpoint_payloads c)
+  is_started : (retraced : Bool) (version : Stored) (place : ℕ) → (retraced ≡ true → KnowsBase config (checkpoint_payloads c) true) → IsRestored config c version → place ≡ place_after at (checkpoint_payloads c)
       → IsStarted config seed at bytes (checkpoint_payloads c) rest (record { version = version; place = place; checkpointed = true; retraced = retraced })
-  restored_start version place retraced found is there = record {
+  is_started retraced version place known is there = record {
     same = is.same;
     whole = whole;
     fit = fit;
@@ -89,11 +84,22 @@ module _ (config : Configuration) (seed at : ℕ) (bytes : List ℕ) (legal : Is
     plain = λ e. absurd (true≢false e);
     some = λ _. not_nothing c;
     known = λ e. absurd (true≢false e);
-    retraced = λ e. knows_found (found e);
+    retraced = known;
     stands = λ base b. over_bases config (λ (d : Base). IsBaseOf config (checkpoint_payloads c) d → StandsFor (acts_before d) version) (stands_for version is) base b.same b;
     front = λ acts left lawful each stands. ap checkpoint_payloads (only acts left lawful each stands);
     none = λ entries left splits. absurd (no_entries entries left splits);
   }
+
+  pub restored_start : (version : Stored) (place : ℕ) → IsRestored config c version → place ≡ place_after at (checkpoint_payloads c)
+      → IsStarted config seed at bytes (checkpoint_payloads c) rest (record { version = version; place = place; checkpointed = true; retraced = false })
+  restored_start version place = is_started false version place (λ e. absurd (true≢false (sym e)))
+
+-- that of acts which were found
+pub retraced_start : (config : Configuration) (seed at : ℕ) (bytes : List ℕ) → IsLegal config → ((entries : List Entry) (rest : List ℕ) → Splits seed at bytes (payloads_of entries) rest → ⊥)
+    → (version : Stored) (place : ℕ) (f : StandsFirst config seed at bytes version place) → IsStarted config seed at bytes (checkpoint_payloads (checkpoint_of config f.0)) f.1 (record { version = version; place = place; checkpointed = true; retraced = true })
+retraced_start config seed at bytes legal no_entries version place f =
+    is_started config seed at bytes legal no_entries (checkpoint_of config f.0) f.1 f.4 f.3 f.7 true version place
+    (λ _. (replaced_by config f.0, record { same = refl; lawful = f.2; stands = refl }, λ e. absurd (true≢false e))) f.5 f.6
 
 -- what holds of whatever error is answered
 pub any_err : {T E : Type 0} (r : Result T E) (P : E → Type 0) → ((e : E) → P e) → IfErr r P

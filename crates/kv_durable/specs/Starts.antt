@@ -5,15 +5,21 @@ use Rattle.kv_model.specs.Acceptance.{IsLawful}
 use Rattle.kv_model.specs.Acts.{Act}
 use Rattle.kv_model.specs.Configuration.{Configuration}
 use Rattle.kv_store.specs.Standing.{StandsFor}
+use Rattle.kv_store.specs.Stored.{Stored}
 use Rattle.kv_journal.specs.Checkpoints.{checkpoint_of, checkpoint_payloads}
 use Rattle.kv_journal.specs.Entries.{Entry, payloads_of}
+use Rattle.kv_journal.specs.Restored.{IsOnly, IsRestored}
 use Rattle.kv_durable.specs.Bases.{Base, IsBaseOf, KnowsBase, acts_before}
 use Rattle.kv_durable.specs.declared.start.Started.{Started}
 
--- the bytes, which lie at this place, begin with the checkpoint of lawful acts
-abbrev pub BeginsWithActs : Configuration → (seed at : ℕ) → (bytes : List ℕ) → Type 0
-BeginsWithActs config seed at bytes = (acts : List Act) × (rest : List ℕ) × IsLawful config acts × ArePayloads (checkpoint_payloads (checkpoint_of config acts))
+-- the bytes, which lie at this place, begin with the checkpoint of lawful acts, and of no others that store something else; the
+-- version has what it has, and there it ends
+abbrev pub StandsFirst : Configuration → (seed at : ℕ) → (bytes : List ℕ) → Stored → (end : ℕ) → Type 0
+StandsFirst config seed at bytes version end = (acts : List Act) × (rest : List ℕ) × IsLawful config acts × ArePayloads (checkpoint_payloads (checkpoint_of config acts))
     × (bytes ≡ frames seed at (checkpoint_payloads (checkpoint_of config acts)) ++ rest)
+    × IsRestored config (checkpoint_of config acts) version
+    × (end ≡ place_after at (checkpoint_payloads (checkpoint_of config acts)))
+    × IsOnly config seed at bytes (checkpoint_of config acts)
 
 -- The bytes behind the configuration, which lie at this place, begin with a checkpoint of these payloads, or with none where
 -- these are none. The version stands for the acts in whose place it stands, and entries begin behind it. Where the start was

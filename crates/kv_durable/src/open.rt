@@ -263,13 +263,13 @@ impl<F: JournalFile> Durable<F> {
     ///
     /// Of a file that begins with a checkpoint the bytes do not tell which acts that stands in place of: the bucket is at the
     /// state of whatever lawful acts it is the checkpoint of, with those of the entries behind them. With `Retrace::Yes` it looks
-    /// for such acts: it makes what the checkpoint has once more in memory, by real calls, and compares the checkpoint of that
-    /// with the file. It tells by `retraced` whether it has found some; then the bucket is at the state of lawful acts. It finds
-    /// none for a checkpoint that no bucket can have.
+    /// for such acts: it makes what the checkpoint has by real calls, and compares the checkpoint of that with the file. It tells
+    /// by `retraced` whether it has found some; then the bucket is at the state of lawful acts. It finds none for a checkpoint
+    /// that no bucket can have.
     ///
-    /// It reads the file once, into memory, and makes each act again. To retrace a checkpoint takes about as long again as to
-    /// take it, and as much memory as what it stores, until the call has answered; of a file with no checkpoint it takes
-    /// nothing. Nothing else is to write the file meanwhile.
+    /// It reads the file once, into memory, and makes each act again. To retrace a checkpoint takes about twice as long as to
+    /// take it, and until the call has answered memory for its writes and for its bytes once more; where no acts are found, it is
+    /// taken behind that. Of a file with no checkpoint it takes nothing. Nothing else is to write the file meanwhile.
     pub fn open(
         alloc: Global,
         config: &Config,

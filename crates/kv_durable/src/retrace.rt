@@ -3,7 +3,7 @@
 /// Whether an opening retraces a checkpoint: looks for acts in whose place it can stand.
 #[derive(Clone, Copy, Debug, PartialEq, Eq)]
 pub enum Retrace {
-    /// It makes what the checkpoint has once more in memory, and compares.
+    /// It makes what the checkpoint has by calls, and compares.
     Yes,
     /// It takes what the checkpoint has, and asks no more.
     No,

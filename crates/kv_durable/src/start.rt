@@ -1,6 +1,6 @@
 //! What stands before the entries of a file: a checkpoint, or nothing.
 
-ghost use Rattle.std.specs.Prelude.{◌≡◌, ◌≢◌, ◌+◌, ◌<◌, ◌^◌, ◌++◌, [], ℕ, List, false, true, length, Ok, IfErr, IfOk};
+ghost use Rattle.std.specs.Prelude.{◌≡◌, ◌≢◌, ◌+◌, ◌<◌, ◌^◌, ◌++◌, [], ℕ, List, false, true, length, Ok, IfErr, IfOk, MatchOption, ⊤};
 ghost use Rattle.kv_frames.specs.Frames.{ArePayloads, Splits, frames};
 ghost use Rattle.kv_keys.specs.declared.error.KvError.{KvError as AnError};
 ghost use Rattle.kv_keys.specs.declared.error.KvError.TheVariants.{OutOfMemory};
@@ -11,12 +11,12 @@ ghost use Rattle.kv_model.specs.Acts.{Act};
 ghost use Rattle.kv_model.specs.Configuration.{IsLegal};
 ghost use Rattle.kv_store.specs.Standing.{StandsFor};
 ghost use Rattle.kv_durable.specs.Refusals.{IsDamaged};
-ghost use Rattle.kv_durable.specs.Starts.{BeginsWithActs, IsStarted};
+ghost use Rattle.kv_durable.specs.Starts.{IsStarted, StandsFirst};
 ghost use Rattle.kv_durable.specs.declared.error.DurableError.TheVariants.{FileBusy, FileFault, HasCheckpoint, OtherBucket, Refused};
 
 use crate::error::DurableError;
 use crate::retrace::Retrace;
-use kv_journal::{Begun, ReplayError, begins_checkpoint, restore, retrace};
+use kv_journal::{Begun, ReplayError, Replayed, begins_checkpoint, restore, retrace};
 use kv_keys::KvError;
 use kv_model::Config;
 use kv_store::Version;
@@ -32,33 +32,38 @@ pub(crate) struct Started {
     pub retraced: bool,
 }
 
-// Whether acts are found in whose place the checkpoint can stand that was restored of these bytes. It does not look for them
-// where that is not asked for.
-fn is_retraced(
+// What a checkpoint leads to.
+fn behind_checkpoint(found: Replayed, retraced: bool) -> Started
+    ensures { result ≡ record { version = found.version; place = found.place; checkpointed = true; retraced = retraced } }
+{
+    Started {
+        version: found.version,
+        place: found.place,
+        checkpointed: true,
+        retraced,
+    }
+}
+
+// The version of the checkpoint that the bytes begin with, if acts are found in whose place it can stand. It does not look for
+// them where that is not asked for.
+fn retraced_of(
     alloc: Global,
     config: &Config,
     begun: &Begun,
-    restored: &Version,
     bytes: &[u8],
     asked: Retrace,
-) -> Result<bool, DurableError>
-    requires { IsLegal config.now }
-    ensures found { result ≡ Ok true → BeginsWithActs config.now begun.now.framing.seed begun.now.place bytes.now }
+) -> Result<Option<Replayed>, DurableError>
+    requires legal { IsLegal config.now }
+    requires few { begun.now.place + length bytes.now < 2 ^ 64 }
+    ensures found { IfOk result (λ found. MatchOption found ⊤
+        (λ r. StandsFirst config.now begun.now.framing.seed begun.now.place bytes.now r.version r.place)) }
     ensures err { IfErr result (λ e. e ≡ Refused OutOfMemory) }
 {
     match asked {
-        Retrace::No => Ok(false),
+        Retrace::No => Ok(None),
         Retrace::Yes => {
             let empty = Version::empty(alloc, config)?;
-            let found = retrace(
-                alloc,
-                empty,
-                config,
-                &begun.framing,
-                restored,
-                begun.place,
-                bytes,
-            )?;
+            let found = retrace(alloc, empty, config, &begun.framing, begun.place, bytes)?;
             Ok(found)
         }
     }
@@ -85,16 +90,11 @@ fn restored_of(
         bytes.now ≡ frames begun.now.framing.seed begun.now.place (checkpoint_payloads (checkpoint_of config.now acts)) ++ rest → ⊥) }
     ensures err { IfErr result (λ e. (e ≢ FileFault) × (e ≢ FileBusy) × (e ≢ HasCheckpoint) × (e ≢ OtherBucket) × ((x : AnError) → e ≡ Refused x → x ≡ OutOfMemory)) }
 {
+    if let Some(found) = retraced_of(alloc, config, begun, bytes, asked)? {
+        return Ok(behind_checkpoint(found, true));
+    }
     match restore(alloc, empty, config, &begun.framing, begun.place, bytes) {
-        Ok(restored) => {
-            let retraced = is_retraced(alloc, config, begun, &restored.version, bytes, asked)?;
-            Ok(Started {
-                version: restored.version,
-                place: restored.place,
-                checkpointed: true,
-                retraced,
-            })
-        }
+        Ok(restored) => Ok(behind_checkpoint(restored, false)),
         Err(ReplayError::OutOfMemory) => Err(DurableError::Refused(KvError::OutOfMemory)),
         Err(ReplayError::Damaged { at }) => Err(DurableError::FileDamaged { at }),
     }

@@ -16,6 +16,7 @@ pub mod FewWrites
 pub mod Unrefused
 pub mod OtherKinds
 pub mod OnlyCheckpoint
+pub mod SameCheckpoint
 pub mod PassedOver
 pub mod StillRebuilt
 pub mod Retraced

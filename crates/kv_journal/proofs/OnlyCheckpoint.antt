@@ -25,7 +25,7 @@ same_flag false false e = refl
 abbrev tail_of : ℕ → ℕ → Bool → List ℕ
 tail_of values floor sealed = to_be_bytes w64 values ++ (to_be_bytes w64 floor ++ flag sealed ∷ [])
 
-same_numbers : (a b c d e f : ℕ) (s t : Bool) → a < 2 ^ 64 → b < 2 ^ 64 → c < 2 ^ 64 → d < 2 ^ 64 → e < 2 ^ 64 → f < 2 ^ 64 → settled_payload (numbers_record a b c s) ≡ settled_payload (numbers_record d e f t)
+pub same_numbers : (a b c d e f : ℕ) (s t : Bool) → a < 2 ^ 64 → b < 2 ^ 64 → c < 2 ^ 64 → d < 2 ^ 64 → e < 2 ^ 64 → f < 2 ^ 64 → settled_payload (numbers_record a b c s) ≡ settled_payload (numbers_record d e f t)
     → (a ≡ d) × (b ≡ e) × (c ≡ f) × (s ≡ t)
 same_numbers a b c d e f s t ha hb hc hd he hf is =
     let one = sides (to_be_bytes w64 a) (tail_of b c s) (to_be_bytes w64 d) (tail_of e f t) refl (ap (λ (p : List ℕ). drop 5 p) is) in
@@ -33,10 +33,10 @@ same_numbers a b c d e f s t ha hb hc hd he hf is =
     let three = sides (to_be_bytes w64 c) (flag s ∷ []) (to_be_bytes w64 f) (flag t ∷ []) refl two.1 in
     (same_number a d ha hd one.0, same_number b e hb he two.0, same_number c f hc hf three.0, same_flag s t (ap (λ (xs : List ℕ). get_or xs 0 0) three.1))
 
-made : List Write → (last values floor : ℕ) → Bool → Checkpoint
+unfoldable pub made : List Write → (last values floor : ℕ) → Bool → Checkpoint
 made ws last values floor sealed = record { writes = ws; last = last; values = values; floor = floor; sealed = sealed }
 
-same_parts : (c : Checkpoint) (ws : List Write) (last values floor : ℕ) (sealed : Bool) → c.writes ≡ ws → c.last ≡ last → c.values ≡ values → c.floor ≡ floor → c.sealed ≡ sealed → c ≡ made ws last values floor sealed
+pub same_parts : (c : Checkpoint) (ws : List Write) (last values floor : ℕ) (sealed : Bool) → c.writes ≡ ws → c.last ≡ last → c.values ≡ values → c.floor ≡ floor → c.sealed ≡ sealed → c ≡ made ws last values floor sealed
 unfolding made
 same_parts c ws last values floor sealed w l v f s =
     ap (λ (xs : List Write). made xs c.last c.values c.floor c.sealed) w

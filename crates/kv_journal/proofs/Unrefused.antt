@@ -26,11 +26,11 @@ use Rattle.kv_journal.proofs.FewWrites.{below_limit, legal_limit}
 use Rattle.kv_journal.proofs.Saying.{same_fields, same_write}
 
 -- the fifth byte of a payload is its record's kind
-abbrev kind : List ℕ → ℕ
+abbrev pub kind : List ℕ → ℕ
 kind p = get_or p 4 0
 
 -- a stored write is told by its payload
-same_stored : (v w : Write) → v.revision < 2 ^ 32 → w.revision < 2 ^ 32 → stored_payload v ≡ stored_payload w → v ≡ w
+pub same_stored : (v w : Write) → v.revision < 2 ^ 32 → w.revision < 2 ^ 32 → stored_payload v ≡ stored_payload w → v ≡ w
 same_stored v w hv hw e =
     let both = sides (to_be_bytes w32 v.revision) (write_record v.op v.key v.value) (to_be_bytes w32 w.revision) (write_record w.op w.key w.value) refl (ap (λ (p : List ℕ). drop 5 p) e) in
     let parts = same_write v.op w.op v.key w.key v.value w.value both.1 in
@@ -40,7 +40,7 @@ at_payload : (ps qs : List (List ℕ)) (q : List ℕ) → ArePayloads (ps ++ q �
 at_payload [] qs q h = h.0
 at_payload (p ∷ ps) qs q h = at_payload ps qs q h.1
 
-abbrev told : List Write → List ℕ → List (List ℕ)
+abbrev pub told : List Write → List ℕ → List (List ℕ)
 told ws n = map stored_payload ws ++ n ∷ []
 
 told_parts : (ws : List Write) (m : Write) (ms : List Write) (n : List ℕ) → told (ws ++ m ∷ ms) n ≡ map stored_payload ws ++ stored_payload m ∷ told ms n

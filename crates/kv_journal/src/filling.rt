@@ -96,7 +96,7 @@ impl<'r> Rebuilding<'r> {
         if to <= last {
             return Ok(to == last);
         }
-        if to > plan.restored.floor() {
+        if to > plan.numbers.floor {
             return Ok(false);
         }
         if self.pass(alloc, plan, to)? {

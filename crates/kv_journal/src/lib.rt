@@ -2,6 +2,7 @@
 #![tactic(auto)]
 
 mod checkpoint;
+mod contents;
 mod damage;
 mod decode;
 mod encode;

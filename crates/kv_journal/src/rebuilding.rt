@@ -8,8 +8,9 @@ ghost use Rattle.kv_store.specs.Standing.{StandsFor};
 ghost use Rattle.kv_journal.specs.inside.Rebuilt.{IsRebuilt};
 
 use crate::markers::Markers;
+use crate::restoration::Numbers;
 use kv_keys::{Key, KvError};
-use kv_model::{Config, Op, Request, Write};
+use kv_model::{Config, Request};
 use kv_store::Version;
 use std::alloc::Global;
 
@@ -17,9 +18,9 @@ use std::alloc::Global;
 #[derive(Drop)]
 pub(crate) struct Plan<'r> {
     pub config: &'r Config,
-    /// It is to store what this one does.
-    pub restored: &'r Version,
-    /// A key of which this one stores nothing.
+    /// It is to have these.
+    pub numbers: Numbers,
+    /// A key of which it is to store nothing.
     pub key: Key,
 }
 
@@ -36,29 +37,6 @@ pub(crate) struct Rebuilding<'r> {
     pub(crate) markers: Markers<'r>,
     // Whether it was compacted to that floor.
     compacted: bool,
-}
-
-// The request that the write was made for, whatever it asked of the key's last revision.
-fn request_for(alloc: Global, write: &Write) -> Result<Request, KvError>
-    ensures { IfErr result (λ e. e ≡ OutOfMemory) }
-{
-    let key = write.key().copy(alloc)?;
-    match write.op() {
-        Op::Put => {
-            let value = Vec::from_slice(alloc, write.value())?;
-            Ok(Request::Put { key, value })
-        }
-        Op::Delete => Ok(Request::Delete { key, last: None }),
-        Op::Purge => Ok(Request::Purge { key, last: None }),
-    }
-}
-
-// Whether its key has a later write.
-fn is_written_again(version: &Version, write: &Write) -> bool {
-    match version.last_write(write.key()) {
-        Some(last) => last.revision() > write.revision(),
-        None => false,
-    }
 }
 
 // Whether each key's last write is known to be a put behind one more write.
@@ -116,7 +94,7 @@ impl<'r> Rebuilding<'r> {
             Some(revision) => revision.saturating_sub(1),
             None => self.version.revision(),
         };
-        let floor = highest.min(plan.restored.floor());
+        let floor = highest.min(plan.numbers.floor);
         if floor <= self.version.floor() {
             return Ok(false);
         }
@@ -166,7 +144,7 @@ impl<'r> Rebuilding<'r> {
         ensures rebuilt { OnOk result (IsRebuilt plan.now.config.now self.new.clear self.new.version) }
         ensures err { IfErr result (λ e. e ≡ OutOfMemory) }
     {
-        let floor = plan.restored.floor();
+        let floor = plan.numbers.floor;
         if self.compacted || floor == 0 || self.version.revision() < floor {
             return Ok(true);
         }
@@ -177,19 +155,23 @@ impl<'r> Rebuilding<'r> {
         self.compact(alloc, plan, floor)
     }
 
-    // Makes a stored write again.
-    fn remake(&mut self, alloc: Global, plan: &Plan<'r>, write: &'r Write) -> Result<bool, KvError>
+    // Makes a stored write again. A marker at or below the floor is stored since its key was written again.
+    fn remake(
+        &mut self,
+        alloc: Global,
+        plan: &Plan<'r>,
+        revision: u64,
+        request: &'r Request,
+    ) -> Result<bool, KvError>
         requires rebuilt { IsRebuilt plan.now.config.now self.old.clear self.old.version }
         ensures rebuilt { OnOk result (IsRebuilt plan.now.config.now self.new.clear self.new.version) }
         ensures err { IfErr result (λ e. e ≡ OutOfMemory) }
     {
-        let request = request_for(alloc, write)?;
-        if !self.make(alloc, plan, &request)? {
+        if !self.make(alloc, plan, request)? {
             return Ok(false);
         }
-        let is_low = write.revision() <= plan.restored.floor();
-        if is_low && !write.op().is_put() && is_written_again(plan.restored, write) {
-            self.markers.push(write)?;
+        if revision <= plan.numbers.floor && !request.op().is_put() {
+            self.markers.push(revision, request.key())?;
         }
         Ok(true)
     }
@@ -200,17 +182,18 @@ impl<'r> Rebuilding<'r> {
         &mut self,
         alloc: Global,
         plan: &Plan<'r>,
-        write: &'r Write,
+        revision: u64,
+        request: &'r Request,
     ) -> Result<bool, KvError>
         requires rebuilt { IsRebuilt plan.now.config.now self.old.clear self.old.version }
         ensures rebuilt { OnOk result (IsRebuilt plan.now.config.now self.new.clear self.new.version) }
         ensures err { IfErr result (λ e. e ≡ OutOfMemory) }
     {
-        let before = write.revision().saturating_sub(1);
+        let before = revision.saturating_sub(1);
         if !self.fill_to(alloc, plan, before)? || !self.reach_floor(alloc, plan)? {
             return Ok(false);
         }
-        if !self.remake(alloc, plan, write)? {
+        if !self.remake(alloc, plan, revision, request)? {
             return Ok(false);
         }
         self.reach_floor(alloc, plan)
@@ -222,7 +205,7 @@ impl<'r> Rebuilding<'r> {
         ensures rebuilt { OnOk result (IsRebuilt plan.now.config.now self.new.clear self.new.version) }
         ensures err { IfErr result (λ e. e ≡ OutOfMemory) }
     {
-        if plan.restored.sealed() {
+        if plan.numbers.sealed {
             self.version = self.version.seal(alloc)?;
         }
         Ok(())
@@ -235,7 +218,7 @@ impl<'r> Rebuilding<'r> {
         ensures err { IfErr result (λ e. e ≡ OutOfMemory) }
     {
         let mut rebuilding = self;
-        let last = plan.restored.revision();
+        let last = plan.numbers.last;
         if !rebuilding.fill_to(alloc, plan, last)? || !rebuilding.reach_floor(alloc, plan)? {
             return Ok(None);
         }

@@ -23,17 +23,17 @@ use kv_model::{Config, Write};
 use kv_store::Version;
 use std::alloc::Global;
 
-// The numbers of a checkpoint.
+/// The numbers of a checkpoint.
 #[derive(Clone, Copy)]
-struct Numbers {
-    last: u64,
-    values: u64,
-    floor: u64,
-    sealed: bool,
+pub(crate) struct Numbers {
+    pub last: u64,
+    pub values: u64,
+    pub floor: u64,
+    pub sealed: bool,
 }
 
 // What stands behind the kind of a record before which nothing is loose.
-fn behind_kind(payload: &[u8], kind: u8) -> Option<&[u8]>
+pub(crate) fn behind_kind(payload: &[u8], kind: u8) -> Option<&[u8]>
     ensures { MatchOption result ((rest : List ℕ) → payload.now ≢ settled_payload (kind ∷ rest))
         (λ rest. payload.now ≡ settled_payload (kind ∷ rest.now)) }
 {
@@ -121,7 +121,7 @@ fn numbers_of(bytes: &[u8]) -> Option<Numbers>
 }
 
 // The numbers that a payload tells.
-fn numbers_in(payload: &[u8]) -> Option<Numbers>
+pub(crate) fn numbers_in(payload: &[u8]) -> Option<Numbers>
     ensures { MatchOption result
         ((last values floor : ℕ) (sealed : Bool) → payload.now ≢ settled_payload (numbers_record last values floor sealed))
         (λ n. payload.now ≡ settled_payload (numbers_record n.last n.values n.floor n.sealed)) }

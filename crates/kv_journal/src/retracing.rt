@@ -1,66 +1,70 @@
 //! Acts in whose place a checkpoint can stand.
 
-ghost use Rattle.std.specs.Prelude.{◌≡◌, ◌++◌, [], ℕ, List, Ok, drop, false, true, IfErr, IfOk, MatchOption, ⊤};
-ghost use Rattle.kv_frames.specs.Frames.{ArePayloads, frames};
+ghost use Rattle.std.specs.Prelude.{◌≡◌, ◌+◌, ◌<◌, ◌^◌, ◌++◌, [], ℕ, List, drop, false, length, true, IfErr, IfOk, MatchOption, ⊤};
+ghost use Rattle.kv_frames.specs.Frames.{ArePayloads, frames, place_after};
 ghost use Rattle.kv_keys.specs.declared.error.KvError.TheVariants.{OutOfMemory};
 ghost use Rattle.kv_model.specs.Acceptance.{IsLawful};
 ghost use Rattle.kv_model.specs.Acts.{Act};
 ghost use Rattle.kv_store.specs.Standing.{StandsFor};
 ghost use Rattle.kv_journal.specs.Checkpoints.{checkpoint_of, checkpoint_payloads};
+ghost use Rattle.kv_journal.specs.Restored.{IsOnly, IsRestored};
 ghost use Rattle.kv_journal.specs.inside.Rebuilt.{IsRebuilt};
 
 use crate::checkpoint::push_checkpoint;
-use crate::passing::has_write;
+use crate::contents::Contents;
 use crate::rebuilding::{Plan, Rebuilding};
+use crate::replays::Replayed;
 use kv_frames::Framing;
 use kv_keys::{Key, KvError};
-use kv_model::Config;
+use kv_model::{Config, Request};
 use kv_store::Version;
 use std::alloc::Global;
 
 // No file has so much before its checkpoint.
 const MOST_BEFORE: u64 = 4096;
 
-// A key of which the version has no write. There are more that are tried than it stores writes.
-fn unused_key(alloc: Global, version: &Version) -> Result<Option<Key>, KvError>
-    ensures err { IfErr result (λ e. e ≡ OutOfMemory) }
-{
-    for number in 0..=version.status().stored {
-        let text = format!(in alloc; "retrace.{number}")?;
-        let Ok(key) = Key::parse(alloc, text.as_str()) else {
-            return Err(KvError::OutOfMemory);
-        };
-        if !has_write(version, &key) {
-            return Ok(Some(key));
-        }
-    }
-    Ok(None)
+// The number of a key that was made like those that `unused_key` makes.
+fn number_in(key: &Key) -> Option<u64> {
+    key.as_str().strip_prefix("retrace.")?.parse::<u64>().ok()
 }
 
-// A version that acts are known for, and that stores what the restored one does, as far as such acts are found.
+// A key that none of the writes has.
+fn unused_key(alloc: Global, writes: &[(u64, Request)]) -> Result<Key, KvError>
+    ensures err { IfErr result (λ e. e ≡ OutOfMemory) }
+{
+    let mut unused = 0;
+    for numbered in writes {
+        if let Some(number) = number_in(numbered.1.key()) {
+            unused = unused.max(number.saturating_add(1));
+        }
+    }
+    let text = format!(in alloc; "retrace.{unused}")?;
+    match Key::parse(alloc, text.as_str()) {
+        Ok(key) => Ok(key),
+        Err(_) => Err(KvError::OutOfMemory),
+    }
+}
+
+// A version that acts are known for, and that stores what a checkpoint with these contents has, as far as such acts are found.
 fn rebuilt(
     alloc: Global,
     empty: Version,
     config: &Config,
-    restored: &Version,
+    contents: &Contents,
 ) -> Result<Option<Version>, KvError>
     requires stands { StandsFor [] empty }
     requires config { empty.config ≡ config.now }
     ensures rebuilt { IfOk result (λ found. MatchOption found ⊤ (λ v. IsRebuilt config.now false v)) }
     ensures err { IfErr result (λ e. e ≡ OutOfMemory) }
 {
-    let Some(key) = unused_key(alloc, restored)? else {
-        return Ok(None);
-    };
     let plan = Plan {
         config,
-        restored,
-        key,
+        numbers: contents.numbers,
+        key: unused_key(alloc, &contents.writes)?,
     };
     let mut rebuilding = Rebuilding::new(alloc, empty);
-    let writes = restored.stored_writes(alloc)?;
-    for numbered in &writes {
-        if !rebuilding.add(alloc, &plan, numbered.1)? {
+    for numbered in &contents.writes {
+        if !rebuilding.add(alloc, &plan, numbered.0, &numbered.1)? {
             return Ok(None);
         }
     }
@@ -85,58 +89,74 @@ fn begins_behind(bytes: &[u8], others: &[u8], at: usize) -> bool
     begins(bytes, behind)
 }
 
-// Whether the bytes begin with the checkpoint of the version, its first frame at this place of the file.
-fn begins_with(
+// Where the checkpoint of the version ends that the bytes begin with, its first frame at this place of the file. None where
+// they begin with another.
+fn end_of(
     alloc: Global,
     framing: &Framing,
     version: &Version,
     at: u64,
     bytes: &[u8],
-) -> Result<bool, KvError>
-    ensures yes { result ≡ Ok true → (acts : List Act) → StandsFor acts version.now →
+) -> Result<Option<u64>, KvError>
+    ensures found { IfOk result (λ found. MatchOption found ⊤ (λ end. (acts : List Act) → StandsFor acts version.now →
         (rest : List ℕ)
         × ArePayloads (checkpoint_payloads (checkpoint_of version.now.config acts))
-        × (bytes.now ≡ frames framing.now.seed at (checkpoint_payloads (checkpoint_of version.now.config acts)) ++ rest) }
+        × (bytes.now ≡ frames framing.now.seed at (checkpoint_payloads (checkpoint_of version.now.config acts)) ++ rest)
+        × (end ≡ place_after at (checkpoint_payloads (checkpoint_of version.now.config acts))))) }
     ensures err { IfErr result (λ e. e ≡ OutOfMemory) }
 {
     if at > MOST_BEFORE {
-        return Ok(false);
+        return Ok(None);
     }
-    let at = at as usize;
-    let mut out = vec![in alloc; 0; at]?;
+    let place = at as usize;
+    let mut out = vec![in alloc; 0; place]?;
     push_checkpoint(alloc, &mut out, framing, version)?;
-    Ok(begins_behind(bytes, &out, at))
+    if begins_behind(bytes, &out, place) {
+        Ok(Some(out.len() as u64))
+    } else {
+        Ok(None)
+    }
 }
 
-/// Whether acts are found in whose place the checkpoint at the front of the bytes can stand, its first frame at this place
-/// of the file; `restored` is what was restored of it, and `empty` is the bucket's empty version.
+/// The version of the checkpoint at the front of the bytes, its first frame at this place of the file, and where that ends,
+/// if acts are found in whose place it can stand; the version stands for these, and for whatever other acts it can stand in
+/// place of. `empty` is the bucket's empty version.
 ///
 /// The acts are made: each stored write is made again, the revisions between them are purges of a key of no meaning, and
-/// compactions remove these. What is stored then is written as a checkpoint, and compared with the bytes. So it is true
-/// only where acts have this very checkpoint. Where it is false there may still be some: the search is made to find those
+/// compactions remove these. What is stored then is written as a checkpoint, and compared with the bytes. So some are found
+/// only where acts have this very checkpoint. Where none are found there may still be some: the search is made to find those
 /// of any bucket's own checkpoint, and no contract says that it does.
 ///
 /// It makes each stored write once, and passes at once over revisions between them where no key's last write is a marker
-/// that has to stay; else it makes one write for each. It takes memory for a second version and for the checkpoint's
-/// bytes. Where the checkpoint begins behind 4,096 bytes, it is false.
+/// that has to stay; else it makes one write for each. Beside the version it takes memory for the writes and for the
+/// checkpoint's bytes. Where the checkpoint begins behind 4,096 bytes, none are found.
 pub fn retrace(
     alloc: Global,
     empty: Version,
     config: &Config,
     framing: &Framing,
-    restored: &Version,
     at: u64,
     bytes: &[u8],
-) -> Result<bool, KvError>
+) -> Result<Option<Replayed>, KvError>
     requires stands { StandsFor [] empty }
     requires config { empty.config ≡ config.now }
-    ensures found { result ≡ Ok true → (acts : List Act) × (rest : List ℕ) × IsLawful empty.config acts
-        × ArePayloads (checkpoint_payloads (checkpoint_of empty.config acts))
-        × (bytes.now ≡ frames framing.now.seed at (checkpoint_payloads (checkpoint_of empty.config acts)) ++ rest) }
+    requires few { at + length bytes.now < 2 ^ 64 }
+    ensures found { IfOk result (λ found. MatchOption found ⊤ (λ r. (acts : List Act) × (rest : List ℕ) × IsLawful config.now acts
+        × ArePayloads (checkpoint_payloads (checkpoint_of config.now acts))
+        × (bytes.now ≡ frames framing.now.seed at (checkpoint_payloads (checkpoint_of config.now acts)) ++ rest)
+        × IsRestored config.now (checkpoint_of config.now acts) r.version
+        × (r.place ≡ place_after at (checkpoint_payloads (checkpoint_of config.now acts)))
+        × IsOnly config.now framing.now.seed at bytes.now (checkpoint_of config.now acts))) }
     ensures err { IfErr result (λ e. e ≡ OutOfMemory) }
 {
-    match rebuilt(alloc, empty, config, restored)? {
-        Some(version) => begins_with(alloc, framing, &version, at, bytes),
-        None => Ok(false),
+    let Some(contents) = Contents::of(alloc, framing, at, bytes)? else {
+        return Ok(None);
+    };
+    let Some(version) = rebuilt(alloc, empty, config, &contents)? else {
+        return Ok(None);
+    };
+    match end_of(alloc, framing, &version, at, bytes)? {
+        Some(place) => Ok(Some(Replayed { version, place })),
+        None => Ok(None),
     }
 }

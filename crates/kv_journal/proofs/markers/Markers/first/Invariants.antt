@@ -2,8 +2,8 @@ use Rattle.std.proofs.Common.{◌-◌, length}
 use Rattle.std.specs.Prelude.{⊤}
 use Rattle.kv_journal.proofs.markers.Markers.first.Given as goal
 
-abbrev pub invariant-loop-marker : goal.invariant-loop-marker
-invariant-loop-marker l = ⊤
+abbrev pub invariant-loop-revision : goal.invariant-loop-revision
+invariant-loop-revision l = ⊤
 
-abbrev pub decreases-loop-marker : goal.decreases-loop-marker
-decreases-loop-marker l = length l.self.all.items - l.self.passed
+abbrev pub decreases-loop-revision : goal.decreases-loop-revision
+decreases-loop-revision l = length l.self.all.items - l.self.passed
