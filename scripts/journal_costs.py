@@ -1,6 +1,6 @@
 #!/usr/bin/env python3
-"""journal_costs.py: measures what it costs the program kvbucket to keep its bucket in a file, and a checkpoint through the library, and
-writes docs/bench/journal.md. The file lies in the folder for temporary files (TMPDIR), on whose disk the costs of a sync depend. It
+"""journal_costs.py: measures what it costs the program kvbucket to keep its bucket in a file, what a checkpoint through the library costs
+and the openings of its file, and writes docs/bench/journal.md. The file lies in the folder for temporary files (TMPDIR), on whose disk the costs of a sync depend. It
 wants the program (scripts/build.py), and for the checkpoint the library (./library), and takes about a minute. What is above its bound
 is told on standard error."""
 import datetime, os, subprocess, sys, tempfile, time
@@ -22,7 +22,7 @@ WRITES = 1_000_000
 # What an append without a sync may add to a put, in microseconds of the processor, and what the opening and the checkpoint may take, in
 # seconds.
 MOST_ADDED, MOST_OPENING, MOST_CHECKPOINT = 2, 3, 2
-# Makes a bucket in a file, and tells the seconds of its checkpoint.
+# Makes a bucket in a file, and tells the seconds of its checkpoint, and those of an opening of that.
 CHECKPOINT = """\
 import sys, time
 from vilgoued import Bucket
@@ -32,6 +32,9 @@ with Bucket("settings", path=path, sync="asked") as bucket:
         bucket.put("device.%d.state" % number, b"0123456789012345")
     began = time.monotonic()
     bucket.checkpoint()
+    print(time.monotonic() - began)
+began = time.monotonic()
+with Bucket("settings", path=path, sync="asked") as bucket:
     print(time.monotonic() - began)
 """
 
@@ -46,6 +49,13 @@ class Opening(NamedTuple):
     """The bytes of a file, and the seconds that its opening takes."""
     size: int
     took: float
+
+
+class Checkpoint(NamedTuple):
+    """The seconds that a checkpoint takes, those of an opening of its file through the library, and those of one by the program."""
+    made: float
+    taken: float
+    retraced: float
 
 
 def puts(count: int) -> str:
@@ -91,32 +101,48 @@ def opening(path: str, writes: int) -> Opening:
         return Opening(os.path.getsize(file), median(run(path, file, "") for _ in range(3)))
 
 
-def checkpoint(writes: int) -> Optional[float]:
-    """The seconds of a checkpoint of so many stored writes; None where there is no library."""
+def first_answer(path: str, file: str) -> float:
+    """The seconds until the program answers a line on the bucket of a file."""
+    began = time.monotonic()
+    program = Program(path, arguments=["--bucket", "settings", "--journal", file, "--sync", "close"])
+    program.tell("status\n", 1)
+    took = time.monotonic() - began
+    program.end()
+    return took
+
+
+def checkpoint(path: str, writes: int) -> Optional[Checkpoint]:
+    """What a checkpoint of so many stored writes takes; None where there is no library."""
     library = os.path.join(top, "lib", "libvilgoued.so")
     if not os.path.exists(library):
         return None
     with tempfile.TemporaryDirectory() as folder:
-        words = [sys.executable, "-c", CHECKPOINT, os.path.join(folder, "settings.kv"), str(writes)]
+        file = os.path.join(folder, "settings.kv")
+        words = [sys.executable, "-c", CHECKPOINT, file, str(writes)]
         more = {"PYTHONPATH": os.path.join(top, "python"), "VILGOUED_LIB": library}
         done = subprocess.run(words, env={**os.environ, **more}, stdout=subprocess.PIPE, text=True)
-    if done.returncode != 0:
-        sys.exit("journal_costs: a checkpoint ended with status %d" % done.returncode)
-    return float(done.stdout)
+        if done.returncode != 0:
+            sys.exit("journal_costs: a checkpoint ended with status %d" % done.returncode)
+        made, taken = map(float, done.stdout.split())
+        return Checkpoint(made, taken, median(first_answer(path, file) for _ in range(3)))
 
 
-def above(modes: Sequence[Put], opened: Opening, checkpointed: Optional[float]) -> list[str]:
+def above(modes: Sequence[Put], opened: Opening, checkpointed: Optional[Checkpoint]) -> list[str]:
     """What is above its bound, in a line each."""
-    added = modes[1].worked - modes[0].worked
-    return (["an append adds %.2f µs to a put, above %d µs" % (added, MOST_ADDED)] if added > MOST_ADDED else []) + \
-           (["an opening takes %.2f s, above %d s" % (opened.took, MOST_OPENING)] if opened.took > MOST_OPENING else []) + \
-           (["a checkpoint takes %.2f s, above %d s" % (checkpointed, MOST_CHECKPOINT)]
-            if checkpointed is not None and checkpointed > MOST_CHECKPOINT else [])
+    costs = [("an append adds %.2f µs to a put, above %d µs", modes[1].worked - modes[0].worked, MOST_ADDED),
+             ("an opening takes %.2f s, above %d s", opened.took, MOST_OPENING)]
+    if checkpointed is not None:
+        costs += [("a checkpoint takes %.2f s, above %d s", checkpointed.made, MOST_CHECKPOINT),
+                  ("an opening of a checkpoint takes %.2f s, above %d s", checkpointed.taken, MOST_OPENING),
+                  ("an opening of a checkpoint by the program takes %.2f s, above %d s", checkpointed.retraced, MOST_OPENING)]
+    return [said % (cost, most) for said, cost, most in costs if cost > most]
 
 
-def page(modes: Sequence[Put], opened: Opening, checkpointed: Optional[float], day: str) -> str:
+def page(modes: Sequence[Put], opened: Opening, checkpointed: Optional[Checkpoint], day: str) -> str:
     rows = "\n".join("| %s | %.2f µs | %.2f µs |" % (name, *costs) for (_, name, _), costs in zip(MODES, modes))
-    said = "" if checkpointed is None else f"\nA checkpoint of {WRITES:,} stored writes takes {checkpointed:.2f} s through the library.\n"
+    said = "" if checkpointed is None else f"""
+A checkpoint of {WRITES:,} stored writes takes {checkpointed.made:.2f} s through the library, and is opened there in {checkpointed.taken:.2f} s. The program, which looks for acts that lead to it, opens it in {checkpointed.retraced:.2f} s.
+"""
     return """# What a journal file costs
 
 `scripts/journal_costs.py` wrote this page on %s, on %d processors. Nothing of it is promised. A sync is as quick as the disk.
@@ -135,7 +161,7 @@ A file of %s such puts has %.1f MB, and is opened in %.2f s.
 def main() -> None:
     path = current.path_of("kvbucket")
     modes = [put_in_file(path, sync, count) if sync else put(path, [], count) for sync, _, count in MODES]
-    opened, checkpointed = opening(path, WRITES), checkpoint(WRITES)
+    opened, checkpointed = opening(path, WRITES), checkpoint(path, WRITES)
     with open(PAGE, "w", encoding="utf-8") as file:
         file.write(page(modes, opened, checkpointed, datetime.date.today().isoformat()))
     for line in above(modes, opened, checkpointed):
