@@ -1,12 +1,11 @@
 //! Tests of batches of durable buckets.
 
-use crate::durables::{create, empty, is_fault, opened, put_both, reopened, step, without_place};
+use crate::durables::{BATCH, create, empty, is_fault, opened, reopened, step, without_place};
 use crate::equal::equal;
-use crate::twice::twice;
 use kv_durable::{BatchError, DurableError, Sync};
 use kv_keys::{Key, KvError};
 use kv_model::{BatchRefused, Request};
-use kv_test_tools::put;
+use kv_test_tools::{put, twice};
 use std::alloc::Global;
 use std::process::Abort;
 use std::test::Fail;
@@ -38,7 +37,7 @@ fn a_batch_is_refused_whole_once(rt: &impl Abort, alloc: Global) -> Result<(), D
 
 #[test]
 fn a_batch_is_refused_whole(rt: HostRuntime) -> Result<(), Fail> {
-    Ok(twice(|| a_batch_is_refused_whole_once(&rt, rt.alloc()))?)
+    Ok(twice!(a_batch_is_refused_whole_once(&rt, rt.alloc()))?)
 }
 
 fn an_empty_batch_is_nothing_once(rt: &impl Abort, alloc: Global) -> Result<(), DurableError> {
@@ -51,14 +50,14 @@ fn an_empty_batch_is_nothing_once(rt: &impl Abort, alloc: Global) -> Result<(), 
     equal(rt, bucket.journal().file().loose().len(), loose);
     is_fault(rt, bucket.sync())?;
     equal(rt, bucket.write_all(&[]), Ok(1));
-    is_fault(rt, put_both(alloc, &mut bucket).map(|_| ()))?;
+    is_fault(rt, step(alloc, &mut bucket, BATCH))?;
     equal(rt, bucket.bucket().version().revision(), 1);
     Ok(())
 }
 
 #[test]
 fn an_empty_batch_is_nothing(rt: HostRuntime) -> Result<(), Fail> {
-    Ok(twice(|| an_empty_batch_is_nothing_once(&rt, rt.alloc()))?)
+    Ok(twice!(an_empty_batch_is_nothing_once(&rt, rt.alloc()))?)
 }
 
 // A put of a mebibyte of zeros.
@@ -94,5 +93,5 @@ fn damage_in_a_long_batch_is_told_once(rt: &impl Abort, alloc: Global) -> Result
 
 #[test]
 fn damage_in_a_long_batch_is_told(rt: HostRuntime) -> Result<(), Fail> {
-    Ok(twice(|| damage_in_a_long_batch_is_told_once(&rt, rt.alloc()))?)
+    Ok(twice!(damage_in_a_long_batch_is_told_once(&rt, rt.alloc()))?)
 }

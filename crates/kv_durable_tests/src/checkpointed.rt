@@ -2,9 +2,9 @@
 
 use crate::durables::{Bucket, STEPS, empty, is_same, opened, reopened, step};
 use crate::equal::equal;
-use crate::twice::twice;
 use kv_durable::{DurableError, Opened, Sync};
 use kv_keys::KvError;
+use kv_test_tools::twice;
 use std::alloc::Global;
 use std::process::Abort;
 use std::test::Fail;
@@ -62,16 +62,12 @@ fn comes_back(rt: &impl Abort, alloc: Global, steps: usize) -> Result<(), Durabl
     Ok(())
 }
 
-fn each_comes_back(rt: &impl Abort, alloc: Global) -> Result<(), DurableError> {
-    for steps in 0..STEPS + 1 {
-        comes_back(rt, alloc, steps)?;
-    }
-    Ok(())
-}
-
 #[test]
 fn a_checkpoint_is_opened_as_the_same_bucket(rt: HostRuntime) -> Result<(), Fail> {
-    Ok(twice(|| each_comes_back(&rt, rt.alloc()))?)
+    for steps in 0..STEPS + 1 {
+        twice!(comes_back(&rt, rt.alloc(), steps))?;
+    }
+    Ok(())
 }
 
 // A checkpoint of which a call of the file fails: the first leaves the old file, and the second the new one. Both are of the
@@ -97,15 +93,12 @@ fn is_cut_off(
     Ok(())
 }
 
-fn each_is_cut_off(rt: &impl Abort, alloc: Global) -> Result<(), DurableError> {
-    for steps in 0..STEPS + 1 {
-        is_cut_off(rt, alloc, steps, 0)?;
-        is_cut_off(rt, alloc, steps, 1)?;
-    }
-    Ok(())
-}
-
 #[test]
 fn a_checkpoint_that_is_cut_off_leaves_the_bucket(rt: HostRuntime) -> Result<(), Fail> {
-    Ok(twice(|| each_is_cut_off(&rt, rt.alloc()))?)
+    for steps in 0..STEPS + 1 {
+        for calls in 0..2u64 {
+            twice!(is_cut_off(&rt, rt.alloc(), steps, calls))?;
+        }
+    }
+    Ok(())
 }

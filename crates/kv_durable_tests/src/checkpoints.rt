@@ -2,13 +2,13 @@
 
 use crate::durables::{STEPS, config, empty, is_same, opened, step};
 use crate::equal::equal;
-use crate::twice::twice;
 use kv_durable::{DurableError, Sync};
 use kv_frames::Framing;
 use kv_journal::{ReplayError, Replayed, push_checkpoint, restore};
 use kv_keys::KvError;
 use kv_model::Config;
 use kv_store::Version;
+use kv_test_tools::twice;
 use std::alloc::Global;
 use std::process::Abort;
 use std::test::Fail;
@@ -69,5 +69,5 @@ fn each_comes_back(rt: &impl Abort, alloc: Global) -> Result<(), DurableError> {
 
 #[test]
 fn a_checkpoint_gives_the_version_again(rt: HostRuntime) -> Result<(), Fail> {
-    Ok(twice(|| each_comes_back(&rt, rt.alloc()))?)
+    Ok(twice!(each_comes_back(&rt, rt.alloc()))?)
 }

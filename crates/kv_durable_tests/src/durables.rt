@@ -1,13 +1,12 @@
 //! Tests of durable buckets over a file in memory.
 
 use crate::equal::equal;
-use crate::twice::twice;
 use kv_durable::{BatchError, Durable, DurableError, Opened, Retrace, Sync};
 use kv_file::{JournalFile, MemoryFile, Torn};
 use kv_keys::KvError;
 use kv_model::{Config, Request};
 use kv_store::Version;
-use kv_test_tools::{delete, is_same_at, purge, put};
+use kv_test_tools::{delete, is_same_at, purge, put, twice};
 use std::alloc::{AllocError, Global};
 use std::process::Abort;
 use std::test::Fail;
@@ -16,8 +15,10 @@ pub(crate) type Bucket = Durable<MemoryFile>;
 
 pub(crate) const SEED: u64 = 0x0123_4567_89AB_CDEF;
 
-// How many steps there are.
+// How many steps there are, and which of them is a batch.
 pub(crate) const STEPS: usize = 9;
+
+pub(crate) const BATCH: usize = 7;
 
 pub(crate) fn config(alloc: Global) -> Result<Config, KvError> {
     let mut config = Config::named(alloc, "settings")?;
@@ -57,7 +58,7 @@ pub(crate) fn without_place(error: BatchError) -> DurableError {
 }
 
 // Two puts in one step.
-pub(crate) fn put_both(alloc: Global, bucket: &mut Bucket) -> Result<u64, DurableError> {
+fn put_both(alloc: Global, bucket: &mut Bucket) -> Result<u64, DurableError> {
     let both = [
         put(alloc, "app.port", "443")?,
         create(alloc, "app.user", "kv")?,
@@ -78,7 +79,7 @@ pub(crate) fn step(alloc: Global, bucket: &mut Bucket, number: usize) -> Result<
             3
         }
         6 => bucket.write(&put(alloc, "app.name", "durable")?)?,
-        7 => put_both(alloc, bucket)?,
+        BATCH => put_both(alloc, bucket)?,
         _ => {
             bucket.seal()?;
             0
@@ -172,7 +173,7 @@ fn all_is_there_again_once(rt: &impl Abort, alloc: Global) -> Result<(), Durable
 
 #[test]
 fn all_is_there_again(rt: HostRuntime) -> Result<(), Fail> {
-    Ok(twice(|| all_is_there_again_once(&rt, rt.alloc()))?)
+    Ok(twice!(all_is_there_again_once(&rt, rt.alloc()))?)
 }
 
 // What is read of the first bytes of a file.
@@ -205,15 +206,17 @@ fn each_beginning_is_read_once(rt: &impl Abort, alloc: Global) -> Result<(), Dur
 
 #[test]
 fn each_beginning_of_a_file_is_its_whole_acts(rt: HostRuntime) -> Result<(), Fail> {
-    Ok(twice(|| each_beginning_is_read_once(&rt, rt.alloc()))?)
+    Ok(twice!(each_beginning_is_read_once(&rt, rt.alloc()))?)
 }
 
 // Whether the version is that behind some number of steps.
 fn is_somewhere(course: &Course, version: &Version) -> bool {
-    course
-        .versions
-        .iter()
-        .any(|wanted| is_same(wanted, version))
+    for wanted in &course.versions {
+        if is_same(wanted, version) {
+            return true;
+        }
+    }
+    false
 }
 
 fn is_told(
@@ -247,7 +250,7 @@ fn a_turned_bit_is_told_once(rt: &impl Abort, alloc: Global) -> Result<(), Durab
 
 #[test]
 fn a_turned_bit_is_told(rt: HostRuntime) -> Result<(), Fail> {
-    Ok(twice(|| a_turned_bit_is_told_once(&rt, rt.alloc()))?)
+    Ok(twice!(a_turned_bit_is_told_once(&rt, rt.alloc()))?)
 }
 
 fn what_stands_behind_is_dropped_once(rt: &impl Abort, alloc: Global) -> Result<(), DurableError> {
@@ -271,7 +274,7 @@ fn what_stands_behind_is_dropped_once(rt: &impl Abort, alloc: Global) -> Result<
 
 #[test]
 fn what_stands_behind_is_dropped(rt: HostRuntime) -> Result<(), Fail> {
-    Ok(twice(|| what_stands_behind_is_dropped_once(&rt, rt.alloc()))?)
+    Ok(twice!(what_stands_behind_is_dropped_once(&rt, rt.alloc()))?)
 }
 
 // A bucket of a file that fails behind so many calls, and how many of its steps were answered.
@@ -339,7 +342,7 @@ fn what_was_answered_is_there_once(rt: &impl Abort, alloc: Global) -> Result<(),
 
 #[test]
 fn what_was_answered_is_there(rt: HostRuntime) -> Result<(), Fail> {
-    Ok(twice(|| what_was_answered_is_there_once(&rt, rt.alloc()))?)
+    Ok(twice!(what_was_answered_is_there_once(&rt, rt.alloc()))?)
 }
 
 // The file has failed. Where memory is refused before that shows, all is done once more.
@@ -374,7 +377,7 @@ fn a_fault_stops_once(rt: &impl Abort, alloc: Global) -> Result<(), DurableError
 
 #[test]
 fn a_fault_stops(rt: HostRuntime) -> Result<(), Fail> {
-    Ok(twice(|| a_fault_stops_once(&rt, rt.alloc()))?)
+    Ok(twice!(a_fault_stops_once(&rt, rt.alloc()))?)
 }
 
 fn what_is_refused_is_not_there_once(rt: &impl Abort, alloc: Global) -> Result<(), DurableError> {
@@ -397,7 +400,7 @@ fn what_is_refused_is_not_there_once(rt: &impl Abort, alloc: Global) -> Result<(
 
 #[test]
 fn what_is_refused_is_not_in_the_file(rt: HostRuntime) -> Result<(), Fail> {
-    Ok(twice(|| what_is_refused_is_not_there_once(&rt, rt.alloc()))?)
+    Ok(twice!(what_is_refused_is_not_there_once(&rt, rt.alloc()))?)
 }
 
 fn another_bucket_is_told_once(rt: &impl Abort, alloc: Global) -> Result<(), DurableError> {
@@ -418,5 +421,5 @@ fn another_bucket_is_told_once(rt: &impl Abort, alloc: Global) -> Result<(), Dur
 
 #[test]
 fn another_bucket_is_told(rt: HostRuntime) -> Result<(), Fail> {
-    Ok(twice(|| another_bucket_is_told_once(&rt, rt.alloc()))?)
+    Ok(twice!(another_bucket_is_told_once(&rt, rt.alloc()))?)
 }

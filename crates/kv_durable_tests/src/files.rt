@@ -1,9 +1,10 @@
 //! Tests of files that only grow.
 
+use crate::durables::empty;
 use crate::equal::equal;
-use crate::twice::twice;
 use kv_file::{Appender, JournalFile, MemoryFile, Sync, Torn};
 use kv_keys::KvError;
+use kv_test_tools::twice;
 use std::alloc::Global;
 use std::process::Abort;
 use std::test::Fail;
@@ -15,10 +16,6 @@ const LOOSE: &[(Sync, &[usize])] = &[
     (Sync::Every(3), &[10, 20, 0, 10, 20, 0]),
     (Sync::Asked, &[10, 20, 30, 40, 50, 60]),
 ];
-
-fn empty(alloc: Global) -> MemoryFile {
-    MemoryFile::new(alloc, Vec::new(alloc))
-}
 
 // Adds ten bytes, and answers whether that went well.
 fn add<F: JournalFile>(appender: &mut Appender<F>) -> bool {
@@ -94,5 +91,5 @@ fn a_crash_leaves_what_was_synced_once(rt: &impl Abort, alloc: Global) -> Result
 
 #[test]
 fn a_crash_leaves_what_was_synced(rt: HostRuntime) -> Result<(), Fail> {
-    Ok(twice(|| a_crash_leaves_what_was_synced_once(&rt, rt.alloc()))?)
+    Ok(twice!(a_crash_leaves_what_was_synced_once(&rt, rt.alloc()))?)
 }

@@ -1,9 +1,9 @@
 //! Tests of the checksum and of frames.
 
 use crate::equal::equal;
-use crate::twice::twice;
 use kv_frames::{Crc32c, Framing};
 use kv_keys::KvError;
+use kv_test_tools::twice;
 use std::alloc::Global;
 use std::process::Abort;
 use std::test::Fail;
@@ -50,8 +50,14 @@ fn file(alloc: Global, framing: &Framing) -> Result<Vec<u8>, KvError> {
     Ok(out)
 }
 
+// How many of the frames end in so many bytes.
 fn whole_in(n: usize) -> usize {
-    ENDS.iter().filter(|&&end| end <= n).count()
+    for (number, &end) in ENDS.iter().enumerate() {
+        if end > n {
+            return number;
+        }
+    }
+    ENDS.len()
 }
 
 fn each_beginning_has_its_whole_frames_once(rt: &impl Abort, alloc: Global) -> Result<(), KvError> {
@@ -68,7 +74,7 @@ fn each_beginning_has_its_whole_frames_once(rt: &impl Abort, alloc: Global) -> R
 
 #[test]
 fn each_beginning_has_its_whole_frames(rt: HostRuntime) -> Result<(), Fail> {
-    Ok(twice(|| each_beginning_has_its_whole_frames_once(&rt, rt.alloc()))?)
+    Ok(twice!(each_beginning_has_its_whole_frames_once(&rt, rt.alloc()))?)
 }
 
 fn a_frame_with_a_turned_bit_is_none_once(rt: &impl Abort, alloc: Global) -> Result<(), KvError> {
@@ -85,7 +91,7 @@ fn a_frame_with_a_turned_bit_is_none_once(rt: &impl Abort, alloc: Global) -> Res
 
 #[test]
 fn a_frame_with_a_turned_bit_is_none(rt: HostRuntime) -> Result<(), Fail> {
-    Ok(twice(|| a_frame_with_a_turned_bit_is_none_once(&rt, rt.alloc()))?)
+    Ok(twice!(a_frame_with_a_turned_bit_is_none_once(&rt, rt.alloc()))?)
 }
 
 fn a_frame_counts_in_its_own_file_and_place_once(
@@ -102,5 +108,5 @@ fn a_frame_counts_in_its_own_file_and_place_once(
 
 #[test]
 fn a_frame_counts_in_its_own_file_and_place(rt: HostRuntime) -> Result<(), Fail> {
-    Ok(twice(|| a_frame_counts_in_its_own_file_and_place_once(&rt, rt.alloc()))?)
+    Ok(twice!(a_frame_counts_in_its_own_file_and_place_once(&rt, rt.alloc()))?)
 }

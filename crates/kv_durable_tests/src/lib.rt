@@ -30,5 +30,3 @@ mod sample;
 mod shrinking;
 #[cfg(test)]
 mod system;
-#[cfg(test)]
-mod twice;

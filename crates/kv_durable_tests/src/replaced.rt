@@ -1,9 +1,9 @@
 //! Tests of files that are replaced as a whole.
 
 use crate::equal::equal;
-use crate::twice::twice;
 use kv_file::{JournalFile, MemoryFile, ReplaceFault, ReplaceableFile};
 use kv_keys::KvError;
+use kv_test_tools::twice;
 use std::alloc::Global;
 use std::process::Abort;
 use std::test::Fail;
@@ -34,14 +34,10 @@ fn is_replaced_or_stays(
     Ok(())
 }
 
-fn each_is_replaced_or_stays(rt: &impl Abort, alloc: Global) -> Result<(), KvError> {
-    for end in ENDS {
-        is_replaced_or_stays(rt, alloc, end)?;
-    }
-    Ok(())
-}
-
 #[test]
 fn a_file_is_replaced_as_a_whole_or_stays(rt: HostRuntime) -> Result<(), Fail> {
-    Ok(twice(|| each_is_replaced_or_stays(&rt, rt.alloc()))?)
+    for end in ENDS {
+        twice!(is_replaced_or_stays(&rt, rt.alloc(), end))?;
+    }
+    Ok(())
 }

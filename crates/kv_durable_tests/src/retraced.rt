@@ -1,13 +1,12 @@
 //! Tests of openings that retrace a checkpoint: acts are found that lead to it.
 
 use crate::checkpointed::NEXT_SEED;
-use crate::durables::{Bucket, SEED, STEPS, config, opened, step};
+use crate::durables::{Bucket, SEED, STEPS, config, empty, opened, step};
 use crate::equal::equal;
-use crate::twice::twice;
 use kv_durable::{Durable, DurableError, Opened, Retrace, Sync};
 use kv_file::MemoryFile;
 use kv_store::Version;
-use kv_test_tools::{delete, is_same_at, purge, put};
+use kv_test_tools::{delete, is_same_at, purge, put, twice};
 use std::alloc::Global;
 use std::process::Abort;
 use std::test::Fail;
@@ -100,16 +99,12 @@ fn a_course_is_retraced(rt: &impl Abort, alloc: Global, history: u64) -> Result<
     is_retraced(rt, alloc, history, &mut bucket)
 }
 
-fn each_course_is_retraced(rt: &impl Abort, alloc: Global) -> Result<(), DurableError> {
-    for history in [1u64, 2, 5] {
-        a_course_is_retraced(rt, alloc, history)?;
-    }
-    Ok(())
-}
-
 #[test]
 fn a_checkpoint_is_retraced(rt: HostRuntime) -> Result<(), Fail> {
-    Ok(twice(|| each_course_is_retraced(&rt, rt.alloc()))?)
+    for history in [1u64, 2, 5] {
+        twice!(a_course_is_retraced(&rt, rt.alloc(), history))?;
+    }
+    Ok(())
 }
 
 // A bucket that stores little of many writes, before the compaction and behind it.
@@ -127,21 +122,17 @@ fn a_gap_is_retraced(rt: &impl Abort, alloc: Global, writes: u64) -> Result<(), 
     is_retraced(rt, alloc, 1, &mut bucket)
 }
 
-fn each_gap_is_retraced(rt: &impl Abort, alloc: Global) -> Result<(), DurableError> {
+#[test]
+fn a_checkpoint_of_what_is_left_of_many_writes_is_retraced(rt: HostRuntime) -> Result<(), Fail> {
     for writes in [1u64, 64, 1000] {
-        a_gap_is_retraced(rt, alloc, writes)?;
+        twice!(a_gap_is_retraced(&rt, rt.alloc(), writes))?;
     }
     Ok(())
 }
 
-#[test]
-fn a_checkpoint_of_what_is_left_of_many_writes_is_retraced(rt: HostRuntime) -> Result<(), Fail> {
-    Ok(twice(|| each_gap_is_retraced(&rt, rt.alloc()))?)
-}
-
 // Entries behind a checkpoint that was retraced are read as they are without one.
 fn entries_go_on(rt: &impl Abort, alloc: Global, steps: usize) -> Result<(), DurableError> {
-    let mut bucket = opened(alloc, MemoryFile::new(alloc, Vec::new(alloc)), Sync::Each)?.durable;
+    let mut bucket = opened(alloc, empty(alloc), Sync::Each)?.durable;
     for number in 0..steps {
         step(alloc, &mut bucket, number)?;
     }
@@ -154,14 +145,10 @@ fn entries_go_on(rt: &impl Abort, alloc: Global, steps: usize) -> Result<(), Dur
     Ok(())
 }
 
-fn entries_go_on_behind_each(rt: &impl Abort, alloc: Global) -> Result<(), DurableError> {
-    for steps in 0..STEPS + 1 {
-        entries_go_on(rt, alloc, steps)?;
-    }
-    Ok(())
-}
-
 #[test]
 fn entries_go_on_behind_a_checkpoint_that_is_retraced(rt: HostRuntime) -> Result<(), Fail> {
-    Ok(twice(|| entries_go_on_behind_each(&rt, rt.alloc()))?)
+    for steps in 0..STEPS + 1 {
+        twice!(entries_go_on(&rt, rt.alloc(), steps))?;
+    }
+    Ok(())
 }

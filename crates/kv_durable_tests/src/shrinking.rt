@@ -3,9 +3,8 @@
 use crate::checkpointed::{NEXT_SEED, are_same, same_again};
 use crate::durables::{Bucket, empty, opened};
 use crate::equal::equal;
-use crate::twice::twice;
 use kv_durable::{DurableError, Shrunk, Sync};
-use kv_test_tools::put;
+use kv_test_tools::{put, twice};
 use std::alloc::Global;
 use std::process::Abort;
 use std::test::Fail;
@@ -87,7 +86,7 @@ fn large_ones_are_replaced(rt: &impl Abort, alloc: Global) -> Result<(), Durable
 
 #[test]
 fn a_compaction_replaces_the_file_where_it_is_large(rt: HostRuntime) -> Result<(), Fail> {
-    Ok(twice(|| large_ones_are_replaced(&rt, rt.alloc()))?)
+    Ok(twice!(large_ones_are_replaced(&rt, rt.alloc()))?)
 }
 
 // How a compaction ends of which only so many calls of the file go well: the first two add it to the file, and the others
@@ -114,14 +113,10 @@ fn is_cut_off(rt: &impl Abort, alloc: Global, calls: u64) -> Result<(), DurableE
     Ok(())
 }
 
-fn each_is_cut_off(rt: &impl Abort, alloc: Global) -> Result<(), DurableError> {
-    for calls in 0..5u64 {
-        is_cut_off(rt, alloc, calls)?;
-    }
-    Ok(())
-}
-
 #[test]
 fn a_compaction_stays_where_its_checkpoint_fails(rt: HostRuntime) -> Result<(), Fail> {
-    Ok(twice(|| each_is_cut_off(&rt, rt.alloc()))?)
+    for calls in 0..5u64 {
+        twice!(is_cut_off(&rt, rt.alloc(), calls))?;
+    }
+    Ok(())
 }

@@ -1,11 +1,10 @@
 //! Tests of durable buckets over files of the system.
 
 use crate::equal::equal;
-use crate::twice::twice;
 use kv_durable::{Durable, DurableError, OpenFault, Opened, Retrace, Sync, SystemFile};
 use kv_file::{JournalFile, ReplaceFault, ReplaceableFile, SystemPlace};
 use kv_model::Config;
-use kv_test_tools::put;
+use kv_test_tools::{put, twice};
 use std::alloc::Global;
 use std::hash::{BuildHasher, RandomState};
 use std::process::Abort;
@@ -137,36 +136,49 @@ fn stays(
     Ok(())
 }
 
-// Makes a test on a file of its own, which is gone then.
-fn on_new_file<F: FnMut(&str) -> Result<(), DurableError>>(
+// What is shown of a file.
+#[derive(Drop)]
+enum Shown {
+    IsThereAgain,
+    IsBusy,
+    IsAsAsked,
+    IsReplaced,
+    Stays,
+}
+
+// Shows this of a file of its own, which is gone then.
+fn on_new_file(
     rt: &HostRuntime,
-    test: F,
-) -> Result<(), DurableError>
-    requires { F.IsAlwaysCallable test }
-{
-    let mut test = test;
+    test: &impl Abort,
+    alloc: Global,
+    shown: Shown,
+) -> Result<(), DurableError> {
     let path = new_path(rt)?;
-    let ended = test(path.as_str());
-    of_system(fs::remove_file(rt, path.as_str()))?;
+    let path = path.as_str();
+    let ended = match shown {
+        Shown::IsThereAgain => is_there_again(rt, test, alloc, path),
+        Shown::IsBusy => is_busy_while_open(rt, test, path),
+        Shown::IsAsAsked => is_as_asked(rt, test, alloc, path),
+        Shown::IsReplaced => is_replaced(rt, test, alloc, path),
+        Shown::Stays => stays(rt, test, alloc, path),
+    };
+    of_system(fs::remove_file(rt, path))?;
     ended
 }
 
 #[test]
 fn what_was_written_is_there_again(rt: HostRuntime) -> Result<(), Fail> {
-    let test = |path: &str| is_there_again(&rt, &rt, rt.alloc(), path);
-    Ok(twice(|| on_new_file(&rt, test))?)
+    Ok(twice!(on_new_file(&rt, &rt, rt.alloc(), Shown::IsThereAgain))?)
 }
 
 #[test]
 fn a_file_is_busy_while_it_is_open(rt: HostRuntime) -> Result<(), Fail> {
-    let test = |path: &str| is_busy_while_open(&rt, &rt, path);
-    Ok(twice(|| on_new_file(&rt, test))?)
+    Ok(twice!(on_new_file(&rt, &rt, rt.alloc(), Shown::IsBusy))?)
 }
 
 #[test]
 fn a_file_does_as_it_is_asked(rt: HostRuntime) -> Result<(), Fail> {
-    let test = |path: &str| is_as_asked(&rt, &rt, rt.alloc(), path);
-    Ok(twice(|| on_new_file(&rt, test))?)
+    Ok(twice!(on_new_file(&rt, &rt, rt.alloc(), Shown::IsAsAsked))?)
 }
 
 #[test]
@@ -179,12 +191,10 @@ fn what_is_no_file_is_not_opened(rt: HostRuntime) {
 
 #[test]
 fn a_file_of_the_system_is_replaced(rt: HostRuntime) -> Result<(), Fail> {
-    let test = |path: &str| is_replaced(&rt, &rt, rt.alloc(), path);
-    Ok(twice(|| on_new_file(&rt, test))?)
+    Ok(twice!(on_new_file(&rt, &rt, rt.alloc(), Shown::IsReplaced))?)
 }
 
 #[test]
 fn a_file_that_cannot_be_replaced_stays(rt: HostRuntime) -> Result<(), Fail> {
-    let test = |path: &str| stays(&rt, &rt, rt.alloc(), path);
-    Ok(twice(|| on_new_file(&rt, test))?)
+    Ok(twice!(on_new_file(&rt, &rt, rt.alloc(), Shown::Stays))?)
 }

@@ -57,6 +57,18 @@ macro_rules! once_more {
     }};
 }
 
+/// What a test answers, which is written as it stands in a body. Where it could not end, for whatever reason, it is made once
+/// more: it makes anew all that it stands on, so no part of it has to be made again by itself.
+#[macro_export]
+macro_rules! twice {
+    ($test:expr) => {
+        match $test {
+            Ok(()) => Ok(()),
+            Err(_) => $test,
+        }
+    };
+}
+
 /// What a call answers. Where it is refused for want of memory, it is made once more.
 pub fn again<A: Answered, F: FnMut() -> A>(call: F) -> A
     requires { F.IsAlwaysCallable call }
