@@ -5,7 +5,7 @@ ghost use Rattle.std.specs.Prelude.{◌<◌, ◌^◌, ◌-◌, length, OnOk};
 
 use crate::equal::equal;
 use kv_keys::{Key, KvError, Place, Short};
-use kv_test_tools::{again, again_checking, again_on};
+use kv_test_tools::once_more;
 use kv_trie::{Node, Trie, Visit, Wants};
 use std::alloc::Global;
 use std::process::Abort;
@@ -86,20 +86,19 @@ fn put<K: Named>(
     trie.put(alloc, key, value)
 }
 
-fn put_again<K: Named>(
-    alloc: Global,
-    trie: &mut Numbers<K>,
-    text: &str,
-    value: u32,
-) -> Result<(), KvError> {
-    again(|| put(alloc, trie, text, value))
+fn removed<K: Named>(alloc: Global, trie: &Numbers<K>, text: &str) -> Result<Numbers<K>, KvError> {
+    trie.remove(alloc, &K::named(alloc, text)?)
+}
+
+fn discard<K: Named>(alloc: Global, trie: &mut Numbers<K>, text: &str) -> Result<(), KvError> {
+    trie.discard(alloc, &K::named(alloc, text)?)
 }
 
 // The trie of these names and values, built apart from every other.
 fn built<K: Named>(alloc: Global, pairs: &[(&str, u32)]) -> Result<Numbers<K>, KvError> {
     let mut trie = Trie::new();
     for (text, value) in pairs {
-        put_again(alloc, &mut trie, text, *value)?;
+        once_more!(put(alloc, &mut trie, text, *value))?;
     }
     Ok(trie)
 }

@@ -50,18 +50,10 @@ fn put_next(
     before: &[(&str, u32)],
     next: (&str, u32),
 ) -> Result<(), KvError> {
-    again_on(
-        both,
-        |both| equal(rt, have(rt, alloc, both, before), Ok(())),
-        |both| put_in_both(alloc, both, next.0, next.1),
+    once_more!(
+        put_in_both(alloc, both, next.0, next.1),
+        equal(rt, have(rt, alloc, both, before), Ok(()))
     )
-}
-
-fn put_each(rt: &impl Abort, alloc: Global, both: &mut Both) -> Result<(), KvError> {
-    for at in 0..PUTS.len() {
-        put_next(rt, alloc, both, &PUTS[..at], PUTS[at])?;
-    }
-    have(rt, alloc, both, &PUTS)
 }
 
 #[test]
@@ -70,7 +62,10 @@ fn both_tries_change_or_neither(rt: HostRuntime) -> Result<(), Fail> {
         keys: Trie::new(),
         shorts: Trie::new(),
     };
-    put_each(&rt, rt.alloc(), &mut both)?;
+    for at in 0..PUTS.len() {
+        put_next(&rt, rt.alloc(), &mut both, &PUTS[..at], PUTS[at])?;
+    }
+    have(&rt, rt.alloc(), &both, &PUTS)?;
     Ok(())
 }
 
@@ -86,17 +81,12 @@ fn snapshots(both: &Both) -> Result<Both, KvError> {
     Ok(Both { keys, shorts })
 }
 
-// Snapshots of both keep what they have.
-fn put_beside(rt: &impl Abort, alloc: Global, both: &mut Both) -> Result<(), KvError> {
-    let held = snapshots(both)?;
-    put_next(rt, alloc, both, &PUTS[..6], PUTS[6])?;
-    have(rt, alloc, &held, &PUTS[..6])
-}
-
 #[test]
 fn snapshots_of_both_tries_stay(rt: HostRuntime) -> Result<(), Fail> {
     let mut both = built_both(rt.alloc(), &PUTS[..6])?;
-    put_beside(&rt, rt.alloc(), &mut both)?;
+    let held = snapshots(&both)?;
+    put_next(&rt, rt.alloc(), &mut both, &PUTS[..6], PUTS[6])?;
+    have(&rt, rt.alloc(), &held, &PUTS[..6])?;
     have(&rt, rt.alloc(), &both, &PUTS[..7])?;
     Ok(())
 }

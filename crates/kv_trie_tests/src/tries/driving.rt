@@ -3,32 +3,17 @@
 
 use super::*;
 
-fn made_once<K: Named>(
-    alloc: Global,
-    trie: &Numbers<K>,
-    step: Step,
-) -> Result<Numbers<K>, KvError> {
+fn made<K: Named>(alloc: Global, trie: &Numbers<K>, step: Step) -> Result<Numbers<K>, KvError> {
     match step {
         Step::Put(text, value) => inserted(alloc, trie, text, value),
-        Step::Remove(text) => trie.remove(alloc, &K::named(alloc, text)?),
+        Step::Remove(text) => removed(alloc, trie, text),
     }
-}
-
-// The trie that is made of another. A refusal leaves that one as its twin is.
-fn made<K: Named>(
-    rt: &impl Abort,
-    alloc: Global,
-    trie: &Numbers<K>,
-    twin: &Numbers<K>,
-    step: Step,
-) -> Result<Numbers<K>, KvError> {
-    again_checking(|| are_same(rt, trie, twin), || made_once(alloc, trie, step))
 }
 
 fn done_once<K: Named>(alloc: Global, here: &mut Numbers<K>, step: Step) -> Result<(), KvError> {
     match step {
         Step::Put(text, value) => put(alloc, here, text, value),
-        Step::Remove(text) => here.discard(alloc, &K::named(alloc, text)?),
+        Step::Remove(text) => discard(alloc, here, text),
     }
 }
 
@@ -40,15 +25,11 @@ fn done<K: Named>(
     twin: &Numbers<K>,
     step: Step,
 ) -> Result<(), KvError> {
-    again_on(
-        here,
-        |here| are_same(rt, here, twin),
-        |here| done_once(alloc, here, step),
-    )
+    once_more!(done_once(alloc, here, step), are_same(rt, here, twin))
 }
 
 pub(super) fn hold<K: Named>(trie: &Numbers<K>) -> Result<Numbers<K>, KvError> {
-    again(|| trie.snapshot())
+    once_more!(trie.snapshot())
 }
 
 // Does the step beside a snapshot, which stays as the former trie is.
@@ -70,15 +51,6 @@ fn value<K: Named>(alloc: Global, trie: &Numbers<K>, text: &str) -> Result<Optio
     Ok(trie.get(&key).copied())
 }
 
-// The value of a key, read again where its name lacked memory.
-fn value_of<K: Named>(
-    alloc: Global,
-    trie: &Numbers<K>,
-    text: &str,
-) -> Result<Option<u32>, KvError> {
-    again(|| value(alloc, trie, text))
-}
-
 fn has_done<K: Named>(
     rt: &impl Abort,
     alloc: Global,
@@ -89,11 +61,12 @@ fn has_done<K: Named>(
         Step::Put(text, value) => (text, Some(value)),
         Step::Remove(text) => (text, None),
     };
-    equal(rt, value_of(alloc, trie, text)?, wanted);
+    equal(rt, once_more!(value(alloc, trie, text))?, wanted);
     equal(rt, trie.len(), row.1);
     Ok(())
 }
 
+// Makes the trie behind the step, and does the step to the other one. A refusal leaves each as the other is.
 pub(super) fn step<K: Named>(
     rt: &impl Abort,
     alloc: Global,
@@ -102,7 +75,7 @@ pub(super) fn step<K: Named>(
     beside: bool,
     row: Row,
 ) -> Result<(), KvError> {
-    let next = made(rt, alloc, trie, here, row.0)?;
+    let next = once_more!(made(alloc, trie, row.0), are_same(rt, trie, here))?;
     if beside {
         done_beside(rt, alloc, here, trie, row.0)?;
     } else {

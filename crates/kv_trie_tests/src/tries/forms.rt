@@ -130,35 +130,16 @@ fn a_trie_has_the_form_of_its_places(rt: HostRuntime) -> Result<(), Fail> {
     Ok(())
 }
 
-fn removed_once(
-    alloc: Global,
-    trie: &Trie<Key, u32>,
-    text: &str,
-) -> Result<Trie<Key, u32>, KvError> {
-    let key = Key::parse(alloc, text)?;
-    trie.remove(alloc, &key)
-}
-
-// The trie without a key. A refusal leaves the trie as it was.
-fn removed(
-    rt: &impl Abort,
-    alloc: Global,
-    trie: &Trie<Key, u32>,
-    text: &str,
-    parts: &[Part],
-) -> Result<Trie<Key, u32>, KvError> {
-    again_checking(
-        || equal(rt, has_form(trie, parts), true),
-        || removed_once(alloc, trie, text),
-    )
-}
-
-// Where one of two keys of one place goes, the seven branches above them go too, and what is left is a leaf.
+// Where one of two keys of one place goes, the seven branches above them go too, and what is left is a leaf. A refusal leaves
+// the trie as it was.
 #[test]
 fn branches_over_one_pair_contract_to_a_leaf(rt: HostRuntime) -> Result<(), Fail> {
     let both = built(rt.alloc(), &[("altarage", 1), ("zinke", 2)])?;
     assert!(rt; has_form(&both, ONE_PLACE));
-    let rest = removed(&rt, rt.alloc(), &both, "zinke", ONE_PLACE)?;
+    let rest = once_more!(
+        removed(rt.alloc(), &both, "zinke"),
+        equal(&rt, has_form(&both, ONE_PLACE), true)
+    )?;
     assert!(rt; has_form(&rest, &[Part::Leaf("altarage")]));
     assert!(rt; has_form(&both, ONE_PLACE));
     Ok(())

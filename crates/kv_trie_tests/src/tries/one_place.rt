@@ -25,47 +25,20 @@ fn is_built(rt: &impl Abort, alloc: Global, trie: &Numbers<Short>, pairs: &[(&st
     }
 }
 
-// The trie of these pairs with the next one. A refusal leaves the trie as it was.
-fn insert_next(
-    rt: &impl Abort,
-    alloc: Global,
-    trie: &Numbers<Short>,
-    before: &[(&str, u32)],
-    next: (&str, u32),
-) -> Result<Numbers<Short>, KvError> {
-    again_checking(
-        || is_built(rt, alloc, trie, before),
-        || inserted(alloc, trie, next.0, next.1),
-    )
-}
-
-fn removed(alloc: Global, trie: &Numbers<Short>, text: &str) -> Result<Numbers<Short>, KvError> {
-    let key = Short::named(alloc, text)?;
-    trie.remove(alloc, &key)
-}
-
-// The trie of these pairs without the last of them. A refusal leaves the trie as it was.
-fn remove_last(
-    rt: &impl Abort,
-    alloc: Global,
-    trie: &Numbers<Short>,
-    before: &[(&str, u32)],
-    last: &str,
-) -> Result<Numbers<Short>, KvError> {
-    again_checking(
-        || is_built(rt, alloc, trie, before),
-        || removed(alloc, trie, last),
-    )
-}
-
+// The trie of the ten pairs. A refusal of the next one leaves the trie as it was.
 fn ten(rt: &impl Abort, alloc: Global) -> Result<Numbers<Short>, KvError> {
     let mut trie = Trie::new();
     for at in 0..TEN.len() {
-        trie = insert_next(rt, alloc, &trie, &TEN[..at], TEN[at])?;
+        let (text, value) = TEN[at];
+        trie = once_more!(
+            inserted(alloc, &trie, text, value),
+            is_built(rt, alloc, &trie, &TEN[..at])
+        )?;
     }
     Ok(trie)
 }
 
+// The trie of the ten pairs without the last nine. A refusal leaves the trie as it was.
 fn without_nine(
     rt: &impl Abort,
     alloc: Global,
@@ -73,7 +46,10 @@ fn without_nine(
 ) -> Result<Numbers<Short>, KvError> {
     let mut trie = ten;
     for at in (1..10).rev() {
-        trie = remove_last(rt, alloc, &trie, &TEN[..at + 1], TEN[at].0)?;
+        trie = once_more!(
+            removed(alloc, &trie, TEN[at].0),
+            is_built(rt, alloc, &trie, &TEN[..at + 1])
+        )?;
     }
     Ok(trie)
 }
@@ -92,19 +68,19 @@ fn a_snapshot_stays_beside_nine_removals(rt: HostRuntime) -> Result<(), Fail> {
 
 // The three digits of a number, as a text.
 fn digits(alloc: Global, number: u32) -> Result<String, AllocError> {
-    again(|| format!(in alloc; "{number:03}"))
+    Ok(format!(in alloc; "{number:03}")?)
 }
 
 // A list with room for each of a thousand, and one more.
 fn roomy<T: Drop>(alloc: Global) -> Result<Vec<T>, AllocError> {
-    again(|| Vec::with_capacity(alloc, 1001))
+    Ok(Vec::with_capacity(alloc, 1001)?)
 }
 
 // The texts `000` to `999`.
 fn thousand_texts(alloc: Global) -> Result<Vec<String>, AllocError> {
-    let mut texts = roomy(alloc)?;
+    let mut texts = once_more!(roomy(alloc))?;
     for number in 0..1000 {
-        texts.push(digits(alloc, number)?)?;
+        texts.push(once_more!(digits(alloc, number))?)?;
     }
     Ok(texts)
 }
@@ -115,29 +91,12 @@ fn has(rt: &impl Abort, trie: &Numbers<Short>, count: u64) {
     equal(rt, walks::sum(trie) as u64, count);
 }
 
-fn discard(alloc: Global, trie: &mut Numbers<Short>, text: &str) -> Result<(), KvError> {
-    let key = Short::named(alloc, text)?;
-    trie.discard(alloc, &key)
-}
-
-// Makes a call on the trie of so many keys. A refusal leaves it as it was.
-fn make_on<F: FnMut(&mut Numbers<Short>) -> Result<(), KvError>>(
-    rt: &impl Abort,
-    trie: &mut Numbers<Short>,
-    count: u64,
-    call: F,
-) -> Result<(), KvError>
-    requires { F.IsAlwaysCallable call }
-{
-    again_on(trie, |trie| has(rt, trie, count), call)
-}
-
 fn keep(kept: &mut Vec<Numbers<Short>>, trie: &Numbers<Short>) -> Result<(), KvError> {
     let same = hold(trie)?;
     Ok(kept.push(same)?)
 }
 
-// Puts each of the texts in order, and keeps the trie before the first and after each of them.
+// Puts each of the texts in order, and keeps the trie before the first and after each of them. A refusal leaves it as it was.
 fn put_each(
     rt: &impl Abort,
     alloc: Global,
@@ -148,7 +107,7 @@ fn put_each(
     let mut count: u64 = 0;
     keep(kept, trie)?;
     for text in texts {
-        make_on(rt, trie, count, |trie| put(alloc, trie, text.as_str(), 1))?;
+        once_more!(put(alloc, trie, text.as_str(), 1), has(rt, trie, count))?;
         count = count.saturating_add(1);
         keep(kept, trie)?;
     }
@@ -167,7 +126,8 @@ fn is_as_kept(rt: &impl Abort, trie: &Numbers<Short>, kept: &mut Vec<Numbers<Sho
     }
 }
 
-// Removes each of the texts, the last first. Each time the trie is the one that was kept when it had as many.
+// Removes each of the texts, the last first. Each time the trie is the one that was kept when it had as many. A refusal leaves
+// it as it was.
 fn discard_each(
     rt: &impl Abort,
     alloc: Global,
@@ -179,30 +139,20 @@ fn discard_each(
     is_as_kept(rt, trie, kept, left);
     for at in (0..texts.len()).rev() {
         let text = texts[at].as_str();
-        make_on(rt, trie, left, |trie| discard(alloc, trie, text))?;
+        once_more!(discard(alloc, trie, text), has(rt, trie, left))?;
         left = left.saturating_sub(1);
         is_as_kept(rt, trie, kept, left);
     }
     Ok(())
 }
 
-fn put_and_discarded(
-    rt: &impl Abort,
-    alloc: Global,
-    texts: &[String],
-    kept: &mut Vec<Numbers<Short>>,
-) -> Result<(), KvError> {
-    let mut trie = Trie::new();
-    put_each(rt, alloc, texts, &mut trie, kept)?;
-    discard_each(rt, alloc, texts, &mut trie, kept)?;
-    assert!(rt; matches!(trie.root(), Node::Empty));
-    Ok(())
-}
-
 #[test]
 fn a_thousand_keys_of_one_place_come_and_go(rt: HostRuntime) -> Result<(), Fail> {
     let texts = thousand_texts(rt.alloc())?;
-    let mut kept = roomy(rt.alloc())?;
-    put_and_discarded(&rt, rt.alloc(), &texts, &mut kept)?;
+    let mut kept = once_more!(roomy(rt.alloc()))?;
+    let mut trie = Trie::new();
+    put_each(&rt, rt.alloc(), &texts, &mut trie, &mut kept)?;
+    discard_each(&rt, rt.alloc(), &texts, &mut trie, &mut kept)?;
+    assert!(rt; matches!(trie.root(), Node::Empty));
     Ok(())
 }

@@ -20,26 +20,8 @@ impl<K: Named> Wants<K, u32> for Below {
     }
 }
 
-fn kept_once<K: Named>(
-    alloc: Global,
-    trie: &Numbers<K>,
-    limit: u32,
-) -> Result<Numbers<K>, KvError> {
+fn kept<K: Named>(alloc: Global, trie: &Numbers<K>, limit: u32) -> Result<Numbers<K>, KvError> {
     trie.retain(alloc, &Below { limit })
-}
-
-// The trie with the values below the limit. A refusal leaves the trie as its twin is.
-fn kept<K: Named>(
-    rt: &impl Abort,
-    alloc: Global,
-    trie: &Numbers<K>,
-    twin: &Numbers<K>,
-    limit: u32,
-) -> Result<Numbers<K>, KvError> {
-    again_checking(
-        || are_same(rt, trie, twin),
-        || kept_once(alloc, trie, limit),
-    )
 }
 
 // The names with the values below the limit. A name's value is at its place, or 0 where there are fewer values.
@@ -53,13 +35,13 @@ fn made<K: Named>(
     for at in 0..names.len() {
         let value = values.get(at).copied().unwrap_or(0);
         if value < limit {
-            put_again(alloc, &mut trie, names[at], value)?;
+            once_more!(put(alloc, &mut trie, names[at], value))?;
         }
     }
     Ok(trie)
 }
 
-// What stays below the limit is what a trie that is built apart has.
+// What stays below the limit is what a trie that is built apart has. A refusal leaves the trie as its twin is.
 fn stays<K: Named>(
     rt: &impl Abort,
     alloc: Global,
@@ -68,25 +50,9 @@ fn stays<K: Named>(
     apart: &Numbers<K>,
     limit: u32,
 ) -> Result<(), KvError> {
-    let rest = kept(rt, alloc, all, twin, limit)?;
+    let rest = once_more!(kept(alloc, all, limit), are_same(rt, all, twin))?;
     are_same(rt, &rest, apart);
     are_same(rt, all, twin);
-    Ok(())
-}
-
-fn each_limit<K: Named>(
-    rt: &impl Abort,
-    alloc: Global,
-    all: &Numbers<K>,
-    twin: &Numbers<K>,
-    names: &[&str],
-    values: &[u32],
-    limits: &[u32],
-) -> Result<(), KvError> {
-    for limit in limits {
-        let apart = made(alloc, names, values, *limit)?;
-        stays(rt, alloc, all, twin, &apart, *limit)?;
-    }
     Ok(())
 }
 
@@ -99,7 +65,11 @@ fn all_limits<K: Named>(
 ) -> Result<(), KvError> {
     let all: Numbers<K> = made(alloc, names, values, 1_000_000)?;
     let twin = made(alloc, names, values, 1_000_000)?;
-    each_limit(rt, alloc, &all, &twin, names, values, limits)
+    for limit in limits {
+        let apart = made(alloc, names, values, *limit)?;
+        stays(rt, alloc, &all, &twin, &apart, *limit)?;
+    }
+    Ok(())
 }
 
 const WORKED: &[&str] = &["a", "foobar", "altarage", "zinke"];
@@ -174,10 +144,6 @@ fn shared_children(trie: &Numbers<Key>) -> u64 {
     }
 }
 
-fn kept_again(alloc: Global, trie: &Numbers<Key>, limit: u32) -> Result<Numbers<Key>, KvError> {
-    again(|| kept_once(alloc, trie, limit))
-}
-
 // How many children of the root are shared, and how many of the root of what stays below the limit.
 #[derive(Clone, Copy)]
 struct Shared {
@@ -192,7 +158,7 @@ fn shares(
     limit: u32,
     wanted: Shared,
 ) -> Result<(), KvError> {
-    let rest = kept_again(alloc, all, limit)?;
+    let rest = once_more!(kept(alloc, all, limit))?;
     equal(rt, shared_children(all), wanted.of_all);
     equal(rt, shared_children(&rest), wanted.of_the_rest);
     Ok(())
