@@ -5,7 +5,7 @@ use crate::equal::equal;
 use crate::limits::{Limits, keeping, limited};
 use crate::same::tell_the_same;
 use kv_single::{Bucket, Call, Filter, Filters, Key, KvError, Reply, Request, Status, Taken};
-use kv_test_tools::{Answered, LATEST, again, again_on, delete, purge, put};
+use kv_test_tools::{Answered, LATEST, delete, once_more, purge, put};
 use std::alloc::Global;
 use std::process::Abort;
 use std::test::Fail;
@@ -94,5 +94,5 @@ fn open_once(alloc: Global, limits: Limits) -> Result<Bucket, KvError> {
 }
 
 fn open(alloc: Global, limits: Limits) -> Result<Bucket, KvError> {
-    again(|| open_once(alloc, limits))
+    once_more!(open_once(alloc, limits))
 }

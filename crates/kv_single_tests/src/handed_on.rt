@@ -9,17 +9,12 @@ use kv_single::{
     Shown, Stopped, Taken, Trie, Version, Visit, Write, fnv32, given,
 };
 use kv_store::{Config, Op, Request, Status};
-use kv_test_tools::again;
+use kv_test_tools::once_more;
 use kv_watch::laws::{given_goes_on, one_kept_is_latest, revisions_rise};
 use kv_watch::{Options, Start};
 use std::alloc::Global;
 use std::process::Abort;
 use std::test::Fail;
-
-// A bucket opened by the configuration of `kv_store`.
-fn open(alloc: Global) -> Result<Bucket, KvError> {
-    Bucket::open(alloc, &Config::named(alloc, "kv")?)
-}
 
 // A write that is asked for by the request of `kv_store`.
 fn put(alloc: Global, bucket: &mut Bucket, text: &str, value: &[u8]) -> Result<u64, KvError> {
@@ -129,9 +124,11 @@ fn stops(rt: &impl Abort, alloc: Global) -> Result<(), KvError> {
     Ok(())
 }
 
-fn all_are_had_on(rt: &impl Abort, alloc: Global, bucket: &mut Bucket) -> Result<(), KvError> {
-    equal(rt, put(alloc, bucket, "a", b"1")?, 1);
-    equal(rt, put(alloc, bucket, "b", b"2")?, 2);
+// The bucket is opened by the configuration of `kv_store`.
+fn all_are_had(rt: &impl Abort, alloc: Global) -> Result<(), KvError> {
+    let mut bucket = Bucket::open(alloc, &Config::named(alloc, "kv")?)?;
+    equal(rt, put(alloc, &mut bucket, "a", b"1")?, 1);
+    equal(rt, put(alloc, &mut bucket, "b", b"2")?, 2);
     equal(rt, bucket.version().status(), TWO);
     is_watched(rt, alloc, bucket.version())?;
     equal(rt, sum_of_last(bucket.version().by_key()), 3);
@@ -139,14 +136,9 @@ fn all_are_had_on(rt: &impl Abort, alloc: Global, bucket: &mut Bucket) -> Result
     stops(rt, alloc)
 }
 
-fn all_are_had_once(rt: &impl Abort, alloc: Global) -> Result<(), KvError> {
-    let mut bucket = open(alloc)?;
-    all_are_had_on(rt, alloc, &mut bucket)
-}
-
 #[test]
 fn kv_single_has_the_names_of_the_crates_below(rt: HostRuntime) -> Result<(), Fail> {
-    again(|| all_are_had_once(&rt, rt.alloc()))?;
+    once_more!(all_are_had(&rt, rt.alloc()))?;
     Ok(())
 }
 

@@ -1,7 +1,9 @@
-//! The limits of a bucket, and its configuration by them.
+//! The limits of a bucket, its configuration by them, and its first version.
 
 use kv_keys::KvError;
 use kv_model::Config;
+use kv_store::Version;
+use kv_test_tools::once_more;
 use std::alloc::Global;
 
 #[derive(Clone, Copy)]
@@ -39,4 +41,14 @@ pub fn limited(alloc: Global, bucket: &str, limits: Limits) -> Result<Config, Kv
     let mut config = Config::named(alloc, bucket)?;
     limit(&mut config, limits);
     Ok(config)
+}
+
+fn empty_once(alloc: Global, limits: Limits) -> Result<Version, KvError> {
+    let config = limited(alloc, "kv", limits)?;
+    Version::empty(alloc, &config)
+}
+
+// A version with no writes.
+pub fn empty(alloc: Global, limits: Limits) -> Result<Version, KvError> {
+    once_more!(empty_once(alloc, limits))
 }

@@ -2,7 +2,7 @@
 
 use crate::equal::equal;
 use kv_keys::{Filter, Filters, Key, KvError, Place, Short, fnv32, is_name};
-use kv_test_tools::{again, again_checking};
+use kv_test_tools::once_more;
 use std::alloc::{AllocError, Global};
 use std::process::Abort;
 use std::test::Fail;
@@ -79,7 +79,7 @@ impl Parsed for Filters {
 }
 
 fn made<T: Parsed>(alloc: Global, text: &str) -> Result<T, KvError> {
-    again(|| T::parsed(alloc, text))
+    once_more!(T::parsed(alloc, text))
 }
 
 // `count` times `part` behind `start`, and then `end`.
@@ -102,5 +102,5 @@ fn text_once(alloc: Global, repeated: Repeated) -> Result<String, AllocError> {
 }
 
 fn text_of(alloc: Global, repeated: Repeated) -> Result<String, AllocError> {
-    again(|| text_once(alloc, repeated))
+    once_more!(text_once(alloc, repeated))
 }

@@ -2,11 +2,11 @@
 //! is as it was, and the same call, made again, goes on.
 
 use crate::equal::equal;
-use crate::limits::{DEFAULTS, Limits, keeping, limited};
+use crate::limits::{DEFAULTS, Limits, empty, keeping, limited};
 use kv_keys::{Key, KvError};
 use kv_model::{Config, Op, Request, Start, Status, Write};
 use kv_store::Version;
-use kv_test_tools::{again, again_checking, again_on};
+use kv_test_tools::once_more;
 use std::alloc::Global;
 use std::process::Abort;
 use std::test::Fail;

@@ -2,11 +2,11 @@
 //! memory is refused: then nothing has changed, and the same call, made again, goes on.
 
 use crate::equal::equal;
-use crate::limits::{keeping, limited};
+use crate::limits::{empty, keeping};
 use kv_keys::{Filter, Filters, KvError};
 use kv_model::{Event, Op, Options, Request, Start};
 use kv_store::Version;
-use kv_test_tools::{LATEST, again, again_checking, delete, purge, put};
+use kv_test_tools::{LATEST, delete, once_more, purge, put};
 use kv_watch::{Cursor, Taken};
 use std::alloc::Global;
 use std::process::Abort;
@@ -36,16 +36,6 @@ fn number_of(item: Event) -> u64 {
 
 const MARKER: u64 = 0;
 
-fn empty_once(alloc: Global, history: u64) -> Result<Version, KvError> {
-    let config = limited(alloc, "kv", keeping(history))?;
-    Version::empty(alloc, &config)
-}
-
-// A bucket that keeps so many entries of each key.
-fn empty(alloc: Global, history: u64) -> Result<Version, KvError> {
-    again(|| empty_once(alloc, history))
-}
-
 fn request(alloc: Global, deed: Deed) -> Result<Request, KvError> {
     match deed {
         Deed::Put(key, value) => put(alloc, key, value),
@@ -61,7 +51,7 @@ fn write_once(alloc: Global, version: &Version, deed: Deed) -> Result<Version, K
 
 // The version with one more write.
 fn write(alloc: Global, version: &Version, deed: Deed) -> Result<Version, KvError> {
-    again(|| write_once(alloc, version, deed))
+    once_more!(write_once(alloc, version, deed))
 }
 
 // A version with these writes behind those of another.
@@ -75,7 +65,7 @@ fn write_all(alloc: Global, version: Version, deeds: &[Deed]) -> Result<Version,
 
 // A bucket with these writes that keeps so many entries of each key.
 fn kept(alloc: Global, history: u64, deeds: &[Deed]) -> Result<Version, KvError> {
-    let version = empty(alloc, history)?;
+    let version = empty(alloc, keeping(history))?;
     write_all(alloc, version, deeds)
 }
 
@@ -85,7 +75,7 @@ fn written(alloc: Global, deeds: &[Deed]) -> Result<Version, KvError> {
 }
 
 fn filters(alloc: Global, text: &str) -> Result<Filters, KvError> {
-    again(|| Filters::parse(alloc, text))
+    once_more!(Filters::parse(alloc, text))
 }
 
 fn one_once(alloc: Global, text: &str) -> Result<Filters, KvError> {
@@ -95,7 +85,7 @@ fn one_once(alloc: Global, text: &str) -> Result<Filters, KvError> {
 
 // The list of one filter.
 fn one(alloc: Global, text: &str) -> Result<Filters, KvError> {
-    again(|| one_once(alloc, text))
+    once_more!(one_once(alloc, text))
 }
 
 // A cursor at the version. A refusal leaves the version as it was.
@@ -107,9 +97,9 @@ fn open(
     options: Options,
 ) -> Result<Cursor, KvError> {
     let before = version.status();
-    again_checking(
-        || equal(rt, version.status(), before),
-        || Cursor::open(alloc, version, filters, options),
+    once_more!(
+        Cursor::open(alloc, version, filters, options),
+        equal(rt, version.status(), before)
     )
 }
 

@@ -109,21 +109,7 @@ fn ask_once(rt: &impl Abort, alloc: Global, bucket: &mut Bucket, ask: Ask) -> An
 }
 
 fn ask(rt: &impl Abort, alloc: Global, bucket: &mut Bucket, ask: Ask) -> Answer {
-    again(|| ask_once(rt, alloc, bucket, ask))
-}
-
-fn ask_beside(
-    rt: &impl Abort,
-    alloc: Global,
-    bucket: &mut Bucket,
-    twin: &Bucket,
-    ask: Ask,
-) -> Answer {
-    again_on(
-        bucket,
-        |bucket| look_alike(rt, bucket, twin),
-        |bucket| ask_once(rt, alloc, bucket, ask),
-    )
+    once_more!(ask_once(rt, alloc, bucket, ask))
 }
 
 // Each row is asked of the bucket and then of its twin.
@@ -135,7 +121,11 @@ pub(super) fn ask_each_beside(
     rows: &[Row],
 ) {
     for row in rows {
-        equal(rt, ask_beside(rt, alloc, bucket, twin, row.0), row.1);
+        let answer = once_more!(
+            ask_once(rt, alloc, bucket, row.0),
+            look_alike(rt, bucket, twin)
+        );
+        equal(rt, answer, row.1);
         equal(rt, ask(rt, alloc, twin, row.0), row.1);
     }
 }

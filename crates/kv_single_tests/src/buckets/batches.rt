@@ -22,7 +22,7 @@ impl Answered for Batched {
 
 type BatchRow = (&'static [Ask], Batched);
 
-fn requests_once(alloc: Global, asks: &[Ask]) -> Result<Vec<Request>, KvError> {
+fn requests(alloc: Global, asks: &[Ask]) -> Result<Vec<Request>, KvError> {
     let mut requests = Vec::new(alloc);
     for ask in asks {
         if let Some(request) = making::request(alloc, *ask)? {
@@ -32,29 +32,11 @@ fn requests_once(alloc: Global, asks: &[Ask]) -> Result<Vec<Request>, KvError> {
     Ok(requests)
 }
 
-fn requests(alloc: Global, asks: &[Ask]) -> Result<Vec<Request>, KvError> {
-    again(|| requests_once(alloc, asks))
-}
-
 fn written(bucket: &mut Bucket, requests: &[Request]) -> Batched {
     match bucket.write_all(requests) {
         Ok(first) => Batched::First(first),
         Err(refused) => Batched::Refused(refused.at, refused.error),
     }
-}
-
-// A batch that is refused leaves the bucket like its twin.
-fn batched_beside(
-    rt: &impl Abort,
-    bucket: &mut Bucket,
-    twin: &Bucket,
-    requests: &[Request],
-) -> Batched {
-    again_on(
-        bucket,
-        |bucket| look_alike(rt, bucket, twin),
-        |bucket| written(bucket, requests),
-    )
 }
 
 // What is accepted in one step is accepted one after the other, with revisions that go on from the first.
@@ -66,6 +48,7 @@ fn follow(rt: &impl Abort, alloc: Global, twin: &mut Bucket, asks: &[Ask], first
     }
 }
 
+// A batch that is refused leaves the bucket like its twin.
 fn ask_batch(
     rt: &impl Abort,
     alloc: Global,
@@ -73,8 +56,9 @@ fn ask_batch(
     twin: &mut Bucket,
     row: BatchRow,
 ) -> Result<(), KvError> {
-    let requests = requests(alloc, row.0)?;
-    equal(rt, batched_beside(rt, bucket, twin, &requests), row.1);
+    let requests = once_more!(requests(alloc, row.0))?;
+    let answer = once_more!(written(bucket, &requests), look_alike(rt, bucket, twin));
+    equal(rt, answer, row.1);
     if let Batched::First(first) = row.1 {
         follow(rt, alloc, twin, row.0, first);
     }
@@ -200,7 +184,7 @@ fn a_sealed_bucket_refuses_the_first_of_a_batch(rt: HostRuntime) -> Result<(), F
     Ok(())
 }
 
-fn text_once(alloc: Global) -> Result<String, KvError> {
+fn text(alloc: Global) -> Result<String, KvError> {
     let refused = BatchRefused {
         at: 2,
         error: KvError::KeyExists,
@@ -210,7 +194,7 @@ fn text_once(alloc: Global) -> Result<String, KvError> {
 
 #[test]
 fn the_text_of_a_refused_batch_has_its_place(rt: HostRuntime) -> Result<(), Fail> {
-    let text = again(|| text_once(rt.alloc()))?;
+    let text = once_more!(text(rt.alloc()))?;
     equal(&rt, text.as_str(), "KeyExists at 2");
     Ok(())
 }

@@ -20,40 +20,30 @@ fn next(bucket: &Bucket, watch: u64) -> Answer {
 }
 
 // What is passed of a watch is what is taken of it: its entry, the end marker, the entry behind its opening, and none.
-fn pass_beside_takes(rt: &impl Abort, alloc: Global) -> Result<(), KvError> {
-    let mut passed = begun(rt, alloc)?;
-    let mut taken = begun(rt, alloc)?;
+#[test]
+fn a_pass_moves_on_as_a_take_does(rt: HostRuntime) -> Result<(), Fail> {
+    let mut passed = begun(&rt, rt.alloc())?;
+    let mut taken = begun(&rt, rt.alloc())?;
     for _ in 0..4 {
         let lent = asking::taken(taken.take(2));
-        equal(rt, next(&passed, 2), lent);
+        equal(&rt, next(&passed, 2), lent);
         passed.pass(2);
-        look_alike(rt, &passed, &taken);
+        look_alike(&rt, &passed, &taken);
     }
-    equal(rt, next(&passed, 2), Answer::Empty);
-    equal(rt, passed.stop(2)?.handed, 3);
+    equal(&rt, next(&passed, 2), Answer::Empty);
+    equal(&rt, passed.stop(2)?.handed, 3);
     Ok(())
 }
 
 // A watch that was peeked and stopped is not passed, nor is another one.
-fn pass_behind_a_stop(rt: &impl Abort, alloc: Global) -> Result<(), KvError> {
-    let mut bucket = begun(rt, alloc)?;
-    equal(rt, next(&bucket, 1), Answer::Entry(1, b'1'));
-    equal(rt, bucket.stop(1)?.handed, 0);
-    bucket.pass(1);
-    equal(rt, next(&bucket, 1), Answer::Refused(KvError::NoSuchWatch));
-    equal(rt, next(&bucket, 2), Answer::Entry(1, b'1'));
-    equal(rt, bucket.stop(2)?.handed, 0);
-    Ok(())
-}
-
-#[test]
-fn a_pass_moves_on_as_a_take_does(rt: HostRuntime) -> Result<(), Fail> {
-    pass_beside_takes(&rt, rt.alloc())?;
-    Ok(())
-}
-
 #[test]
 fn a_pass_behind_a_stop_moves_no_watch(rt: HostRuntime) -> Result<(), Fail> {
-    pass_behind_a_stop(&rt, rt.alloc())?;
+    let mut bucket = begun(&rt, rt.alloc())?;
+    equal(&rt, next(&bucket, 1), Answer::Entry(1, b'1'));
+    equal(&rt, bucket.stop(1)?.handed, 0);
+    bucket.pass(1);
+    equal(&rt, next(&bucket, 1), Answer::Refused(KvError::NoSuchWatch));
+    equal(&rt, next(&bucket, 2), Answer::Entry(1, b'1'));
+    equal(&rt, bucket.stop(2)?.handed, 0);
     Ok(())
 }

@@ -2,32 +2,12 @@
 
 use super::*;
 
-fn by_calls_beside(
-    rt: &impl Abort,
-    alloc: Global,
-    limits: Limits,
-    twin: &mut Bucket,
-    rows: &[Row],
-) -> Result<(), KvError> {
-    let mut bucket = open(alloc, limits)?;
-    asking::ask_each_beside(rt, alloc, &mut bucket, twin, rows);
-    Ok(())
-}
-
-fn by_calls(rt: &impl Abort, alloc: Global, limits: Limits, rows: &[Row]) -> Result<(), KvError> {
-    let mut twin = open(alloc, limits)?;
-    by_calls_beside(rt, alloc, limits, &mut twin, rows)
-}
-
-fn in_a_run(rt: &impl Abort, alloc: Global, limits: Limits, rows: &[Row]) -> Result<(), KvError> {
-    let mut bucket = open(alloc, limits)?;
-    running::run_all(rt, alloc, limits, &mut bucket, rows)
-}
-
 // In a new bucket each row has its answer, both ways.
 fn holds(rt: &impl Abort, alloc: Global, limits: Limits, rows: &[Row]) -> Result<(), KvError> {
-    by_calls(rt, alloc, limits, rows)?;
-    in_a_run(rt, alloc, limits, rows)
+    let mut bucket = open(alloc, limits)?;
+    let mut twin = open(alloc, limits)?;
+    asking::ask_each_beside(rt, alloc, &mut bucket, &mut twin, rows);
+    running::run_all(rt, alloc, limits, rows)
 }
 
 const INITIAL: &[Row] = &[
@@ -149,7 +129,7 @@ fn memory_suffices_for_the_longest(rt: HostRuntime) -> Result<(), Fail> {
 }
 
 // A put and a take, again and again.
-fn rows_once(alloc: Global) -> Result<Vec<Row>, KvError> {
+fn rows(alloc: Global) -> Result<Vec<Row>, KvError> {
     let mut rows = Vec::new(alloc);
     rows.push((Ask::Watch("k"), Answer::Watch(1)))?;
     rows.push((Ask::Take(1), Answer::Marker))?;
@@ -160,13 +140,9 @@ fn rows_once(alloc: Global) -> Result<Vec<Row>, KvError> {
     Ok(rows)
 }
 
-fn rows(alloc: Global) -> Result<Vec<Row>, KvError> {
-    again(|| rows_once(alloc))
-}
-
 #[test]
 fn a_run_has_two_thousand_calls(rt: HostRuntime) -> Result<(), Fail> {
-    let rows = rows(rt.alloc())?;
-    in_a_run(&rt, rt.alloc(), keeping(1), &rows)?;
+    let rows = once_more!(rows(rt.alloc()))?;
+    running::run_all(&rt, rt.alloc(), keeping(1), &rows)?;
     Ok(())
 }

@@ -3,16 +3,12 @@
 
 use super::*;
 
-fn calls_once(alloc: Global, rows: &[Row]) -> Result<Vec<Call>, KvError> {
+fn calls(alloc: Global, rows: &[Row]) -> Result<Vec<Call>, KvError> {
     let mut calls = Vec::new(alloc);
     for row in rows {
         calls.push(making::call(alloc, row.0)?)?;
     }
     Ok(calls)
-}
-
-fn calls(alloc: Global, rows: &[Row]) -> Result<Vec<Call>, KvError> {
-    again(|| calls_once(alloc, rows))
 }
 
 fn brief(reply: &Reply) -> Answer {
@@ -72,27 +68,17 @@ fn are_answers(rt: &impl Abort, replies: &[Reply], rows: &[Row]) {
     }
 }
 
-fn answers(
-    rt: &impl Abort,
-    alloc: Global,
-    limits: Limits,
-    bucket: &mut Bucket,
-    rows: &[Row],
-    calls: &[Call],
-) -> Result<(), KvError> {
-    let mut replies = Vec::new(alloc);
-    run(rt, alloc, limits, bucket, rows, calls, &mut replies)?;
-    are_answers(rt, &replies, rows);
-    Ok(())
-}
-
+// In a new bucket each row has its answer.
 pub(super) fn run_all(
     rt: &impl Abort,
     alloc: Global,
     limits: Limits,
-    bucket: &mut Bucket,
     rows: &[Row],
 ) -> Result<(), KvError> {
-    let calls = calls(alloc, rows)?;
-    answers(rt, alloc, limits, bucket, rows, &calls)
+    let mut bucket = open(alloc, limits)?;
+    let calls = once_more!(calls(alloc, rows))?;
+    let mut replies = Vec::new(alloc);
+    run(rt, alloc, limits, &mut bucket, rows, &calls, &mut replies)?;
+    are_answers(rt, &replies, rows);
+    Ok(())
 }

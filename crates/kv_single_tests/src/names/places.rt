@@ -13,18 +13,15 @@ const HASHES: &[(&str, u32)] = &[
     ("zinke", 0xe460d8b6),
 ];
 
-fn has_places(rt: &impl Abort, key: Key, text: &str, hash: u32) {
-    equal(rt, fnv32(text.as_bytes()), hash);
-    equal(rt, key.place(), hash);
-    equal(rt, Short(key).place() as u64, text.len() as u64);
-}
-
 // The empty text has a hash too; it is no key.
 #[test]
 fn places_are_the_published_hashes(rt: HostRuntime) -> Result<(), Fail> {
     equal(&rt, fnv32(b""), 0x811c9dc5);
     for (text, hash) in HASHES {
-        has_places(&rt, made(rt.alloc(), text)?, text, *hash);
+        let key: Key = made(rt.alloc(), text)?;
+        equal(&rt, fnv32(text.as_bytes()), *hash);
+        equal(&rt, key.place(), *hash);
+        equal(&rt, Short(key).place() as u64, text.len() as u64);
     }
     Ok(())
 }

@@ -7,12 +7,6 @@ fn are_ordered<K: Ord>(rt: &impl Abort, low: &K, high: &K) {
     assert!(rt; high.cmp(low).is_gt() && low.cmp(low).is_eq());
 }
 
-// As keys, and as short keys.
-fn keys_are_ordered(rt: &impl Abort, low: Key, high: Key) {
-    are_ordered(rt, &low, &high);
-    are_ordered(rt, &Short(low), &Short(high));
-}
-
 const ORDERED: &[(&str, &str)] = &[
     ("a", "b"),
     ("a", "aa"),
@@ -24,23 +18,22 @@ const ORDERED: &[(&str, &str)] = &[
     ("services.billing.port.v11", "services.billing.port.v12"),
 ];
 
+// As keys, and as short keys.
 #[test]
 fn keys_are_ordered_by_bytes(rt: HostRuntime) -> Result<(), Fail> {
     for (low, high) in ORDERED {
-        let low = made(rt.alloc(), low)?;
-        keys_are_ordered(&rt, low, made(rt.alloc(), high)?);
+        let low: Key = made(rt.alloc(), low)?;
+        let high: Key = made(rt.alloc(), high)?;
+        are_ordered(&rt, &low, &high);
+        are_ordered(&rt, &Short(low), &Short(high));
     }
     Ok(())
 }
 
-// A copy, made again after a refusal, which leaves the text.
-fn copy_of<T: Parsed>(rt: &impl Abort, alloc: Global, from: &T, text: &str) -> Result<T, KvError> {
-    again_checking(|| equal(rt, from.text(), text), || from.copied(alloc))
-}
-
+// A refusal leaves the text.
 fn is_copied<T: Parsed>(rt: &impl Abort, alloc: Global, text: &str) -> Result<(), KvError> {
     let from: T = made(alloc, text)?;
-    let copy = copy_of(rt, alloc, &from, text)?;
+    let copy = once_more!(from.copied(alloc), equal(rt, from.text(), text))?;
     equal(rt, copy.text(), text);
     equal(rt, copy.filters(), from.filters());
     Ok(())
@@ -56,18 +49,14 @@ fn a_copy_has_the_same_text(rt: HostRuntime) -> Result<(), Fail> {
     Ok(())
 }
 
-// The list of one filter. A refusal leaves the filter.
-fn list_of_one(rt: &impl Abort, alloc: Global, from: &Filter) -> Result<Filters, KvError> {
-    again_checking(
-        || equal(rt, from.as_str(), "a.*"),
-        || Filters::one(alloc, from),
-    )
-}
-
+// A refusal leaves the filter.
 #[test]
 fn a_list_of_one_filter_has_its_text(rt: HostRuntime) -> Result<(), Fail> {
     let pattern: Filter = made(rt.alloc(), "a.*")?;
-    let one = list_of_one(&rt, rt.alloc(), &pattern)?;
+    let one = once_more!(
+        Filters::one(rt.alloc(), &pattern),
+        equal(&rt, pattern.as_str(), "a.*")
+    )?;
     equal(&rt, one.as_str(), "a.*");
     equal(&rt, one.count(), 1);
     Ok(())

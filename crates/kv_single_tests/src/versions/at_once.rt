@@ -6,9 +6,9 @@ use facts::are_told;
 // The version that is made of another by a put, a delete or a seal. A refusal leaves that one as it is.
 fn made(rt: &impl Abort, alloc: Global, version: &Version, ask: Ask) -> Result<Version, KvError> {
     let before = version.status();
-    again_checking(
-        || equal(rt, version.status(), before),
-        || driving::made_once(alloc, version, "a", ask),
+    once_more!(
+        driving::made(alloc, version, "a", ask),
+        equal(rt, version.status(), before)
     )
 }
 
@@ -67,63 +67,18 @@ const SEALED: &[Fact] = &[
 ];
 
 // Each of the five is asked once all of them are there.
-fn all_tell_their_own(
-    rt: &impl Abort,
-    alloc: Global,
-    empty: &Version,
-    put: &Version,
-    held: &Version,
-    deleted: &Version,
-    sealed: &Version,
-) -> Result<(), KvError> {
-    are_told(rt, alloc, empty, EMPTY)?;
-    are_told(rt, alloc, put, PUT)?;
-    are_told(rt, alloc, held, PUT)?;
-    are_told(rt, alloc, deleted, DELETED)?;
-    are_told(rt, alloc, sealed, SEALED)
-}
-
-fn with_a_seal(
-    rt: &impl Abort,
-    alloc: Global,
-    empty: &Version,
-    put: &Version,
-    held: &Version,
-    deleted: &Version,
-) -> Result<(), KvError> {
-    let sealed = made(rt, alloc, deleted, Ask::Seal)?;
-    all_tell_their_own(rt, alloc, empty, put, held, deleted, &sealed)
-}
-
-fn with_a_delete(
-    rt: &impl Abort,
-    alloc: Global,
-    empty: &Version,
-    put: &Version,
-    held: &Version,
-) -> Result<(), KvError> {
-    let deleted = made(rt, alloc, put, Ask::Delete(None))?;
-    with_a_seal(rt, alloc, empty, put, held, &deleted)
-}
-
-fn with_a_snapshot(
-    rt: &impl Abort,
-    alloc: Global,
-    empty: &Version,
-    put: &Version,
-) -> Result<(), KvError> {
-    let held = put.snapshot()?;
-    with_a_delete(rt, alloc, empty, put, &held)
-}
-
-fn with_a_put(rt: &impl Abort, alloc: Global, empty: &Version) -> Result<(), KvError> {
-    let put = made(rt, alloc, empty, Ask::Put("1"))?;
-    with_a_snapshot(rt, alloc, empty, &put)
-}
-
 #[test]
 fn each_version_tells_its_own_beside_later_ones(rt: HostRuntime) -> Result<(), Fail> {
-    let empty = driving::empty(rt.alloc(), keeping(1))?;
-    with_a_put(&rt, rt.alloc(), &empty)?;
+    let alloc = rt.alloc();
+    let empty = empty(alloc, keeping(1))?;
+    let put = made(&rt, alloc, &empty, Ask::Put("1"))?;
+    let held = put.snapshot()?;
+    let deleted = made(&rt, alloc, &put, Ask::Delete(None))?;
+    let sealed = made(&rt, alloc, &deleted, Ask::Seal)?;
+    are_told(&rt, alloc, &empty, EMPTY)?;
+    are_told(&rt, alloc, &put, PUT)?;
+    are_told(&rt, alloc, &held, PUT)?;
+    are_told(&rt, alloc, &deleted, DELETED)?;
+    are_told(&rt, alloc, &sealed, SEALED)?;
     Ok(())
 }

@@ -6,20 +6,16 @@ use kv_single::Bucket;
 // The bucket's name, its limits, and what `Config::check`, `Version::empty` and `Bucket::open` answer.
 type Asked = (&'static str, Limits, Result<(), KvError>);
 
-// A bucket that is made has the name.
-fn made(rt: &impl Abort, alloc: Global, config: &Config, name: &str) -> Result<(), KvError> {
-    match Version::empty(alloc, config) {
+// A version that is made has the name.
+fn answer(rt: &impl Abort, alloc: Global, name: &str, limits: Limits) -> Result<(), KvError> {
+    let config = limited(alloc, name, limits)?;
+    let answer = match Version::empty(alloc, &config) {
         Ok(version) => {
             equal(rt, version.bucket(), name);
             Ok(())
         }
         Err(error) => Err(error),
-    }
-}
-
-fn answer_once(rt: &impl Abort, alloc: Global, name: &str, limits: Limits) -> Result<(), KvError> {
-    let config = limited(alloc, name, limits)?;
-    let answer = made(rt, alloc, &config, name);
+    };
     if answer != Err(KvError::OutOfMemory) {
         equal(rt, config.check(), answer);
     }
@@ -32,14 +28,10 @@ fn opened(alloc: Global, name: &str, limits: Limits) -> Result<(), KvError> {
     Ok(())
 }
 
-fn answer(rt: &impl Abort, alloc: Global, name: &str, limits: Limits) -> Result<(), KvError> {
-    again(|| answer_once(rt, alloc, name, limits))
-}
-
 fn answers(rt: &impl Abort, alloc: Global, rows: &[Asked]) {
     for (name, limits, wanted) in rows {
-        equal(rt, answer(rt, alloc, name, *limits), *wanted);
-        equal(rt, again(|| opened(alloc, name, *limits)), *wanted);
+        equal(rt, once_more!(answer(rt, alloc, name, *limits)), *wanted);
+        equal(rt, once_more!(opened(alloc, name, *limits)), *wanted);
     }
 }
 

@@ -4,16 +4,7 @@
 use super::*;
 use crate::same::tell_the_same;
 
-fn empty_once(alloc: Global, limits: Limits) -> Result<Version, KvError> {
-    let config = limited(alloc, "kv", limits)?;
-    Version::empty(alloc, &config)
-}
-
-pub(super) fn empty(alloc: Global, limits: Limits) -> Result<Version, KvError> {
-    again(|| empty_once(alloc, limits))
-}
-
-pub(super) fn made_once(
+pub(super) fn made(
     alloc: Global,
     version: &Version,
     text: &str,
@@ -26,21 +17,7 @@ pub(super) fn made_once(
     }
 }
 
-// The version that is made of another. A refusal leaves that one as its twin is.
-fn made(
-    rt: &impl Abort,
-    alloc: Global,
-    version: &Version,
-    twin: &Version,
-    row: Row,
-) -> Result<Version, KvError> {
-    again_checking(
-        || tell_the_same(rt, version, twin),
-        || made_once(alloc, version, row.0, row.1),
-    )
-}
-
-// The version behind a row, which is this one where the row is refused.
+// The version behind a row, which is this one where the row is refused. A refusal leaves it as its twin is.
 fn next(
     rt: &impl Abort,
     alloc: Global,
@@ -48,7 +25,11 @@ fn next(
     twin: &Version,
     row: Row,
 ) -> Result<Version, KvError> {
-    match made(rt, alloc, version, twin, row) {
+    let made = once_more!(
+        made(alloc, version, row.0, row.1),
+        tell_the_same(rt, version, twin)
+    );
+    match made {
         Ok(next) => {
             assert!(rt; row.2 == Ok(next.revision()));
             Ok(next)
@@ -60,7 +41,7 @@ fn next(
     }
 }
 
-fn done_once(alloc: Global, here: &mut Version, text: &str, ask: Ask) -> Result<(), KvError> {
+fn done(alloc: Global, here: &mut Version, text: &str, ask: Ask) -> Result<(), KvError> {
     match ask {
         Ask::Seal => {
             *here = here.seal(alloc)?;
@@ -71,22 +52,7 @@ fn done_once(alloc: Global, here: &mut Version, text: &str, ask: Ask) -> Result<
     }
 }
 
-// Does the row to the version itself. A refusal leaves it as its twin is.
-fn done(
-    rt: &impl Abort,
-    alloc: Global,
-    here: &mut Version,
-    twin: &Version,
-    row: Row,
-) -> Result<(), KvError> {
-    again_on(
-        here,
-        |here| tell_the_same(rt, here, twin),
-        |here| done_once(alloc, here, row.0, row.1),
-    )
-}
-
-// And so it goes from the former version to the next one.
+// Does the row to the version itself, which goes from the former version to the next one. A refusal leaves it as it was.
 fn goes_on(
     rt: &impl Abort,
     alloc: Global,
@@ -95,7 +61,11 @@ fn goes_on(
     next: &Version,
     row: Row,
 ) {
-    match done(rt, alloc, here, former, row) {
+    let done = once_more!(
+        done(alloc, here, row.0, row.1),
+        tell_the_same(rt, here, former)
+    );
+    match done {
         Ok(()) => assert!(rt; row.2 == Ok(here.revision())),
         Err(error) => assert!(rt; row.2 == Err(error)),
     }
@@ -135,21 +105,6 @@ fn step(
     Ok(())
 }
 
-fn run(
-    rt: &impl Abort,
-    alloc: Global,
-    limits: Limits,
-    version: &mut Version,
-    beside: bool,
-    rows: &[Row],
-) -> Result<(), KvError> {
-    let mut here = empty(alloc, limits)?;
-    for row in rows {
-        step(rt, alloc, version, &mut here, beside, *row)?;
-    }
-    Ok(())
-}
-
 fn holds_so(
     rt: &impl Abort,
     alloc: Global,
@@ -159,7 +114,10 @@ fn holds_so(
     facts: &[Fact],
 ) -> Result<(), KvError> {
     let mut version = empty(alloc, limits)?;
-    run(rt, alloc, limits, &mut version, beside, rows)?;
+    let mut here = empty(alloc, limits)?;
+    for row in rows {
+        step(rt, alloc, &mut version, &mut here, beside, *row)?;
+    }
     facts::are_told(rt, alloc, &version, facts)
 }
 

@@ -144,16 +144,11 @@ fn has_kept(
     Ok(())
 }
 
-fn push_key(text: &mut String, key: &Key) -> Result<(), KvError> {
-    text.push_str(key.as_str())?;
-    text.push(' ')?;
-    Ok(())
-}
-
 fn text_of(alloc: Global, keys: &[&Key]) -> Result<String, KvError> {
     let mut text = String::new(alloc);
     for key in keys {
-        push_key(&mut text, key)?;
+        text.push_str(key.as_str())?;
+        text.push(' ')?;
     }
     Ok(text)
 }
@@ -198,12 +193,7 @@ fn selects(
     Ok(())
 }
 
-fn is_told_once(
-    rt: &impl Abort,
-    alloc: Global,
-    version: &Version,
-    fact: Fact,
-) -> Result<(), KvError> {
+fn is_told(rt: &impl Abort, alloc: Global, version: &Version, fact: Fact) -> Result<(), KvError> {
     match fact {
         Fact::Numbers(status, floor) => {
             has_numbers(rt, version, status, floor);
@@ -228,10 +218,6 @@ fn is_told_once(
     }
 }
 
-fn is_told(rt: &impl Abort, alloc: Global, version: &Version, fact: Fact) -> Result<(), KvError> {
-    again(|| is_told_once(rt, alloc, version, fact))
-}
-
 pub(super) fn are_told(
     rt: &impl Abort,
     alloc: Global,
@@ -239,7 +225,7 @@ pub(super) fn are_told(
     facts: &[Fact],
 ) -> Result<(), KvError> {
     for fact in facts {
-        is_told(rt, alloc, version, *fact)?;
+        once_more!(is_told(rt, alloc, version, *fact))?;
     }
     Ok(())
 }

@@ -38,27 +38,18 @@ fn a_version_tells_its_writes_and_what_is_kept(rt: HostRuntime) -> Result<(), Fa
     Ok(())
 }
 
-fn has_the_defaults(rt: &impl Abort, config: &Config) {
-    equal(rt, config.bucket.as_str(), "my.bucket");
-    equal(rt, config.history, 1);
-    equal(rt, config.value_limit, 1_048_576);
-    equal(rt, config.write_limit, 1_000_000);
-    equal(rt, config.revision_limit, 4_294_967_295);
-}
-
-fn named_once(rt: &impl Abort, alloc: Global) -> Result<(), KvError> {
-    let config = Config::named(alloc, "my.bucket")?;
-    has_the_defaults(rt, &config);
-    Ok(())
-}
-
 #[test]
 fn a_named_configuration_has_the_defaults(rt: HostRuntime) -> Result<(), Fail> {
-    again(|| named_once(&rt, rt.alloc()))?;
+    let config = once_more!(Config::named(rt.alloc(), "my.bucket"))?;
+    equal(&rt, config.bucket.as_str(), "my.bucket");
+    equal(&rt, config.history, 1);
+    equal(&rt, config.value_limit, 1_048_576);
+    equal(&rt, config.write_limit, 1_000_000);
+    equal(&rt, config.revision_limit, 4_294_967_295);
     Ok(())
 }
 
-fn asks_once(
+fn asks(
     rt: &impl Abort,
     alloc: Global,
     text: &str,
@@ -73,21 +64,17 @@ fn asks_once(
     Ok(())
 }
 
-fn asks(
-    rt: &impl Abort,
-    alloc: Global,
-    text: &str,
-    ask: Ask,
-    op: Op,
-    value: &[u8],
-) -> Result<(), KvError> {
-    again(|| asks_once(rt, alloc, text, ask, op, value))
-}
+// A request's key, what is asked of it, and the op and the value that are told.
+const ASKED: &[(&str, Ask, Op, &[u8])] = &[
+    ("a", Ask::Create("one"), Op::Put, b"one"),
+    ("b", Ask::Purge(None), Op::Purge, b""),
+];
 
 #[test]
 fn a_request_tells_its_key_its_op_and_its_value(rt: HostRuntime) -> Result<(), Fail> {
-    asks(&rt, rt.alloc(), "a", Ask::Create("one"), Op::Put, b"one")?;
-    asks(&rt, rt.alloc(), "b", Ask::Purge(None), Op::Purge, b"")?;
+    for (text, ask, op, value) in ASKED {
+        once_more!(asks(&rt, rt.alloc(), text, *ask, *op, value))?;
+    }
     Ok(())
 }
 
@@ -175,6 +162,6 @@ fn all_want(rt: &impl Abort, alloc: Global) -> Result<(), KvError> {
 
 #[test]
 fn filters_name_the_keys_that_they_want(rt: HostRuntime) -> Result<(), Fail> {
-    again(|| all_want(&rt, rt.alloc()))?;
+    once_more!(all_want(&rt, rt.alloc()))?;
     Ok(())
 }

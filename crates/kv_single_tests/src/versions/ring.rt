@@ -1,6 +1,6 @@
 //! A ring goes from version to version as `apply`, `compact` and `seal` make them, and each that is held stays as it was.
 
-use super::driving::{empty, made_once};
+use super::driving::made;
 use super::*;
 use crate::same::tell_the_same;
 use kv_store::Ring;
@@ -36,14 +36,7 @@ fn ask_of(pick: u64, last: u64) -> Ask {
     }
 }
 
-fn made(alloc: Global, version: &Version, text: &str, ask: Ask) -> Result<Version, KvError> {
-    match made_once(alloc, version, text, ask) {
-        Err(KvError::OutOfMemory) => made_once(alloc, version, text, ask),
-        made => made,
-    }
-}
-
-fn done_once(alloc: Global, ring: &mut Ring, text: &str, ask: Ask) -> Result<(), KvError> {
+fn done(alloc: Global, ring: &mut Ring, text: &str, ask: Ask) -> Result<(), KvError> {
     match ask {
         Ask::Seal => ring.seal(alloc),
         Ask::Compact(floor) => ring.compact(alloc, floor),
@@ -52,22 +45,6 @@ fn done_once(alloc: Global, ring: &mut Ring, text: &str, ask: Ask) -> Result<(),
 }
 
 // Where memory is refused the ring is at the version that it was at, and the same call goes on.
-fn done(
-    rt: &impl Abort,
-    alloc: Global,
-    twins: &mut Twins,
-    text: &str,
-    ask: Ask,
-) -> Result<(), KvError> {
-    match done_once(alloc, &mut twins.ring, text, ask) {
-        Err(KvError::OutOfMemory) => {
-            tell_the_same(rt, twins.ring.version(), &twins.version);
-            done_once(alloc, &mut twins.ring, text, ask)
-        }
-        done => done,
-    }
-}
-
 fn step(
     rt: &impl Abort,
     alloc: Global,
@@ -75,8 +52,11 @@ fn step(
     text: &str,
     ask: Ask,
 ) -> Result<(), KvError> {
-    let next = made(alloc, &twins.version, text, ask);
-    let done = done(rt, alloc, twins, text, ask);
+    let next = once_more!(made(alloc, &twins.version, text, ask));
+    let done = once_more!(
+        done(alloc, &mut twins.ring, text, ask),
+        tell_the_same(rt, twins.ring.version(), &twins.version)
+    );
     match next {
         Ok(next) => {
             assert!(rt; done.is_ok());

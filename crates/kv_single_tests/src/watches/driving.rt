@@ -24,23 +24,19 @@ fn options_of(row: Row) -> Options {
     }
 }
 
-fn write_of(version: &Version, revision: u64) -> Result<&Write, KvError> {
-    match version.write_at(revision) {
-        Some(write) => Ok(write),
-        None => Err(KvError::KeyNotFound),
-    }
-}
-
 fn stored(alloc: Global, version: &Version) -> Result<Vec<&Write>, KvError> {
     let mut writes = Vec::new(alloc);
     for place in 0..version.revision() {
-        let write = write_of(version, place + 1)?;
-        writes.push(write)?;
+        match version.write_at(place + 1) {
+            Some(write) => writes.push(write)?,
+            None => return Err(KvError::KeyNotFound),
+        }
     }
     Ok(writes)
 }
 
-fn listed_once(
+// The plain list of what the watch is given that began behind so many writes.
+fn listed(
     alloc: Global,
     now: &Version,
     base: u64,
@@ -63,39 +59,13 @@ fn listed_once(
     )
 }
 
-// The plain list of what the watch is given that began behind so many writes.
-fn listed(
-    alloc: Global,
-    now: &Version,
-    base: u64,
-    filters: &Filters,
-    row: Row,
-) -> Result<Vec<Event>, KvError> {
-    again(|| listed_once(alloc, now, base, filters, row))
-}
-
-fn lists(
-    rt: &impl Abort,
-    alloc: Global,
-    base: &Version,
-    now: &Version,
-    filters: &Filters,
-    row: Row,
-) -> Result<(), KvError> {
-    let events = listed(alloc, now, base.revision(), filters, row)?;
-    are_listed(rt, &events, row);
-    Ok(())
-}
-
 // The list is the initial items and then the live ones.
 fn are_listed(rt: &impl Abort, events: &[Event], row: Row) {
-    let items = row.initial.iter().chain(row.live);
-    assert!(rt;
-        events
-            .iter()
-            .map(|event| number_of(*event))
-            .eq(items.copied())
-    );
+    let mut items = row.initial.iter().chain(row.live).copied();
+    for event in events {
+        equal(rt, Some(number_of(*event)), items.next());
+    }
+    equal(rt, items.next(), None);
 }
 
 // The cursor hands out these items.
@@ -119,97 +89,48 @@ fn hands_out_all(
     equal(rt, step(rt, cursor, base, now), None);
 }
 
-fn stands_at_its_beginning(rt: &impl Abort, cursor: &Cursor, options: Options) {
-    let shown = cursor.options();
-    assert!(rt; shown == options);
+// A cursor on the version hands out the first part before the later writes are there, and the rest behind them. Another one
+// hands out all once they are there: a settle before all was handed out changes no answer.
+fn cursors_give(
+    rt: &impl Abort,
+    alloc: Global,
+    base: &Version,
+    now: &Version,
+    filters: &Filters,
+    row: Row,
+) -> Result<(), KvError> {
+    let options = options_of(row);
+    let mut cursor = open(rt, alloc, base, filters, options)?;
+    assert!(rt; cursor.options() == options);
     equal(rt, cursor.handed(), 0);
-}
-
-// The first part is handed out before the later writes are there, the rest behind them.
-fn in_parts(
-    rt: &impl Abort,
-    cursor: &mut Cursor,
-    base: &Version,
-    now: &Version,
-    initial: &[u64],
-    live: &[u64],
-) {
-    hands_out_all(rt, cursor, base, base, initial);
-    hands_out_all(rt, cursor, base, now, live);
-}
-
-// All is handed out once the later writes are there. A settle before all was handed out changes no answer.
-fn at_once(
-    rt: &impl Abort,
-    cursor: &mut Cursor,
-    base: &Version,
-    now: &Version,
-    initial: &[u64],
-    live: &[u64],
-) {
+    hands_out_all(rt, &mut cursor, base, base, row.initial);
+    hands_out_all(rt, &mut cursor, base, now, row.live);
+    let mut cursor = open(rt, alloc, base, filters, options)?;
     cursor.settle(now);
-    hands_out(rt, cursor, base, now, initial);
+    hands_out(rt, &mut cursor, base, now, row.initial);
     cursor.settle(now);
-    hands_out_all(rt, cursor, base, now, live);
-}
-
-fn before(alloc: Global, row: Row) -> Result<Version, KvError> {
-    kept(alloc, row.history, row.before)
-}
-
-fn after(alloc: Global, base: &Version, row: Row) -> Result<Version, KvError> {
-    let version = base.snapshot()?;
-    write_all(alloc, version, row.after)
-}
-
-fn gives_between(
-    rt: &impl Abort,
-    alloc: Global,
-    base: &Version,
-    now: &Version,
-    filters: &Filters,
-    row: Row,
-) -> Result<(), KvError> {
-    lists(rt, alloc, base, now, filters, row)?;
-    let mut cursor = open(rt, alloc, base, filters, options_of(row))?;
-    stands_at_its_beginning(rt, &cursor, options_of(row));
-    in_parts(rt, &mut cursor, base, now, row.initial, row.live);
-    let mut cursor = open(rt, alloc, base, filters, options_of(row))?;
-    at_once(rt, &mut cursor, base, now, row.initial, row.live);
+    hands_out_all(rt, &mut cursor, base, now, row.live);
     Ok(())
-}
-
-fn gives_behind(
-    rt: &impl Abort,
-    alloc: Global,
-    base: &Version,
-    filters: &Filters,
-    row: Row,
-) -> Result<(), KvError> {
-    let now = after(alloc, base, row)?;
-    gives_between(rt, alloc, base, &now, filters, row)
 }
 
 // The row holds of the plain list, and of cursors that go through it.
 fn gives(rt: &impl Abort, alloc: Global, filters: &Filters, row: Row) -> Result<(), KvError> {
-    let base = before(alloc, row)?;
-    gives_behind(rt, alloc, &base, filters, row)
+    let base = kept(alloc, row.history, row.before)?;
+    let now = write_all(alloc, base.snapshot()?, row.after)?;
+    let events = once_more!(listed(alloc, &now, base.revision(), filters, row))?;
+    are_listed(rt, &events, row);
+    cursors_give(rt, alloc, &base, &now, filters, row)
 }
 
-// The row holds of a watch of a list of filters.
-fn list_gives(rt: &impl Abort, alloc: Global, text: &str, row: Row) -> Result<(), KvError> {
-    let filters = filters(alloc, text)?;
-    gives(rt, alloc, &filters, row)
-}
-
-// And of the list that is made of one filter, where the text is one.
+// The row holds of a watch of a list of filters, and of the list that is made of one filter, where the text is one.
 pub(super) fn watch_gives(
     rt: &impl Abort,
     alloc: Global,
     text: &str,
     row: Row,
 ) -> Result<(), KvError> {
-    list_gives(rt, alloc, text, row)?;
+    let filters = filters(alloc, text)?;
+    gives(rt, alloc, &filters, row)?;
     match one(alloc, text) {
         Ok(single) => gives(rt, alloc, &single, row),
         Err(KvError::BadFilter) => Ok(()),

@@ -72,11 +72,14 @@ const FLAGS: &[(Flags, Result<Start, KvError>)] = &[
 fn flags_name_one_start_or_clash(rt: HostRuntime) {
     for (flags, start) in FLAGS {
         let options = Options::of_flags(flags.history, flags.updates, flags.from, true, false);
-        let wanted = start.map(|start| Options {
-            start,
-            ignore_deletes: true,
-            headers_only: false,
-        });
+        let wanted = match start {
+            Ok(start) => Ok(Options {
+                start: *start,
+                ignore_deletes: true,
+                headers_only: false,
+            }),
+            Err(error) => Err(*error),
+        };
         assert!(rt; options == wanted);
     }
 }
