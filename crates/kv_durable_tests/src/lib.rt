@@ -11,6 +11,8 @@ mod checkpointed;
 #[cfg(test)]
 mod checkpoints;
 #[cfg(test)]
+mod courses;
+#[cfg(test)]
 mod durables;
 #[cfg(test)]
 mod entries;

@@ -1,0 +1,123 @@
+//! Each short course of acts on two keys, under narrow limits: the checkpoint behind it is retraced.
+
+use crate::checkpointed::NEXT_SEED;
+use crate::durables::{Bucket, SEED, config};
+use kv_durable::{Durable, DurableError, Opened, Retrace, Sync};
+use kv_file::MemoryFile;
+use kv_model::Config;
+use kv_test_tools::{delete, purge, put};
+use std::alloc::Global;
+use std::process::Abort;
+use std::test::Fail;
+
+// How many acts there are to choose from, and of how many a course is at most.
+const CHOICES: u64 = 8;
+
+const LONGEST: u32 = 4;
+
+fn opened_with(
+    alloc: Global,
+    config: &Config,
+    bytes: &[u8],
+    asked: Retrace,
+) -> Result<Opened<MemoryFile>, DurableError> {
+    let file = MemoryFile::new(alloc, Vec::from_slice(alloc, bytes)?);
+    match Durable::open(alloc, config, file, SEED, Sync::Each, asked) {
+        Ok(opened) => Ok(opened),
+        Err(refused) => Err(refused.error),
+    }
+}
+
+// Makes the act of this number: a write of one of the keys, or a compaction to one of the last revisions.
+fn act(alloc: Global, bucket: &mut Bucket, number: u64) -> Result<(), DurableError> {
+    let request = match number {
+        0 => put(alloc, "a", "1")?,
+        1 => put(alloc, "b", "1")?,
+        2 => delete(alloc, "a", None)?,
+        3 => delete(alloc, "b", None)?,
+        4 => purge(alloc, "a", None)?,
+        _ => {
+            let last = bucket.bucket().version().revision();
+            return bucket.compact(last.saturating_sub(number - 5));
+        }
+    };
+    bucket.write(&request)?;
+    Ok(())
+}
+
+// The bucket behind a course, whose acts are the digits of its number, and none where one of them is refused.
+fn behind(
+    alloc: Global,
+    config: &Config,
+    course: u64,
+    acts: u32,
+) -> Result<Option<Bucket>, DurableError> {
+    let mut bucket = opened_with(alloc, config, &[], Retrace::No)?.durable;
+    let mut left = course;
+    for _ in 0..acts {
+        match act(alloc, &mut bucket, left % CHOICES) {
+            Ok(()) => left /= CHOICES,
+            Err(DurableError::Refused(_)) => return Ok(None),
+            Err(error) => return Err(error),
+        }
+    }
+    Ok(Some(bucket))
+}
+
+// Whether the checkpoint behind a course is retraced; none where there is no such course.
+fn is_retraced(
+    alloc: Global,
+    config: &Config,
+    course: u64,
+    acts: u32,
+) -> Result<Option<bool>, DurableError> {
+    let Some(mut bucket) = behind(alloc, config, course, acts)? else {
+        return Ok(None);
+    };
+    bucket.checkpoint(&(), NEXT_SEED)?;
+    let bytes = bucket.journal().file().kept();
+    let with = opened_with(alloc, config, bytes, Retrace::Yes)?;
+    Ok(Some(with.retraced))
+}
+
+// How many courses there are of so many acts, each of which is retraced.
+fn all_are_retraced(
+    rt: &impl Abort,
+    alloc: Global,
+    config: &Config,
+    acts: u32,
+) -> Result<u64, DurableError> {
+    let mut courses = 0u64;
+    for course in 0..CHOICES.saturating_pow(acts) {
+        if let Some(retraced) = is_retraced(alloc, config, course, acts)? {
+            assert!(rt; retraced, "the course {course} of {acts} acts");
+            courses = courses.saturating_add(1);
+        }
+    }
+    Ok(courses)
+}
+
+#[test]
+fn each_short_course_is_retraced(rt: HostRuntime) -> Result<(), Fail> {
+    let alloc = rt.alloc();
+    let mut courses = 0u64;
+    for (history, write_limit) in [
+        (1, 1),
+        (1, 2),
+        (1, 3),
+        (2, 2),
+        (2, 3),
+        (2, 4),
+        (3, 3),
+        (3, 64),
+    ] {
+        let mut config = config(alloc)?;
+        config.history = history;
+        config.write_limit = write_limit;
+        for acts in 0..LONGEST + 1 {
+            courses = courses.saturating_add(all_are_retraced(&rt, alloc, &config, acts)?);
+        }
+    }
+    assert!(rt; courses > 8_000, "{courses} courses");
+    Ok(())
+}
