@@ -4,7 +4,7 @@
 use kv_keys::KvError;
 use kv_model::Config;
 use kv_run::{CountedReader, CountedWriter, Form, Input, Output, program, replay, replay_bounded};
-use kv_test_tools::again;
+use kv_test_tools::once_more;
 use std::alloc::{AllocError, Global};
 use std::fmt::Debug;
 use std::process::Abort;
@@ -22,17 +22,32 @@ mod watching;
 
 // The configuration that is named where no other is.
 fn named(alloc: Global) -> Result<Config, KvError> {
-    again(|| Config::named(alloc, "kv"))
+    once_more!(Config::named(alloc, "kv"))
+}
+
+fn sheet_once(alloc: Global) -> Result<Vec<u8>, AllocError> {
+    Ok(Vec::with_capacity(alloc, 16_384)?)
 }
 
 // Room for any text of these tests, so that writing takes no memory.
 fn sheet(alloc: Global) -> Result<Vec<u8>, AllocError> {
-    again(|| Vec::with_capacity(alloc, 16_384))
+    once_more!(sheet_once(alloc))
 }
 
 // Whole lines from the beginning of a text.
 fn is_front(written: &[u8], text: &[u8]) -> bool {
     text.starts_with(written) && (written.is_empty() || written.ends_with(b"\n"))
+}
+
+// How many lines these bytes end.
+fn lines_in(bytes: &[u8]) -> usize {
+    let mut count: usize = 0;
+    for byte in bytes {
+        if *byte == b'\n' {
+            count = count.saturating_add(1);
+        }
+    }
+    count
 }
 
 // Ends the test where what was found is not what was wanted. A call of it is proved sooner than `assert_eq!` in its place.

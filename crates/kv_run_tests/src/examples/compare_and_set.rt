@@ -34,5 +34,5 @@ fn two_writers(rt: &impl Abort, alloc: Global) -> Result<(), KvError> {
 
 #[test]
 fn a_late_writer_is_refused(rt: HostRuntime) -> Result<(), Fail> {
-    Ok(again(|| two_writers(&rt, rt.alloc()))?)
+    Ok(once_more!(two_writers(&rt, rt.alloc()))?)
 }

@@ -54,5 +54,5 @@ fn config_service(rt: &impl Abort, alloc: Global) -> Result<(), KvError> {
 
 #[test]
 fn a_config_service_is_told_of_each_change(rt: HostRuntime) -> Result<(), Fail> {
-    Ok(again(|| config_service(&rt, rt.alloc()))?)
+    Ok(once_more!(config_service(&rt, rt.alloc()))?)
 }

@@ -43,5 +43,5 @@ fn watched(rt: &impl Abort, alloc: Global) -> Result<(), KvError> {
 
 #[test]
 fn a_watch_hands_out_each_change(rt: HostRuntime) -> Result<(), Fail> {
-    Ok(again(|| watched(&rt, rt.alloc()))?)
+    Ok(once_more!(watched(&rt, rt.alloc()))?)
 }

@@ -37,10 +37,10 @@ fn removed(rt: &impl Abort, alloc: Global) -> Result<(), KvError> {
 
 #[test]
 fn a_held_snapshot_stays(rt: HostRuntime) -> Result<(), Fail> {
-    Ok(again(|| held_map(&rt, rt.alloc()))?)
+    Ok(once_more!(held_map(&rt, rt.alloc()))?)
 }
 
 #[test]
 fn a_removed_key_is_gone(rt: HostRuntime) -> Result<(), Fail> {
-    Ok(again(|| removed(&rt, rt.alloc()))?)
+    Ok(once_more!(removed(&rt, rt.alloc()))?)
 }

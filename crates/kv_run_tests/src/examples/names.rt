@@ -23,5 +23,5 @@ fn names(rt: &impl Abort, alloc: Global) -> Result<(), KvError> {
 
 #[test]
 fn texts_are_keys_and_filters(rt: HostRuntime) -> Result<(), Fail> {
-    Ok(again(|| names(&rt, rt.alloc()))?)
+    Ok(once_more!(names(&rt, rt.alloc()))?)
 }

@@ -33,11 +33,7 @@ fn one_byte_a_call_gives_the_text_of_batches(rt: HostRuntime) -> Result<(), Fail
 
 // The text of the lines that so many bytes of the script end: of a batch that has not ended there is none.
 fn text_of(read: usize) -> &'static [u8] {
-    match SCRIPT[..read.min(SCRIPT.len())]
-        .iter()
-        .filter(|byte| **byte == b'\n')
-        .count()
-    {
+    match lines_in(&SCRIPT[..read.min(SCRIPT.len())]) {
         0..=2 => b"",
         3..=6 => FIRST,
         7 => REFUSED,

@@ -1,5 +1,6 @@
 //! Where lines end, and how long they may be. Each script is alone in a new bucket.
 
+use super::first::{By, gives};
 use super::*;
 
 const WRITTEN: &str = "{\"revision\":1}\n";
@@ -102,7 +103,7 @@ const SCRIPTS: &[Script] = &[
 // More than any of these scripts has.
 const ROOM: usize = 2_100_000;
 
-fn whole_once(alloc: Global, script: Script) -> Result<Vec<u8>, AllocError> {
+fn whole(alloc: Global, script: Script) -> Result<Vec<u8>, AllocError> {
     let mut whole = Vec::with_capacity(alloc, ROOM)?;
     whole.extend_from_slice(script.begin)?;
     for _ in 0..script.letters {
@@ -112,32 +113,13 @@ fn whole_once(alloc: Global, script: Script) -> Result<Vec<u8>, AllocError> {
     Ok(whole)
 }
 
-// Runs a script to its end, and tells whether this text was written.
-fn gives_once(alloc: Global, config: &Config, script: &[u8], text: &[u8]) -> Result<bool, KvError> {
-    let mut reader = script;
-    let mut written = sheet(alloc)?;
-    match replay(
-        alloc,
-        &mut CountedReader::new(&mut reader),
-        &mut CountedWriter::new(&mut written),
-        config,
-    ) {
-        Ok(()) => Ok(written.as_slice() == text && reader.is_empty()),
-        Err(KvError::OutOfMemory) if is_front(&written, text) => Err(KvError::OutOfMemory),
-        Err(_) => Ok(false),
-    }
-}
-
-fn gives(alloc: Global, script: &[u8], text: &str) -> Result<bool, KvError> {
-    let config = named(alloc)?;
-    again(|| gives_once(alloc, &config, script, text.as_bytes()))
-}
-
 #[test]
 fn a_line_ends_by_lf_or_at_the_end_of_input(rt: HostRuntime) -> Result<(), Fail> {
     for script in SCRIPTS {
-        let whole = again(|| whole_once(rt.alloc(), *script))?;
-        equal(&rt, gives(rt.alloc(), &whole, script.text), Ok(true));
+        let whole = once_more!(whole(rt.alloc(), *script))?;
+        let text = script.text.as_bytes();
+        let given = once_more!(gives(rt.alloc(), By::Replay, &whole, text));
+        equal(&rt, given, Ok(true));
     }
     Ok(())
 }

@@ -5,7 +5,7 @@ use kv_run::{replay_bounded_in, replay_in};
 
 // The call that runs the script: with values in base64 or in a form, and with a bound on read calls or without.
 #[derive(Clone, Copy)]
-enum By {
+pub(super) enum By {
     Replay,
     ReplayIn(Form),
     ReplayBounded(u64),
@@ -97,33 +97,24 @@ const CASES: &[Case] = &[
 ];
 
 // Runs a script to its end, and tells whether this text was written.
-fn gives_once(
-    alloc: Global,
-    by: By,
-    config: &Config,
-    script: &[u8],
-    text: &[u8],
-) -> Result<bool, KvError> {
+pub(super) fn gives(alloc: Global, by: By, script: &[u8], text: &[u8]) -> Result<bool, KvError> {
+    let config = named(alloc)?;
     let mut reader = script;
     let mut written = sheet(alloc)?;
     let mut source = CountedReader::new(&mut reader);
     let mut sink = CountedWriter::new(&mut written);
-    match run(alloc, by, &mut source, &mut sink, config) {
+    match run(alloc, by, &mut source, &mut sink, &config) {
         Ok(()) => Ok(written.as_slice() == text && reader.is_empty()),
         Err(KvError::OutOfMemory) if is_front(&written, text) => Err(KvError::OutOfMemory),
         Err(_) => Ok(false),
     }
 }
 
-fn gives(alloc: Global, by: By, script: &[u8], text: &[u8]) -> Result<bool, KvError> {
-    let config = named(alloc)?;
-    again(|| gives_once(alloc, by, &config, script, text))
-}
-
 #[test]
 fn each_call_answers_a_put_and_a_get(rt: HostRuntime) {
     for it in CASES {
-        let given = gives(rt.alloc(), it.by, it.script.as_bytes(), it.text.as_bytes());
+        let (script, text) = (it.script.as_bytes(), it.text.as_bytes());
+        let given = once_more!(gives(rt.alloc(), it.by, script, text));
         equal(&rt, given, Ok(true));
     }
 }

@@ -55,27 +55,23 @@ fn answer_all(alloc: Global, bucket: &mut Bucket, out: &mut Vec<u8>) -> Result<(
 
 // After want of memory whole lines were answered, and of the writes that were made one at the most has no answer.
 fn ends_early(bucket: &Bucket, out: &[u8]) -> bool {
-    let answered = out.iter().filter(|byte| **byte == b'\n').count() as u64;
+    let answered = lines_in(out) as u64;
     is_front(out, ANSWERS.as_bytes()) && bucket.version().revision() <= answered.saturating_add(1)
 }
 
-fn are_answered_on(alloc: Global, bucket: &mut Bucket) -> Result<bool, KvError> {
+// Answers the lines on a new bucket.
+fn are_answered(alloc: Global) -> Result<bool, KvError> {
+    let mut bucket = Bucket::open(alloc, &named(alloc)?)?;
     let mut out = Vec::new(alloc);
-    match answer_all(alloc, bucket, &mut out) {
+    match answer_all(alloc, &mut bucket, &mut out) {
         Ok(()) => Ok(out.as_slice() == ANSWERS.as_bytes()),
-        Err(KvError::OutOfMemory) if ends_early(bucket, &out) => Err(KvError::OutOfMemory),
+        Err(KvError::OutOfMemory) if ends_early(&bucket, &out) => Err(KvError::OutOfMemory),
         Err(_) => Ok(false),
     }
 }
 
-// Answers the lines on a new bucket.
-fn are_answered_once(alloc: Global) -> Result<bool, KvError> {
-    let mut bucket = Bucket::open(alloc, &named(alloc)?)?;
-    are_answered_on(alloc, &mut bucket)
-}
-
 #[test]
 fn one_bucket_answers_in_both_forms(rt: HostRuntime) -> Result<(), Fail> {
-    equal(&rt, again(|| are_answered_once(rt.alloc()))?, true);
+    equal(&rt, once_more!(are_answered(rt.alloc()))?, true);
     Ok(())
 }

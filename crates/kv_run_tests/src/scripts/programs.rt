@@ -6,17 +6,13 @@ use std::random::RandomSource;
 use std::sync::Wait;
 use std::thread::Threads;
 
-fn words_once(alloc: Global, arguments: &[&str]) -> Result<Vec<String>, AllocError> {
+fn words(alloc: Global, arguments: &[&str]) -> Result<Vec<String>, AllocError> {
     let mut words = Vec::new(alloc);
     words.push(String::from_str(alloc, "kvbucket")?)?;
     for argument in arguments {
         words.push(String::from_str(alloc, argument)?)?;
     }
     Ok(words)
-}
-
-fn words(alloc: Global, arguments: &[&str]) -> Result<Vec<String>, AllocError> {
-    again(|| words_once(alloc, arguments))
 }
 
 // What the program came to.
@@ -74,25 +70,12 @@ fn run<T: Threads + Wait + Sync + Files<File = File> + RandomSource>(
     script: &str,
     text: &str,
 ) -> Result<Done, AllocError> {
-    let words = words(alloc, arguments)?;
+    let words = once_more!(words(alloc, arguments))?;
     let first = run_once(rt, alloc, &words, script.as_bytes())?;
     if lacks_memory(&first, text) || has_lack(&first) {
         return run_once(rt, alloc, &words, script.as_bytes());
     }
     Ok(first)
-}
-
-// Whether the program writes this text and answers 0.
-fn gives<T: Threads + Wait + Sync + Files<File = File> + RandomSource>(
-    rt: &T,
-    alloc: Global,
-    arguments: &[&str],
-    script: &str,
-    text: &str,
-) -> Result<bool, AllocError> {
-    let done = run(rt, alloc, arguments, script, text)?;
-    let is_written = done.written.as_slice() == text.as_bytes();
-    Ok(done.status == 0 && is_written && done.faults.is_empty())
 }
 
 // A script whose last line has no line feed, which the files of tests/scripts can't say, and its text.
@@ -126,7 +109,9 @@ const UNENDED: &[Unended] = &[
 #[test]
 fn a_last_line_without_a_line_feed_is_answered(rt: HostRuntime) -> Result<(), Fail> {
     for it in UNENDED {
-        assert!(rt; gives(&rt, rt.alloc(), it.arguments, it.script, it.text)?);
+        let done = run(&rt, rt.alloc(), it.arguments, it.script, it.text)?;
+        assert!(rt; done.status == DONE && done.faults.is_empty());
+        assert!(rt; done.written.as_slice() == it.text.as_bytes());
     }
     Ok(())
 }

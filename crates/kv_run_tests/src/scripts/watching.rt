@@ -27,25 +27,25 @@ fn is_answered(
     }
 }
 
-fn are_answered_on(alloc: Global, bucket: &mut Bucket, rows: &[Row]) -> Result<bool, KvError> {
+fn are_answered_once(alloc: Global, config: &Config, rows: &[Row]) -> Result<bool, KvError> {
+    let mut bucket = Bucket::open(alloc, config)?;
     let mut out = Vec::new(alloc);
     for row in rows {
-        if !is_answered(alloc, bucket, *row, &mut out)? {
+        if !is_answered(alloc, &mut bucket, *row, &mut out)? {
             return Ok(false);
         }
     }
     Ok(true)
 }
 
-fn are_answered_once(alloc: Global, config: &Config, rows: &[Row]) -> Result<bool, KvError> {
-    let mut bucket = Bucket::open(alloc, config)?;
-    are_answered_on(alloc, &mut bucket, rows)
-}
-
 // In a new bucket each line has its answers.
 fn are_answered(rt: &impl Abort, alloc: Global, rows: &[Row]) -> Result<(), KvError> {
     let config = named(alloc)?;
-    equal(rt, again(|| are_answered_once(alloc, &config, rows))?, true);
+    equal(
+        rt,
+        once_more!(are_answered_once(alloc, &config, rows))?,
+        true,
+    );
     Ok(())
 }
 

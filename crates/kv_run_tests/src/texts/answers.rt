@@ -7,7 +7,7 @@ use kv_script::{
     append_refusal, append_revision, append_revisions, append_sealed, append_status,
     append_stopped, append_told, append_watch, append_worker_refusal,
 };
-use kv_test_tools::again;
+use kv_test_tools::once_more;
 use std::alloc::{AllocError, Global};
 use std::process::Abort;
 use std::test::Fail;
@@ -186,26 +186,17 @@ fn append(alloc: Global, out: &mut Vec<u8>, answer: Answer) -> Result<(), AllocE
 }
 
 // Appended once more where memory was refused: nothing was appended then.
-fn appended(alloc: Global, out: &mut Vec<u8>, answer: Answer) -> Result<(), AllocError> {
-    again(|| append(alloc, out, answer))
-}
-
 fn has_text<R: Abort>(rt: &R, alloc: Global, answer: Answer, text: &str) -> Result<(), AllocError> {
     let mut out = Vec::new(alloc);
-    appended(alloc, &mut out, answer)?;
+    once_more!(append(alloc, &mut out, answer))?;
     assert!(rt; out.as_slice() == text.as_bytes(), "{text}");
-    Ok(())
-}
-
-fn have_texts<R: Abort>(rt: &R, alloc: Global, rows: &[(Answer, &str)]) -> Result<(), AllocError> {
-    for (answer, text) in rows {
-        has_text(rt, alloc, *answer, text)?;
-    }
     Ok(())
 }
 
 #[test]
 fn answers_have_these_texts(rt: HostRuntime) -> Result<(), Fail> {
-    have_texts(&rt, rt.alloc(), ANSWERS)?;
+    for (answer, text) in ANSWERS {
+        has_text(&rt, rt.alloc(), *answer, text)?;
+    }
     Ok(())
 }

@@ -3,7 +3,7 @@
 use kv_keys::{Key, KvError};
 use kv_model::{Op, Write};
 use kv_script::{Form, append_entry, append_history, append_keys, append_taken_entry};
-use kv_test_tools::again;
+use kv_test_tools::once_more;
 use std::alloc::{AllocError, Global};
 use std::process::Abort;
 use std::test::Fail;
@@ -156,7 +156,7 @@ const READ_IN_TEXT: &str = "{\"entries\":[]}\n\
 const KEYS: &str = "{\"keys\":[]}\n{\"keys\":[\"a.b\",\"zinke\"]}\n";
 
 fn key(alloc: Global, text: &str) -> Result<Key, KvError> {
-    again(|| Key::parse(alloc, text))
+    once_more!(Key::parse(alloc, text))
 }
 
 fn put_once(alloc: Global, value: &[u8], revision: u64) -> Result<Write, KvError> {
@@ -165,7 +165,7 @@ fn put_once(alloc: Global, value: &[u8], revision: u64) -> Result<Write, KvError
 }
 
 fn put(alloc: Global, value: &[u8], revision: u64) -> Result<Write, KvError> {
-    again(|| put_once(alloc, value, revision))
+    once_more!(put_once(alloc, value, revision))
 }
 
 fn append_taken(
@@ -188,10 +188,6 @@ fn append_taken(
 }
 
 // Appended once more where memory was refused: nothing was appended then.
-fn appended(alloc: Global, out: &mut Vec<u8>, key: &Key, taken: Taken) -> Result<(), AllocError> {
-    again(|| append_taken(alloc, out, key, taken))
-}
-
 fn has_text<R: Abort>(
     rt: &R,
     alloc: Global,
@@ -200,32 +196,18 @@ fn has_text<R: Abort>(
     text: &str,
 ) -> Result<(), AllocError> {
     let mut out = Vec::new(alloc);
-    appended(alloc, &mut out, key, taken)?;
+    once_more!(append_taken(alloc, &mut out, key, taken))?;
     assert!(rt; out.as_slice() == text.as_bytes(), "{text}");
-    Ok(())
-}
-
-fn have_texts<R: Abort>(
-    rt: &R,
-    alloc: Global,
-    key: &Key,
-    rows: &[(Taken, &str)],
-) -> Result<(), AllocError> {
-    for (taken, text) in rows {
-        has_text(rt, alloc, key, *taken, text)?;
-    }
     Ok(())
 }
 
 #[test]
 fn entries_of_takes_have_these_texts(rt: HostRuntime) -> Result<(), Fail> {
     let key = key(rt.alloc(), "a.b")?;
-    have_texts(&rt, rt.alloc(), &key, TAKEN)?;
+    for (taken, text) in TAKEN {
+        has_text(&rt, rt.alloc(), &key, *taken, text)?;
+    }
     Ok(())
-}
-
-fn entry(alloc: Global, form: Form, out: &mut Vec<u8>, write: &Write) -> Result<(), AllocError> {
-    again(|| append_entry(alloc, form, out, write))
 }
 
 fn history(
@@ -234,51 +216,31 @@ fn history(
     out: &mut Vec<u8>,
     writes: &[&Write],
 ) -> Result<(), AllocError> {
-    again(|| append_history(alloc, form, out, writes))
+    once_more!(append_history(alloc, form, out, writes))
 }
 
 // No history, the first of two entries, and the history of both.
 fn reads(alloc: Global, form: Form, first: &Write, second: &Write) -> Result<Vec<u8>, AllocError> {
     let mut out = Vec::new(alloc);
     history(alloc, form, &mut out, &[])?;
-    entry(alloc, form, &mut out, first)?;
+    once_more!(append_entry(alloc, form, &mut out, first))?;
     history(alloc, form, &mut out, &[first, second])?;
     Ok(out)
-}
-
-fn reads_as<R: Abort>(
-    rt: &R,
-    alloc: Global,
-    first: &Write,
-    second: &Write,
-    form: Form,
-    text: &str,
-) -> Result<(), AllocError> {
-    let out = reads(alloc, form, first, second)?;
-    assert!(rt; out.as_slice() == text.as_bytes());
-    Ok(())
-}
-
-fn reads_in_both<R: Abort>(
-    rt: &R,
-    alloc: Global,
-    first: &Write,
-    second: &Write,
-) -> Result<(), AllocError> {
-    reads_as(rt, alloc, first, second, Form::Base64, READ_IN_BASE64)?;
-    reads_as(rt, alloc, first, second, Form::Text, READ_IN_TEXT)
 }
 
 #[test]
 fn entries_of_reads_have_these_texts(rt: HostRuntime) -> Result<(), Fail> {
     let first = put(rt.alloc(), b"a b", 1)?;
     let second = put(rt.alloc(), b"\xfe", 2)?;
-    reads_in_both(&rt, rt.alloc(), &first, &second)?;
+    for (form, text) in [(Form::Base64, READ_IN_BASE64), (Form::Text, READ_IN_TEXT)] {
+        let out = reads(rt.alloc(), form, &first, &second)?;
+        assert!(rt; out.as_slice() == text.as_bytes(), "{text}");
+    }
     Ok(())
 }
 
 fn keys(alloc: Global, out: &mut Vec<u8>, keys: &[&Key]) -> Result<(), AllocError> {
-    again(|| append_keys(alloc, out, keys))
+    once_more!(append_keys(alloc, out, keys))
 }
 
 #[test]

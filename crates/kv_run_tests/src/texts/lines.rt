@@ -3,7 +3,7 @@
 use kv_keys::KvError;
 use kv_model::{Options, Request, Start};
 use kv_script::{Command, Form, is_skipped, parse, parse_write};
-use kv_test_tools::{LATEST, again};
+use kv_test_tools::{LATEST, once_more};
 use std::alloc::{AllocError, Global};
 use std::process::Abort;
 use std::test::Fail;
@@ -161,7 +161,7 @@ const WATCHES: &[(&str, Options)] = &[
 ];
 
 pub(crate) fn parsed(alloc: Global, form: Form, line: &[u8]) -> Result<Command, KvError> {
-    again(|| parse(alloc, form, line))
+    once_more!(parse(alloc, form, line))
 }
 
 // The name of a write, its key, its value and its revision, if it has one.
@@ -206,7 +206,7 @@ fn has_options(alloc: Global, line: &str, options: Options) -> Result<bool, KvEr
 
 // What a line of a batch asks for, or why it is refused there.
 fn asked_in_batch(alloc: Global, line: &str) -> Result<Request, KvError> {
-    again(|| parse_write(alloc, Form::Base64, line.as_bytes()))
+    once_more!(parse_write(alloc, Form::Base64, line.as_bytes()))
 }
 
 // Lines of a batch that ask for no write, and what each is refused by.
@@ -237,28 +237,12 @@ fn lines_of_a_batch_ask_for_writes(rt: HostRuntime) -> Result<(), Fail> {
     Ok(())
 }
 
-fn asks<R: Abort>(
-    rt: &R,
-    alloc: Global,
-    form: Form,
-    line: &str,
-    wanted: Asked,
-) -> Result<(), KvError> {
-    let command = parsed(alloc, form, line.as_bytes())?;
-    holds(rt, line, parts(&command) == wanted);
-    Ok(())
-}
-
-fn all_ask<R: Abort>(rt: &R, alloc: Global, rows: &[(Form, &str, Asked)]) -> Result<(), KvError> {
-    for (form, line, wanted) in rows {
-        asks(rt, alloc, *form, line, *wanted)?;
-    }
-    Ok(())
-}
-
 #[test]
 fn lines_ask_for_these_commands(rt: HostRuntime) -> Result<(), Fail> {
-    all_ask(&rt, rt.alloc(), COMMANDS)?;
+    for (form, line, wanted) in COMMANDS {
+        let command = parsed(rt.alloc(), *form, line.as_bytes())?;
+        holds(&rt, line, parts(&command) == *wanted);
+    }
     Ok(())
 }
 
@@ -279,7 +263,7 @@ const BYTES: usize = 1_049_994;
 const ROOM: usize = 1_400_100;
 
 // A line that begins with this text, and then has characters of base64.
-fn long_line_once(alloc: Global, begin: &[u8]) -> Result<Vec<u8>, AllocError> {
+fn long_line(alloc: Global, begin: &[u8]) -> Result<Vec<u8>, AllocError> {
     let mut line = Vec::with_capacity(alloc, ROOM)?;
     line.extend_from_slice(begin)?;
     for _ in 0..CHARACTERS {
@@ -288,13 +272,9 @@ fn long_line_once(alloc: Global, begin: &[u8]) -> Result<Vec<u8>, AllocError> {
     Ok(line)
 }
 
-fn long_line(alloc: Global, begin: &[u8]) -> Result<Vec<u8>, AllocError> {
-    again(|| long_line_once(alloc, begin))
-}
-
 // How many bytes the value has that a long line puts, or why the line is refused.
 fn long_value(alloc: Global, begin: &[u8]) -> Result<usize, KvError> {
-    let line = long_line(alloc, begin)?;
+    let line = once_more!(long_line(alloc, begin))?;
     let command = parsed(alloc, Form::Base64, &line)?;
     Ok(parts(&command).2.len())
 }

@@ -2,11 +2,6 @@
 
 use super::*;
 
-// How many lines these bytes end.
-fn lines_in(bytes: &[u8]) -> usize {
-    bytes.iter().filter(|byte| **byte == b'\n').count()
-}
-
 // The beginning of the text that has so many lines.
 fn first_lines(lines: usize) -> &'static [u8] {
     let mut left = lines;
