@@ -3,7 +3,7 @@
 use crate::answers::{Answer, Differs, done, in_turn, on, taken};
 use crate::readers::last;
 use kv_bucket::{Feed, Filters, KvError, LiveName, Reader};
-use kv_test_tools::{LATEST, again_with, once_more};
+use kv_test_tools::{LATEST, once_more};
 use std::alloc::Global;
 
 /// What is done with a feed.
@@ -17,10 +17,18 @@ pub enum Move {
     Version,
 }
 
-/// The feed of all keys.
+/// The feed of all keys. A reader whose watch lacks memory comes back, and watches once more.
 pub fn feed_of<N: LiveName>(alloc: Global, reader: Reader<N>) -> Result<Feed<N>, KvError> {
     let filters = once_more!(Filters::parse(alloc, ">"))?;
-    again_with(reader, |reader| reader.watch(&filters, LATEST))
+    let reader = match reader.watch(&filters, LATEST) {
+        Ok(feed) => return Ok(feed),
+        Err((reader, KvError::OutOfMemory)) => reader,
+        Err((_, error)) => return Err(error),
+    };
+    match reader.watch(&filters, LATEST) {
+        Ok(feed) => Ok(feed),
+        Err((_, error)) => Err(error),
+    }
 }
 
 /// The feed of all keys, of the last of the readers. NoReader.

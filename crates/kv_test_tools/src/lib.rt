@@ -6,8 +6,6 @@ mod calling;
 mod requests;
 mod versions;
 
-pub use calling::{
-    Answered, again, again_checking, again_on, again_with, is_refused, lacks_memory,
-};
+pub use calling::{Answered, is_refused, lacks_memory};
 pub use requests::{LATEST, delete, purge, put};
 pub use versions::is_same_at;
