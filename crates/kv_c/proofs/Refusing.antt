@@ -5,7 +5,7 @@ use Rattle.kv_c.proofs.Named.{no_refusal}
 use Rattle.kv_c.specs.Codes.{IsOfFile, IsOpeningCode, accepted, code_by}
 use Rattle.kv_durable.specs.Refusals.{IsDamaged, durable_code}
 use Rattle.kv_durable.specs.declared.error.DurableError.{DurableError}
-use Rattle.kv_durable.specs.declared.error.DurableError.TheVariants.{Refused, FileFault, FileDamaged, FileBusy, OtherBucket, HasCheckpoint}
+use Rattle.kv_durable.specs.declared.error.DurableError.TheVariants.{Refused, FileFault, FileDamaged, FileBusy, OtherBucket}
 use Rattle.kv_model.specs.Answers.{Compacted}
 use Rattle.kv_model.specs.State.{answer_compact}
 use Rattle.kv_keys.specs.Outcome.{Refuses}
@@ -54,13 +54,12 @@ compacted_from (Ok n) floor answered = refl
 compacted_from (Err e) floor answered = cc
 
 -- the code of an opening's refusal is that of the configuration, or by the file
-pub opening_code : (e : DurableError) (config : Configuration) (outcome : Result Configuration KvError) → ((x : KvError) → e ≡ Refused x → ¬ (x ≡ OutOfMemory) → outcome ≡ Err x) → (IsOfFile e → outcome ≡ Ok config) → ¬ (e ≡ HasCheckpoint) → ¬ (durable_code e ≡ 1) → IsOpeningCode (durable_code e) outcome
-opening_code (Refused x) config outcome denied legal own other = subst (IsOpeningCode (code_of x)) (sym (denied x refl (code_memory x other))) refl
-opening_code FileFault config outcome denied legal own other = subst (IsOpeningCode 22) (sym (legal tt)) (inr (omega arith, omega arith))
-opening_code (FileDamaged at) config outcome denied legal own other = subst (IsOpeningCode 23) (sym (legal tt)) (inr (omega arith, omega arith))
-opening_code FileBusy config outcome denied legal own other = subst (IsOpeningCode 24) (sym (legal tt)) (inr (omega arith, omega arith))
-opening_code OtherBucket config outcome denied legal own other = subst (IsOpeningCode 25) (sym (legal tt)) (inr (omega arith, omega arith))
-opening_code HasCheckpoint config outcome denied legal own other = absurd (own refl)
+pub opening_code : (e : DurableError) (config : Configuration) (outcome : Result Configuration KvError) → ((x : KvError) → e ≡ Refused x → ¬ (x ≡ OutOfMemory) → outcome ≡ Err x) → (IsOfFile e → outcome ≡ Ok config) → ¬ (durable_code e ≡ 1) → IsOpeningCode (durable_code e) outcome
+opening_code (Refused x) config outcome denied legal other = subst (IsOpeningCode (code_of x)) (sym (denied x refl (code_memory x other))) refl
+opening_code FileFault config outcome denied legal other = subst (IsOpeningCode 22) (sym (legal tt)) (inr (omega arith, omega arith))
+opening_code (FileDamaged at) config outcome denied legal other = subst (IsOpeningCode 23) (sym (legal tt)) (inr (omega arith, omega arith))
+opening_code FileBusy config outcome denied legal other = subst (IsOpeningCode 24) (sym (legal tt)) (inr (omega arith, omega arith))
+opening_code OtherBucket config outcome denied legal other = subst (IsOpeningCode 25) (sym (legal tt)) (inr (omega arith, omega arith))
 
 pub opened_code : (config : Configuration) (outcome : Result Configuration KvError) → outcome ≡ Ok config → IsOpeningCode 38 outcome
 opened_code config outcome legal = subst (IsOpeningCode 38) (sym legal) (inl refl)
@@ -72,7 +71,6 @@ damaged_code FileFault is = absurd (omega (arith, is))
 damaged_code (FileDamaged at) is = tt
 damaged_code FileBusy is = absurd (omega (arith, is))
 damaged_code OtherBucket is = absurd (omega (arith, is))
-damaged_code HasCheckpoint is = absurd (omega (arith, is))
 
 pub other_code : (e : DurableError) → durable_code e ≡ 25 → e ≡ OtherBucket
 other_code (Refused x) is = absurd (no_refusal 25 (λ h. omega (arith, h.1)) x is)
@@ -80,4 +78,3 @@ other_code FileFault is = absurd (omega (arith, is))
 other_code (FileDamaged at) is = absurd (omega (arith, is))
 other_code FileBusy is = absurd (omega (arith, is))
 other_code OtherBucket is = refl
-other_code HasCheckpoint is = absurd (omega (arith, is))

@@ -77,7 +77,6 @@ stopped_code what = if is_key (key_of what) then 22 else 4
 -- it is a refusal by the file, and not by the rules or for want of memory
 abbrev pub IsOfFile : DurableError → Type 0
 IsOfFile (durables.Refused e) = ⊥
-IsOfFile durables.HasCheckpoint = ⊥
 IsOfFile e = ⊤
 
 -- that of the opening of a file under a configuration: of its refusal, where it is refused; else that it waits for the shell, or

@@ -133,7 +133,7 @@ IsGone has usable config seed old new found = (bytes : List ℕ) × (payloads : 
 module _ {F : Type 0} (has : F → List ℕ → List ℕ → Type 0) (usable : F → Bool) (config : Configuration) (seed : ℕ) (old mid new : F) (bytes : List ℕ)
     (are : (kept loose : List ℕ) → has old kept loose → bytes ≡ kept ++ loose) (same : (kept loose : List ℕ) → has old kept loose → has mid kept loose) (still : usable mid ≡ usable old) where
   pub begun_found : (r : Result Found DurableError) → bytes ≡ []
-      → IfOk r (λ found. Represents (empty config) found.bucket × (found.framing.seed ≡ seed) × (found.place ≡ length (beginning seed config)) × (found.dropped ≡ 0) × (found.checkpointed ≡ false) × (found.retraced ≡ true) × (found.config.config ≡ config))
+      → IfOk r (λ found. Represents (empty config) found.bucket × (found.framing.seed ≡ seed) × (found.place ≡ length (beginning seed config)) × (found.dropped ≡ 0) × (found.checkpointed ≡ false) × (found.config.config ≡ config))
       → OnOk r (usable mid ≡ true → has mid [] [] → has new (beginning seed config) []) → IfOk r (IsGone has usable config seed old new)
   begun_found (Err e) none ok file = tt
   begun_found (Ok found) none ok file =
@@ -143,10 +143,9 @@ module _ {F : Type 0} (has : F → List ℕ → List ℕ → Type 0) (usable : F
         [],
         [],
         record {
-          own = ok.6;
+          own = ok.5;
           plain = λ _. refl;
-          known = λ _. ok.5;
-          retraced = λ _. knows_fresh config found.checkpointed;
+          knows = knows_fresh config found.checkpointed;
           represents = λ base b. subst (λ (acts : List Act). Represents (state_of config (acts ++ [])) found.bucket) (sym (none_before base b.stands)) ok.0;
           place = λ base b. ok.2 ∙ ap length (sym (whole base b found.framing.seed ok.1));
           new = λ _. (ok.1, refl, ok.3, refl, ok.4);
@@ -169,8 +168,7 @@ module _ {F : Type 0} (has : F → List ℕ → List ℕ → Type 0) (usable : F
         record {
           own = i.own;
           plain = i.tells.plain;
-          known = i.known;
-          retraced = i.retraced;
+          knows = i.knows;
           represents = i.represents;
           place = i.place;
           new = λ none. absurd (some none);
@@ -244,13 +242,13 @@ at_bare has usable config durable base entries bare none at based =
 
 -- what was opened has read just the entries that were found, behind what is known to stand before them
 pub has_read : {F : Type 0} (has : F → List ℕ → List ℕ → Type 0) (usable : F → Bool) (config : Configuration) (seed : ℕ) (old new : F) (found : Found) (durable : Durable F) (dropped : ℕ) (checkpointed : Bool) → IsGone has usable config seed old new found
-    → found.retraced ≡ true → durable.bucket ≡ found.bucket → dropped ≡ found.dropped → checkpointed ≡ found.checkpointed → durable.journal.framing ≡ found.framing → (usable old ≡ true → KeepsFound has usable new found durable)
+    → durable.bucket ≡ found.bucket → dropped ≡ found.dropped → checkpointed ≡ found.checkpointed → durable.journal.framing ≡ found.framing → (usable old ≡ true → KeepsFound has usable new found durable)
     → (base : Base) × (entries : List Entry) × (base.config ≡ config) × (checkpointed ≡ false → base ≡ fresh config) × HasRead has usable base old entries durable dropped
 unfolding opened_again
-has_read {F} has usable config seed old new found durable dropped checkpointed gone retraced bucket told kind framing keeps =
+has_read {F} has usable config seed old new found durable dropped checkpointed gone bucket told kind framing keeps =
     let entries = gone.2 in
     let is = gone.3 in
-    let knows = is.retraced retraced in
+    let knows = is.knows in
     let base = knows.0 in
     let b = knows.1 in
     let acts = acts_before base ++ acts_of entries in (

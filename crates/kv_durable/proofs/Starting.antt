@@ -3,6 +3,7 @@ use Rattle.std.proofs.Common.{◌≡◌, ℕ, Bool, true, false, List, [], ◌�
 use Rattle.std.specs.Prelude.{Result, Ok, Err, IfErr}
 use Rattle.std.proofs.lemmas.Bool.{true≢false}
 use Rattle.kv_frames.specs.Frames.{ArePayloads, Splits, frames, place_after}
+use Rattle.kv_model.specs.Acceptance.{IsLawful}
 use Rattle.kv_model.specs.Acts.{Act, Write}
 use Rattle.kv_model.specs.Configuration.{Configuration, IsLegal}
 use Rattle.kv_store.specs.Standing.{StandsFor}
@@ -12,7 +13,7 @@ use Rattle.kv_journal.specs.Entries.{Entry, payloads_of}
 use Rattle.kv_journal.specs.Restored.{IsOnly, IsRestored}
 use Rattle.kv_journal.proofs.Restored.{stands_again}
 use Rattle.kv_durable.specs.Bases.{Base, IsBaseOf, KnowsBase, acts_before, base_payloads, fresh, replaced_by}
-use Rattle.kv_durable.specs.Starts.{IsStarted, StandsFirst}
+use Rattle.kv_durable.specs.Starts.{IsStarted}
 
 -- a checkpoint has a payload
 not_nothing : (c : Checkpoint) → checkpoint_payloads c ≡ [] → ⊥
@@ -51,7 +52,7 @@ knows_fresh config checkpointed = (fresh config, record { same = refl; lawful = 
 
 pub plain_start : (config : Configuration) (seed at : ℕ) (bytes : List ℕ) (empty : Stored) → empty.config ≡ config → StandsFor [] empty
     → ((c : Checkpoint) (rest : List ℕ) → ArePayloads (checkpoint_payloads c) → bytes ≡ frames seed at (checkpoint_payloads c) ++ rest → ⊥)
-    → IsStarted config seed at bytes [] bytes (record { version = empty; place = at; checkpointed = false; retraced = true })
+    → IsStarted config seed at bytes [] bytes (record { version = empty; place = at; checkpointed = false })
 plain_start config seed at bytes empty same stands none = record {
   same = same;
   whole = refl;
@@ -59,8 +60,7 @@ plain_start config seed at bytes empty same stands none = record {
   place = refl;
   plain = λ _. refl;
   some = λ e _. true≢false (sym e);
-  known = λ _. refl;
-  retraced = λ _. knows_fresh config false;
+  knows = knows_fresh config false;
   stands = λ base is. subst (λ (acts : List Act). StandsFor acts empty) (sym (none_before base is.stands)) stands;
   front = λ acts left lawful each whole. absurd (none (checkpoint_of config acts) left each whole);
   none = λ entries left splits. refl;
@@ -74,32 +74,24 @@ module _ (config : Configuration) (seed at : ℕ) (bytes : List ℕ) (legal : Is
       let same = only acts rest b.lawful (subst ArePayloads (sym b.stands) fit) (whole ∙ ap (λ (ps : List (List ℕ)). frames seed at ps ++ rest) (sym b.stands)) in
       stands_again config acts version legal b.lawful (subst (λ (d : Checkpoint). IsRestored config d version) (sym same) is)
 
-  is_started : (retraced : Bool) (version : Stored) (place : ℕ) → (retraced ≡ true → KnowsBase config (checkpoint_payloads c) true) → IsRestored config c version → place ≡ place_after at (checkpoint_payloads c)
-      → IsStarted config seed at bytes (checkpoint_payloads c) rest (record { version = version; place = place; checkpointed = true; retraced = retraced })
-  is_started retraced version place known is there = record {
+  pub is_started : (version : Stored) (place : ℕ) → KnowsBase config (checkpoint_payloads c) true → IsRestored config c version → place ≡ place_after at (checkpoint_payloads c)
+      → IsStarted config seed at bytes (checkpoint_payloads c) rest (record { version = version; place = place; checkpointed = true })
+  is_started version place knows is there = record {
     same = is.same;
     whole = whole;
     fit = fit;
     place = there;
     plain = λ e. absurd (true≢false e);
     some = λ _. not_nothing c;
-    known = λ e. absurd (true≢false e);
-    retraced = known;
+    knows = knows;
     stands = λ base b. over_bases config (λ (d : Base). IsBaseOf config (checkpoint_payloads c) d → StandsFor (acts_before d) version) (stands_for version is) base b.same b;
     front = λ acts left lawful each stands. ap checkpoint_payloads (only acts left lawful each stands);
     none = λ entries left splits. absurd (no_entries entries left splits);
   }
 
-  pub restored_start : (version : Stored) (place : ℕ) → IsRestored config c version → place ≡ place_after at (checkpoint_payloads c)
-      → IsStarted config seed at bytes (checkpoint_payloads c) rest (record { version = version; place = place; checkpointed = true; retraced = false })
-  restored_start version place = is_started false version place (λ e. absurd (true≢false (sym e)))
-
--- that of acts which were found
-pub retraced_start : (config : Configuration) (seed at : ℕ) (bytes : List ℕ) → IsLegal config → ((entries : List Entry) (rest : List ℕ) → Splits seed at bytes (payloads_of entries) rest → ⊥)
-    → (version : Stored) (place : ℕ) (f : StandsFirst config seed at bytes version place) → IsStarted config seed at bytes (checkpoint_payloads (checkpoint_of config f.0)) f.1 (record { version = version; place = place; checkpointed = true; retraced = true })
-retraced_start config seed at bytes legal no_entries version place f =
-    is_started config seed at bytes legal no_entries (checkpoint_of config f.0) f.1 f.4 f.3 f.7 true version place
-    (λ _. (replaced_by config f.0, record { same = refl; lawful = f.2; stands = refl }, λ e. absurd (true≢false e))) f.5 f.6
+-- lawful acts are known in whose place their checkpoint stands
+pub knows_acts : (config : Configuration) (acts : List Act) → IsLawful config acts → KnowsBase config (checkpoint_payloads (checkpoint_of config acts)) true
+knows_acts config acts lawful = (replaced_by config acts, record { same = refl; lawful = lawful; stands = refl }, λ e. absurd (true≢false e))
 
 -- what holds of whatever error is answered
 pub any_err : {T E : Type 0} (r : Result T E) (P : E → Type 0) → ((e : E) → P e) → IfErr r P

@@ -58,13 +58,12 @@ pub record TellsBase (config : Configuration) (bytes : List ℕ) (payloads : Lis
   pub front : (acts : List Act) (seed : ℕ) (left : List ℕ) → seed < 2 ^ 64 → IsLawful config acts → ArePayloads (base_payloads (replaced_by config acts)) →
       bytes ≡ opening seed (replaced_by config acts) ++ left → IsBaseOf config payloads (replaced_by config acts)
 
--- what was recovered of bytes: these entries, behind whatever the first payloads stand for, which is known where it was retraced
+-- what was recovered of bytes: these entries, behind whatever the first payloads stand for, and they stand for some acts
 pub record IsRecovered (config : Configuration) (bytes : List ℕ) (payloads : List (List ℕ)) (entries : List Entry) (rest : List ℕ) (recovered : Recovered) : Type 0 where
   pub same : recovered.version.config ≡ config
   pub told : recovered.dropped ≡ length rest
   pub tells : TellsBase config bytes payloads recovered.checkpointed
-  pub known : recovered.checkpointed ≡ false → recovered.retraced ≡ true
-  pub retraced : recovered.retraced ≡ true → KnowsBase config payloads recovered.checkpointed
+  pub knows : KnowsBase config payloads recovered.checkpointed
   pub reads : (base : Base) → IsBaseOf config payloads base → Reads base bytes recovered.framing.seed entries rest
   pub stands : (base : Base) → IsBaseOf config payloads base → StandsFor (acts_before base ++ acts_of entries) recovered.version
   pub place : (base : Base) → IsBaseOf config payloads base → recovered.place ≡ length (file_of recovered.framing.seed base entries)
@@ -82,8 +81,7 @@ pub record IsFoundIn (config : Configuration) (bytes : List ℕ) (payloads : Lis
   pub own : found.config.config ≡ config
   pub told : found.dropped ≡ length rest
   pub tells : TellsBase config bytes payloads found.checkpointed
-  pub known : found.checkpointed ≡ false → found.retraced ≡ true
-  pub retraced : found.retraced ≡ true → KnowsBase config payloads found.checkpointed
+  pub knows : KnowsBase config payloads found.checkpointed
   pub reads : (base : Base) → IsBaseOf config payloads base → Reads base bytes found.framing.seed entries rest
   pub represents : (base : Base) → IsBaseOf config payloads base → Represents (state_of config (acts_before base ++ acts_of entries)) found.bucket
   pub place : (base : Base) → IsBaseOf config payloads base → found.place ≡ length (file_of found.framing.seed base entries)
@@ -93,8 +91,7 @@ pub record IsFoundIn (config : Configuration) (bytes : List ℕ) (payloads : Lis
 pub record IsFound (config : Configuration) (seed : ℕ) (bytes : List ℕ) (payloads : List (List ℕ)) (entries : List Entry) (found : Found) : Type 0 where
   pub own : found.config.config ≡ config
   pub plain : found.checkpointed ≡ false → payloads ≡ []
-  pub known : found.checkpointed ≡ false → found.retraced ≡ true
-  pub retraced : found.retraced ≡ true → KnowsBase config payloads found.checkpointed
+  pub knows : KnowsBase config payloads found.checkpointed
   pub represents : (base : Base) → IsBaseOf config payloads base → Represents (state_of config (acts_before base ++ acts_of entries)) found.bucket
   pub place : (base : Base) → IsBaseOf config payloads base → found.place ≡ length (file_of found.framing.seed base entries)
   pub new : bytes ≡ [] → (found.framing.seed ≡ seed) × (entries ≡ []) × (found.dropped ≡ 0) × (payloads ≡ []) × (found.checkpointed ≡ false)

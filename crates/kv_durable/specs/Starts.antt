@@ -5,25 +5,13 @@ use Rattle.kv_model.specs.Acceptance.{IsLawful}
 use Rattle.kv_model.specs.Acts.{Act}
 use Rattle.kv_model.specs.Configuration.{Configuration}
 use Rattle.kv_store.specs.Standing.{StandsFor}
-use Rattle.kv_store.specs.Stored.{Stored}
 use Rattle.kv_journal.specs.Checkpoints.{checkpoint_of, checkpoint_payloads}
 use Rattle.kv_journal.specs.Entries.{Entry, payloads_of}
-use Rattle.kv_journal.specs.Restored.{IsOnly, IsRestored}
 use Rattle.kv_durable.specs.Bases.{Base, IsBaseOf, KnowsBase, acts_before}
 use Rattle.kv_durable.specs.declared.start.Started.{Started}
 
--- the bytes, which lie at this place, begin with the checkpoint of lawful acts, and of no others that store something else; the
--- version has what it has, and there it ends
-abbrev pub StandsFirst : Configuration → (seed at : ℕ) → (bytes : List ℕ) → Stored → (end : ℕ) → Type 0
-StandsFirst config seed at bytes version end = (acts : List Act) × (rest : List ℕ) × IsLawful config acts × ArePayloads (checkpoint_payloads (checkpoint_of config acts))
-    × (bytes ≡ frames seed at (checkpoint_payloads (checkpoint_of config acts)) ++ rest)
-    × IsRestored config (checkpoint_of config acts) version
-    × (end ≡ place_after at (checkpoint_payloads (checkpoint_of config acts)))
-    × IsOnly config seed at bytes (checkpoint_of config acts)
-
 -- The bytes behind the configuration, which lie at this place, begin with a checkpoint of these payloads, or with none where
--- these are none. The version stands for the acts in whose place it stands, and entries begin behind it. Where the start was
--- retraced such acts are known.
+-- these are none. The version stands for the acts in whose place it stands, and there are some, and entries begin behind it.
 pub record IsStarted (config : Configuration) (seed at : ℕ) (bytes : List ℕ) (payloads : List (List ℕ)) (rest : List ℕ) (started : Started) : Type 0 where
   pub same : started.version.config ≡ config
   pub whole : bytes ≡ frames seed at payloads ++ rest
@@ -34,6 +22,5 @@ pub record IsStarted (config : Configuration) (seed at : ℕ) (bytes : List ℕ)
   pub stands : (base : Base) → IsBaseOf config payloads base → StandsFor (acts_before base) started.version
   pub front : (acts : List Act) (left : List ℕ) → IsLawful config acts → ArePayloads (checkpoint_payloads (checkpoint_of config acts)) →
       bytes ≡ frames seed at (checkpoint_payloads (checkpoint_of config acts)) ++ left → checkpoint_payloads (checkpoint_of config acts) ≡ payloads
-  pub known : started.checkpointed ≡ false → started.retraced ≡ true
-  pub retraced : started.retraced ≡ true → KnowsBase config payloads started.checkpointed
+  pub knows : KnowsBase config payloads started.checkpointed
   pub none : (entries : List Entry) (left : List ℕ) → Splits seed at bytes (payloads_of entries) left → payloads ≡ []

@@ -29,10 +29,6 @@ pub enum DurableError {
     /// The file is that of a bucket with another name, history or limit.
     #[error("OtherBucket")]
     OtherBucket,
-    /// The file begins with a checkpoint, and what is asked for needs the acts in whose place that stands: of the crates above,
-    /// no call of a `Durable` answers so.
-    #[error("HasCheckpoint")]
-    HasCheckpoint,
 }
 
 impl DurableError {
@@ -46,7 +42,6 @@ impl DurableError {
             DurableError::FileDamaged { .. } => 23,
             DurableError::FileBusy => 24,
             DurableError::OtherBucket => 25,
-            DurableError::HasCheckpoint => 26,
         }
     }
 
@@ -60,7 +55,6 @@ impl DurableError {
             DurableError::FileDamaged { .. } => "FileDamaged",
             DurableError::FileBusy => "FileBusy",
             DurableError::OtherBucket => "OtherBucket",
-            DurableError::HasCheckpoint => "HasCheckpoint",
         }
     }
 }

@@ -18,14 +18,13 @@ ghost use Rattle.kv_durable.specs.Files.{Reads, file_of};
 ghost use Rattle.kv_durable.specs.Journals.{CanFollow, Keeps};
 ghost use Rattle.kv_durable.specs.Openings.{HasRead, IsFound, IsFoundIn, IsNew, IsReopenedOn, LeavesBytes};
 ghost use Rattle.kv_durable.specs.Refusals.{IsDamaged};
-ghost use Rattle.kv_durable.specs.declared.error.DurableError.TheVariants.{FileBusy, FileFault, HasCheckpoint, OtherBucket, Refused};
+ghost use Rattle.kv_durable.specs.declared.error.DurableError.TheVariants.{FileBusy, FileFault, OtherBucket, Refused};
 
 use crate::config::OwnConfig;
 use crate::durable::{Durable, NotDone};
 use crate::error::DurableError;
 use crate::journal::Journal;
 use crate::recovery::recover;
-use crate::retrace::Retrace;
 use kv_file::{JournalFile, ReadFault, Sync};
 use kv_frames::Framing;
 use kv_journal::push_beginning;
@@ -42,9 +41,6 @@ pub struct Opened<F: JournalFile> {
     pub dropped: u64,
     /// Whether the file begins with a checkpoint. Then the bytes do not tell which acts that stands in place of.
     pub checkpointed: bool,
-    /// Whether acts are known that lead to what the file has: those of its entries, behind those in whose place its checkpoint,
-    /// if it has one, can stand.
-    pub retraced: bool,
 }
 
 // The bucket that a file was found to have, and how that goes on.
@@ -56,7 +52,6 @@ struct Found {
     place: u64,
     dropped: u64,
     checkpointed: bool,
-    retraced: bool,
 }
 
 fn read_all<F: JournalFile>(alloc: Global, file: &mut F) -> Result<Vec<u8>, DurableError>
@@ -108,7 +103,7 @@ fn begin_in<F: JournalFile>(
     requires { IsLegal config.now }
     ensures ok { IfOk result (λ found. Represents (empty config.now) found.bucket × (found.framing.seed ≡ seed)
         × (found.place ≡ length (beginning seed config.now)) × (found.dropped ≡ 0) × (found.checkpointed ≡ false)
-        × (found.retraced ≡ true) × (found.config.config ≡ config.now)) }
+        × (found.config.config ≡ config.now)) }
     ensures file { OnOk result (F.usable file.old ≡ true → F.has file.old [] [] → F.has file.new (beginning seed config.now) []) }
     ensures usable { OnOk result (F.usable file.new ≡ F.usable file.old) }
     ensures refused { IfErr result (λ e. (x : AnError) → e ≡ Refused x → Refuses x (configure config.now)) }
@@ -131,7 +126,6 @@ fn begin_in<F: JournalFile>(
         place,
         dropped: 0,
         checkpointed: false,
-        retraced: true,
     })
 }
 
@@ -142,7 +136,6 @@ fn go_on_in<F: JournalFile>(
     config: &Config,
     file: &mut F,
     bytes: &[u8],
-    retrace: Retrace,
 ) -> Result<Found, DurableError>
     requires short { length bytes.now < 2 ^ 63 }
     requires legal { IsLegal config.now }
@@ -163,10 +156,10 @@ fn go_on_in<F: JournalFile>(
     ensures handed { OnErr result (F.usable file.old ≡ true → (kept loose : List ℕ) → F.has file.old kept loose →
         (k : List ℕ) × (l : List ℕ) × (k ++ l ≡ kept ++ loose) × F.has file.new k l) }
     ensures fault { IsErrOf result FileFault → F.usable file.old ≡ true → F.faults file.old < F.faults file.new }
-    ensures never { IfErr result (λ e. (e ≢ FileBusy) × (e ≢ HasCheckpoint)) }
+    ensures never { IfErr result (λ e. e ≢ FileBusy) }
 {
     let own = OwnConfig::copy_of(alloc, config)?;
-    let recovered = recover(alloc, config, bytes, retrace)?;
+    let recovered = recover(alloc, config, bytes)?;
     file.cut(recovered.place)?;
     Ok(Found {
         bucket: Bucket::from_version(alloc, recovered.version),
@@ -175,7 +168,6 @@ fn go_on_in<F: JournalFile>(
         place: recovered.place,
         dropped: recovered.dropped,
         checkpointed: recovered.checkpointed,
-        retraced: recovered.retraced,
     })
 }
 
@@ -192,7 +184,6 @@ fn found_in<F: JournalFile>(
     config: &Config,
     file: &mut F,
     seed: u64,
-    retrace: Retrace,
 ) -> Result<Found, DurableError>
     ensures ok { IfOk result (λ found. (bytes : List ℕ) × (payloads : List (List ℕ)) × (entries : List Entry)
         × IsFound config.now seed bytes payloads entries found
@@ -215,7 +206,7 @@ fn found_in<F: JournalFile>(
     ensures handed { OnErr result (F.usable file.old ≡ true → (kept loose : List ℕ) → F.has file.old kept loose →
         LeavesBytes F.has config.now seed kept loose file.new) }
     ensures fault { IsErrOf result FileFault → F.usable file.old ≡ true → F.faults file.old < F.faults file.new }
-    ensures never { IfErr result (λ e. (e ≢ FileBusy) × (e ≢ HasCheckpoint)) }
+    ensures never { IfErr result (λ e. e ≢ FileBusy) }
 {
     config.check()?;
     let bytes = read_all(alloc, file)?;
@@ -223,13 +214,13 @@ fn found_in<F: JournalFile>(
     if has_none(text) {
         return begin_in(alloc, config, file, seed);
     }
-    go_on_in(alloc, config, file, text, retrace)
+    go_on_in(alloc, config, file, text)
 }
 
 // The bucket that was found, with its file.
 fn opened_of<F: JournalFile>(file: F, found: Found, sync: Sync) -> Opened<F>
     ensures parts { (result.durable.bucket ≡ found.bucket) × (result.dropped ≡ found.dropped)
-        × (result.checkpointed ≡ found.checkpointed) × (result.retraced ≡ found.retraced) }
+        × (result.checkpointed ≡ found.checkpointed) }
     ensures journal { (result.durable.journal.framing ≡ found.framing) × (result.durable.journal.appender.file ≡ file)
         × (result.durable.journal.appender.sync ≡ sync) }
     ensures keeps { (base : Base) (entries : List Entry) → found.framing.seed < 2 ^ 64 → found.config.config ≡ base.config →
@@ -244,14 +235,12 @@ fn opened_of<F: JournalFile>(file: F, found: Found, sync: Sync) -> Opened<F>
         place,
         dropped,
         checkpointed,
-        retraced,
     } = found;
     let journal = Journal::new(file, framing, config, place, sync);
     Opened {
         durable: Durable::from_parts(bucket, journal),
         dropped,
         checkpointed,
-        retraced,
     }
 }
 
@@ -262,25 +251,19 @@ impl<F: JournalFile> Durable<F> {
     /// place, and changes nothing. The bucket has no watches, and all that it has is on the disk.
     ///
     /// Of a file that begins with a checkpoint the bytes do not tell which acts that stands in place of: the bucket is at the
-    /// state of whatever lawful acts it is the checkpoint of, with those of the entries behind them. With `Retrace::Yes` it looks
-    /// for such acts: it makes what the checkpoint has by real calls, and compares the checkpoint of that with the file. It tells
-    /// by `retraced` whether it has found some; then the bucket is at the state of lawful acts. It finds none for a checkpoint
-    /// that no bucket can have.
+    /// state of whatever lawful acts it is the checkpoint of, with those of the entries behind them. A checkpoint that no acts lead
+    /// to is damage.
     ///
-    /// It reads the file once, into memory, and makes each act again. To retrace a checkpoint takes about twice as long as to
-    /// take it, and until the call has answered memory for its writes and for its bytes once more; where no acts are found, it is
-    /// taken behind that. Of a file with no checkpoint it takes nothing. Nothing else is to write the file meanwhile.
+    /// It reads the file once, into memory, makes each act again, and puts back each write of a checkpoint, for which it takes
+    /// memory until the call has answered. Nothing else is to write the file meanwhile.
     pub fn open(
         alloc: Global,
         config: &Config,
         file: F,
         seed: u64,
         sync: Sync,
-        retrace: Retrace,
     ) -> Result<Opened<F>, NotDone<F>>
-        ensures represents { IfOk result (λ o. o.retraced ≡ true →
-            (acts : List Act) × Represents (state_of config.now acts) o.durable.bucket) }
-        ensures plain { IfOk result (λ o. o.checkpointed ≡ false → o.retraced ≡ true) }
+        ensures represents { IfOk result (λ o. (acts : List Act) × Represents (state_of config.now acts) o.durable.bucket) }
         ensures restored { IfOk result (λ o. (payloads : List (List ℕ)) × (entries : List Entry) × ((base : Base) →
             IsBaseOf config.now payloads base → Represents (state_of config.now (acts_before base ++ acts_of entries)) o.durable.bucket)) }
         ensures new { IfOk result (λ o. F.usable file ≡ true → F.has file [] [] →
@@ -288,7 +271,7 @@ impl<F: JournalFile> Durable<F> {
         ensures reopened { IfOk result (λ o. F.usable file ≡ true → (kept loose : List ℕ) → F.has file kept loose →
             (kept ++ loose ≡ [] → ⊥) →
             IsReopenedOn F.has F.usable config.now (kept ++ loose) o.durable o.dropped o.checkpointed) }
-        ensures read { IfOk result (λ o. o.retraced ≡ true → (base : Base) × (entries : List Entry) × (base.config ≡ config.now)
+        ensures read { IfOk result (λ o. (base : Base) × (entries : List Entry) × (base.config ≡ config.now)
             × (o.checkpointed ≡ false → base ≡ fresh config.now)
             × HasRead F.has F.usable base file entries o.durable o.dropped) }
         ensures torn { IfOk result (λ _. (kept loose : List ℕ) → F.has file kept loose →
@@ -308,10 +291,10 @@ impl<F: JournalFile> Durable<F> {
         ensures handed { IfErr result (λ r. F.usable file ≡ true → (kept loose : List ℕ) → F.has file kept loose →
             LeavesBytes F.has config.now seed kept loose r.file) }
         ensures fault { IfErr result (λ r. r.error ≡ FileFault → F.usable file ≡ true → F.faults file < F.faults r.file) }
-        ensures never { IfErr result (λ r. (r.error ≢ FileBusy) × (r.error ≢ HasCheckpoint)) }
+        ensures never { IfErr result (λ r. r.error ≢ FileBusy) }
     {
         let mut file = file;
-        match found_in(alloc, config, &mut file, seed, retrace) {
+        match found_in(alloc, config, &mut file, seed) {
             Ok(found) => Ok(opened_of(file, found, sync)),
             Err(error) => Err(NotDone { error, file }),
         }

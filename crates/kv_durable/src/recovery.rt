@@ -16,10 +16,9 @@ ghost use Rattle.kv_durable.specs.Bases.{Base};
 ghost use Rattle.kv_durable.specs.Files.{Reads, file_of};
 ghost use Rattle.kv_durable.specs.Openings.{IsRecovered};
 ghost use Rattle.kv_durable.specs.Refusals.{IsDamaged};
-ghost use Rattle.kv_durable.specs.declared.error.DurableError.TheVariants.{FileBusy, FileFault, HasCheckpoint, OtherBucket, Refused};
+ghost use Rattle.kv_durable.specs.declared.error.DurableError.TheVariants.{FileBusy, FileFault, OtherBucket, Refused};
 
 use crate::error::DurableError;
-use crate::retrace::Retrace;
 use crate::start::started_of;
 use kv_frames::Framing;
 use kv_journal::{BeginningError, Begun, ReplayError, Replayed, begin, replay, shows_damage};
@@ -41,9 +40,6 @@ pub struct Recovered {
     pub dropped: u64,
     /// Whether it begins with a checkpoint.
     pub checkpointed: bool,
-    /// Whether acts are known that lead to the version: those of its entries, behind those in whose place its checkpoint, if it
-    /// has one, can stand.
-    pub retraced: bool,
 }
 
 // What the bytes begin with.
@@ -56,7 +52,7 @@ fn begun_of(alloc: Global, bytes: &[u8], config: &Config) -> Result<Begun, Durab
         × BeginsWith bytes.now seed payload rest × (payload ≢ configuration_payload config.now) }
     ensures damaged { IfErr result (λ e. IsDamaged e → (seed : ℕ) (payload rest : List ℕ) →
         BeginsWith bytes.now seed payload rest → ⊥) }
-    ensures err { IfErr result (λ e. (e ≢ FileFault) × (e ≢ FileBusy) × (e ≢ HasCheckpoint) × ((x : AnError) → e ≡ Refused x → x ≡ OutOfMemory)) }
+    ensures err { IfErr result (λ e. (e ≢ FileFault) × (e ≢ FileBusy) × ((x : AnError) → e ≡ Refused x → x ≡ OutOfMemory)) }
 {
     match begin(alloc, bytes, config) {
         Ok(begun) => Ok(begun),
@@ -91,7 +87,7 @@ fn replayed_of(
     ensures damaged { IfErr result (λ e. IsDamaged e → (before : List Act) (entries : List Entry) (rest : List ℕ) →
         StandsFor before version → AreLawful version.config before entries →
         Splits framing.now.seed at bytes.now (payloads_of entries) rest → ⊥) }
-    ensures err { IfErr result (λ e. (e ≢ FileFault) × (e ≢ FileBusy) × (e ≢ HasCheckpoint) × (e ≢ OtherBucket) × ((x : AnError) → e ≡ Refused x → x ≡ OutOfMemory)) }
+    ensures err { IfErr result (λ e. (e ≢ FileFault) × (e ≢ FileBusy) × (e ≢ OtherBucket) × ((x : AnError) → e ≡ Refused x → x ≡ OutOfMemory)) }
 {
     match replay(alloc, version, framing, at, bytes) {
         Ok(replayed) => Ok(replayed),
@@ -106,14 +102,8 @@ fn replayed_of(
 /// bucket's, and an entry that cannot stand behind what is before it. It reads the bytes once, and makes each act again.
 ///
 /// Of a file that begins with a checkpoint the bytes do not tell which acts that stands in place of: whatever lawful acts it
-/// is the checkpoint of, the version stands for these, and those of the entries behind them. With `Retrace::Yes` such acts are
-/// looked for, as [`Durable::open`](crate::Durable) does it.
-pub fn recover(
-    alloc: Global,
-    config: &Config,
-    bytes: &[u8],
-    retrace: Retrace,
-) -> Result<Recovered, DurableError>
+/// is the checkpoint of, and there are some, the version stands for these, and those of the entries behind them.
+pub fn recover(alloc: Global, config: &Config, bytes: &[u8]) -> Result<Recovered, DurableError>
     requires { length bytes.now < 2 ^ 63 }
     ensures ok { IfOk result (λ r. (payloads : List (List ℕ)) × (entries : List Entry) × (rest : List ℕ)
         × IsRecovered config.now bytes.now payloads entries rest r) }
@@ -125,15 +115,14 @@ pub fn recover(
     ensures other { IsErrOf result OtherBucket → (seed : ℕ) × (payload : List ℕ) × (rest : List ℕ)
         × BeginsWith bytes.now seed payload rest × (payload ≢ configuration_payload config.now) }
     ensures refused { IfErr result (λ e. (x : AnError) → e ≡ Refused x → Refuses x (configure config.now)) }
-    ensures no_fault { IfErr result (λ e. (e ≢ FileFault) × (e ≢ FileBusy) × (e ≢ HasCheckpoint)) }
+    ensures no_fault { IfErr result (λ e. (e ≢ FileFault) × (e ≢ FileBusy)) }
 {
     let empty = Version::empty(alloc, config)?;
     let begun = begun_of(alloc, bytes, config)?;
     let first = behind(bytes, begun.place);
-    let started = started_of(alloc, empty, config, &begun, first, retrace)?;
+    let started = started_of(alloc, empty, config, &begun, first)?;
     let start = started.place;
     let checkpointed = started.checkpointed;
-    let retraced = started.retraced;
     let entries = behind(bytes, start);
     let replayed = replayed_of(alloc, started.version, &begun.framing, start, entries)?;
     let place = replayed.place;
@@ -148,6 +137,5 @@ pub fn recover(
         place,
         dropped,
         checkpointed,
-        retraced,
     })
 }

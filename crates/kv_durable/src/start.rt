@@ -1,6 +1,6 @@
 //! What stands before the entries of a file: a checkpoint, or nothing.
 
-ghost use Rattle.std.specs.Prelude.{◌≡◌, ◌≢◌, ◌+◌, ◌<◌, ◌^◌, ◌++◌, [], ℕ, List, false, true, length, Ok, IfErr, IfOk, MatchOption, ⊤};
+ghost use Rattle.std.specs.Prelude.{◌≡◌, ◌≢◌, ◌+◌, ◌<◌, ◌^◌, ◌++◌, [], ℕ, List, length, IfErr, IfOk};
 ghost use Rattle.kv_frames.specs.Frames.{ArePayloads, Splits, frames};
 ghost use Rattle.kv_keys.specs.declared.error.KvError.{KvError as AnError};
 ghost use Rattle.kv_keys.specs.declared.error.KvError.TheVariants.{OutOfMemory};
@@ -8,75 +8,33 @@ ghost use Rattle.kv_journal.specs.Checkpoints.{checkpoint_of, checkpoint_payload
 ghost use Rattle.kv_journal.specs.Entries.{Entry, payloads_of};
 ghost use Rattle.kv_model.specs.Acceptance.{IsLawful};
 ghost use Rattle.kv_model.specs.Acts.{Act};
-ghost use Rattle.kv_model.specs.Configuration.{IsLegal};
 ghost use Rattle.kv_store.specs.Standing.{StandsFor};
 ghost use Rattle.kv_durable.specs.Refusals.{IsDamaged};
-ghost use Rattle.kv_durable.specs.Starts.{IsStarted, StandsFirst};
-ghost use Rattle.kv_durable.specs.declared.error.DurableError.TheVariants.{FileBusy, FileFault, HasCheckpoint, OtherBucket, Refused};
+ghost use Rattle.kv_durable.specs.Starts.{IsStarted};
+ghost use Rattle.kv_durable.specs.declared.error.DurableError.TheVariants.{FileBusy, FileFault, OtherBucket, Refused};
 
 use crate::error::DurableError;
-use crate::retrace::Retrace;
-use kv_journal::{Begun, ReplayError, Replayed, begins_checkpoint, restore, retrace};
+use kv_journal::{Begun, ReplayError, begins_checkpoint, restore};
 use kv_keys::KvError;
 use kv_model::Config;
 use kv_store::Version;
 use std::alloc::Global;
 
-/// The version before the first entry, where that begins, whether a checkpoint stands before it, and whether acts are known
-/// that lead to it.
+/// The version before the first entry, where that begins, and whether a checkpoint stands before it.
 #[derive(Drop)]
 pub(crate) struct Started {
     pub version: Version,
     pub place: u64,
     pub checkpointed: bool,
-    pub retraced: bool,
 }
 
-// What a checkpoint leads to.
-fn behind_checkpoint(found: Replayed, retraced: bool) -> Started
-    ensures { result ≡ record { version = found.version; place = found.place; checkpointed = true; retraced = retraced } }
-{
-    Started {
-        version: found.version,
-        place: found.place,
-        checkpointed: true,
-        retraced,
-    }
-}
-
-// The version of the checkpoint that the bytes begin with, if acts are found in whose place it can stand. It does not look for
-// them where that is not asked for.
-fn retraced_of(
-    alloc: Global,
-    config: &Config,
-    begun: &Begun,
-    bytes: &[u8],
-    asked: Retrace,
-) -> Result<Option<Replayed>, DurableError>
-    requires legal { IsLegal config.now }
-    requires few { begun.now.place + length bytes.now < 2 ^ 64 }
-    ensures found { IfOk result (λ found. MatchOption found ⊤
-        (λ r. StandsFirst config.now begun.now.framing.seed begun.now.place bytes.now r.version r.place)) }
-    ensures err { IfErr result (λ e. e ≡ Refused OutOfMemory) }
-{
-    match asked {
-        Retrace::No => Ok(None),
-        Retrace::Yes => {
-            let empty = Version::empty(alloc, config)?;
-            let found = retrace(alloc, empty, config, &begun.framing, begun.place, bytes)?;
-            Ok(found)
-        }
-    }
-}
-
-// The version of the checkpoint that the bytes begin with.
+// What the checkpoint leads to that the bytes begin with.
 fn restored_of(
     alloc: Global,
     empty: Version,
     config: &Config,
     begun: &Begun,
     bytes: &[u8],
-    asked: Retrace,
 ) -> Result<Started, DurableError>
     requires stands { StandsFor [] empty }
     requires config { empty.config ≡ config.now }
@@ -88,13 +46,14 @@ fn restored_of(
     ensures damaged { IfErr result (λ e. IsDamaged e → (acts : List Act) (rest : List ℕ) → IsLawful config.now acts →
         ArePayloads (checkpoint_payloads (checkpoint_of config.now acts)) →
         bytes.now ≡ frames begun.now.framing.seed begun.now.place (checkpoint_payloads (checkpoint_of config.now acts)) ++ rest → ⊥) }
-    ensures err { IfErr result (λ e. (e ≢ FileFault) × (e ≢ FileBusy) × (e ≢ HasCheckpoint) × (e ≢ OtherBucket) × ((x : AnError) → e ≡ Refused x → x ≡ OutOfMemory)) }
+    ensures err { IfErr result (λ e. (e ≢ FileFault) × (e ≢ FileBusy) × (e ≢ OtherBucket) × ((x : AnError) → e ≡ Refused x → x ≡ OutOfMemory)) }
 {
-    if let Some(found) = retraced_of(alloc, config, begun, bytes, asked)? {
-        return Ok(behind_checkpoint(found, true));
-    }
     match restore(alloc, empty, config, &begun.framing, begun.place, bytes) {
-        Ok(restored) => Ok(behind_checkpoint(restored, false)),
+        Ok(restored) => Ok(Started {
+            version: restored.version,
+            place: restored.place,
+            checkpointed: true,
+        }),
         Err(ReplayError::OutOfMemory) => Err(DurableError::Refused(KvError::OutOfMemory)),
         Err(ReplayError::Damaged { at }) => Err(DurableError::FileDamaged { at }),
     }
@@ -107,7 +66,6 @@ pub(crate) fn started_of(
     config: &Config,
     begun: &Begun,
     bytes: &[u8],
-    asked: Retrace,
 ) -> Result<Started, DurableError>
     requires stands { StandsFor [] empty }
     requires config { empty.config ≡ config.now }
@@ -119,15 +77,14 @@ pub(crate) fn started_of(
         bytes.now ≡ frames begun.now.framing.seed begun.now.place (checkpoint_payloads (checkpoint_of config.now acts)) ++ rest → ⊥) }
     ensures no_entries { IfErr result (λ e. IsDamaged e → (entries : List Entry) (rest : List ℕ) →
         Splits begun.now.framing.seed begun.now.place bytes.now (payloads_of entries) rest → ⊥) }
-    ensures err { IfErr result (λ e. (e ≢ FileFault) × (e ≢ FileBusy) × (e ≢ HasCheckpoint) × (e ≢ OtherBucket) × ((x : AnError) → e ≡ Refused x → x ≡ OutOfMemory)) }
+    ensures err { IfErr result (λ e. (e ≢ FileFault) × (e ≢ FileBusy) × (e ≢ OtherBucket) × ((x : AnError) → e ≡ Refused x → x ≡ OutOfMemory)) }
 {
     if begins_checkpoint(&begun.framing, begun.place, bytes) {
-        return restored_of(alloc, empty, config, begun, bytes, asked);
+        return restored_of(alloc, empty, config, begun, bytes);
     }
     Ok(Started {
         version: empty,
         place: begun.place,
         checkpointed: false,
-        retraced: true,
     })
 }

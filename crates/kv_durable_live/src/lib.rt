@@ -21,4 +21,4 @@ pub use kv_durable::{
     SystemFile, SystemPlace,
 };
 pub use live::DurableLive;
-pub use open::{NotOpened, OpenError, Opened};
+pub use open::Opened;

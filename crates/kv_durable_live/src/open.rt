@@ -1,19 +1,22 @@
 //! Opening a durable bucket that threads share.
 
-ghost use Rattle.std.specs.Prelude.{◌≡◌, ◌++◌, List, [], Ok, All, length, true, IfErr, IfOk};
+ghost use Rattle.std.specs.Prelude.{◌≡◌, ◌++◌, ℕ, List, [], Ok, All, length, true, IfErr, IfOk};
 ghost use Rattle.kv_bucket.specs.Keeping.{may_open};
 ghost use Rattle.kv_durable.specs.Bases.{Base, acts_before, fresh};
 ghost use Rattle.kv_durable.specs.Durables.{state_of};
+ghost use Rattle.kv_durable.specs.Files.{Reads, file_of};
 ghost use Rattle.kv_durable.specs.Journals.{Keeps};
+ghost use Rattle.kv_durable.specs.Refusals.{IsDamaged};
 ghost use Rattle.kv_durable_live.specs.Openings.{GoesOnFrom, IsRead};
 ghost use Rattle.kv_durable_live.specs.Sharing.{IsAt};
+ghost use Rattle.kv_journal.specs.Damage.{ShowsDamage};
 ghost use Rattle.kv_journal.specs.Entries.{Entry, acts_of};
 ghost use Rattle.kv_single.specs.Held.{Represents};
 
 use crate::keeper::DurableKeeper;
 use crate::live::DurableLive;
 use kv_bucket::{Began, Bucket, ChosenActs, Config, KvError, Live, LiveName, Notifier, Reader};
-use kv_durable::{Durable, DurableError, Journal, JournalFile, NotDone, Retrace, Sync};
+use kv_durable::{Durable, DurableError, Journal, JournalFile, NotDone, Sync};
 use std::alloc::Global;
 use std::marker::Brand;
 use std::snapshot::Snapshot;
@@ -23,23 +26,6 @@ use std::sync::{Mutex, Wait};
 pub struct Opened<F: JournalFile> {
     pub(crate) opened: kv_bucket::Opened,
     pub(crate) journal: Journal<F>,
-}
-
-/// Why a durable bucket that threads share was not opened.
-#[derive(Clone, Copy, Debug, PartialEq, Eq)]
-pub enum OpenError {
-    /// As `Durable::open` refuses it, or `Live::open`.
-    Refused(DurableError),
-    /// The file begins with a checkpoint for which no acts were found. What is published begins with acts, and the file does not
-    /// tell those in whose place a checkpoint stands. `Durable::open` opens such a file.
-    HasCheckpoint,
-}
-
-/// An opening that was refused, with the file.
-#[derive(Drop)]
-pub struct NotOpened<F> {
-    pub error: OpenError,
-    pub file: F,
 }
 
 // The bucket of an opening, of which what is published begins with these acts.
@@ -65,19 +51,20 @@ fn named<B: Began, F: JournalFile>(
     acts: &ChosenActs,
     durable: Durable<F>,
     readers: usize,
-) -> Result<Opened<F>, NotOpened<F>>
+) -> Result<Opened<F>, NotDone<F>>
     requires acts { B.acts ≡ acts.now }
     requires represents { Represents (state_of config.now B.acts) durable.bucket }
     ensures ok { IfOk result (λ o. (may_open config.now readers ≡ Ok config.now)
         × (o.opened.opening.config ≡ config.now) × (o.opened.readers ≡ readers)) }
     ensures began { IfOk result (λ o. o.opened.opening.book.began ≡ acts.now) }
     ensures journal { IfOk result (λ o. o.journal ≡ durable.journal) }
+    ensures err { IfErr result (λ r. IsDamaged r.error → ⊥) }
 {
     let (bucket, journal) = durable.into_parts();
     match opened_from::<B>(alloc, config, &bucket, readers) {
         Ok(opened) => Ok(Opened { opened, journal }),
-        Err(error) => Err(NotOpened {
-            error: OpenError::Refused(DurableError::Refused(error)),
+        Err(error) => Err(NotDone {
+            error: DurableError::Refused(error),
             file: journal.into_file(),
         }),
     }
@@ -90,22 +77,16 @@ fn of_read<F: JournalFile>(
     before: &Snapshot<F>,
     read: kv_durable::Opened<F>,
     readers: usize,
-) -> Result<Opened<F>, NotOpened<F>>
-    requires { read.retraced ≡ true → (base : Base) × (entries : List Entry)
+) -> Result<Opened<F>, NotDone<F>>
+    requires { (base : Base) × (entries : List Entry)
         × IsRead F.has F.usable config.now before.now.value base entries read.durable read.dropped }
     ensures ok { IfOk result (λ o. (may_open config.now readers ≡ Ok config.now)
         × (o.opened.opening.config ≡ config.now) × (o.opened.readers ≡ readers)) }
     ensures from { IfOk result (λ o.
         GoesOnFrom F.has F.usable config.now before.now.value o.journal o.opened.opening.book.began) }
     ensures journal { IfOk result (λ o. o.journal ≡ read.durable.journal) }
+    ensures err { IfErr result (λ r. IsDamaged r.error → ⊥) }
 {
-    if !read.retraced {
-        let (_, journal) = read.durable.into_parts();
-        return Err(NotOpened {
-            error: OpenError::HasCheckpoint,
-            file: journal.into_file(),
-        });
-    }
     let about = (config, before, &read);
     let acts = ChosenActs::of::<Brand, _>(&about);
     named::<Brand, F>(alloc, config, &acts, read.durable, readers)
@@ -116,8 +97,8 @@ impl<F: JournalFile> DurableLive<Brand, F> {
     /// goes on, as `Durable::open` does it: what is published begins with the acts that the file has. The configuration and the
     /// number of readers are checked before the file is touched.
     ///
-    /// Of a file that begins with a checkpoint, acts are looked for in whose place that can stand, as `Retrace::Yes` does it, at
-    /// its cost. What is published begins with these: all that is read of the bucket is the same whichever they are.
+    /// Of a file that begins with a checkpoint, what is published begins with acts in whose place that can stand: all that is read
+    /// of the bucket is the same whichever they are.
     pub fn open(
         alloc: Global,
         config: &Config,
@@ -125,7 +106,7 @@ impl<F: JournalFile> DurableLive<Brand, F> {
         seed: u64,
         sync: Sync,
         readers: usize,
-    ) -> Result<Opened<F>, NotOpened<F>>
+    ) -> Result<Opened<F>, NotDone<F>>
         ensures ok { IfOk result (λ o. (may_open config.now readers ≡ Ok config.now)
             × (o.opened.opening.config ≡ config.now) × (o.opened.readers ≡ readers)) }
         ensures new { IfOk result (λ o. F.usable file ≡ true → F.has file [] [] →
@@ -133,20 +114,21 @@ impl<F: JournalFile> DurableLive<Brand, F> {
         ensures from { IfOk result (λ o.
             GoesOnFrom F.has F.usable config.now file o.journal o.opened.opening.book.began) }
         ensures sync { IfOk result (λ o. o.journal.appender.sync ≡ sync) }
+        // The file of a bucket is not refused as damaged, unless it shows damage behind its entries.
+        ensures damaged { IfErr result (λ r. IsDamaged r.error → (kept loose : List ℕ) → F.has file kept loose →
+            (base : Base) (other : ℕ) (entries : List Entry) (rest : List ℕ) → base.config ≡ config.now →
+            Reads base (kept ++ loose) other entries rest → ShowsDamage other (length (file_of other base entries)) rest) }
     {
         if let Err(error) = Live::check(config, readers) {
-            return Err(NotOpened {
-                error: OpenError::Refused(DurableError::Refused(error)),
+            return Err(NotDone {
+                error: DurableError::Refused(error),
                 file,
             });
         }
         let before = Snapshot::of(&file);
-        match Durable::open(alloc, config, file, seed, sync, Retrace::Yes) {
+        match Durable::open(alloc, config, file, seed, sync) {
             Ok(read) => of_read(alloc, config, &before, read, readers),
-            Err(refused) => Err(NotOpened {
-                error: OpenError::Refused(refused.error),
-                file: refused.file,
-            }),
+            Err(refused) => Err(refused),
         }
     }
 }

@@ -2,9 +2,9 @@
 
 ghost use Rattle.std.specs.Prelude.{◌≡◌};
 
-use kv_durable::{Durable, Retrace};
+use kv_durable::Durable;
 use kv_durable_live::{
-    DurableError, DurableLive, JournalFile, LiveName, NotOpened, OpenError, Opened, Reader, Sync,
+    DurableError, DurableLive, JournalFile, LiveName, Opened, Reader, Sync,
 };
 use kv_file::MemoryFile;
 use kv_keys::KvError;
@@ -34,18 +34,11 @@ pub fn config(alloc: Global) -> Result<Config, KvError> {
     Config::named(alloc, "kv")
 }
 
-fn why<F: Drop>(refused: NotOpened<F>) -> DurableError {
-    match refused.error {
-        OpenError::Refused(error) => error,
-        OpenError::HasCheckpoint => DurableError::HasCheckpoint,
-    }
-}
-
 // An opening of a file, for two readers.
 pub fn opened(alloc: Global, file: MemoryFile) -> Result<Opened<MemoryFile>, DurableError> {
     match DurableLive::open(alloc, &config(alloc)?, file, SEED, Sync::Each, 2) {
         Ok(opened) => Ok(opened),
-        Err(refused) => Err(why(refused)),
+        Err(refused) => Err(refused.error),
     }
 }
 
@@ -95,7 +88,6 @@ pub fn second_life(alloc: Global, file: &MemoryFile) -> Result<Durable<MemoryFil
         MemoryFile::new(alloc, bytes),
         SEED,
         Sync::Each,
-        Retrace::No,
     ) {
         Ok(opened) => Ok(opened.durable),
         Err(refused) => Err(refused.error),

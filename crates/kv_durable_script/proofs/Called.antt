@@ -15,7 +15,7 @@ use Rattle.kv_durable.specs.Durables.{IsHanded, IsRecorded, IsRefusal}
 use Rattle.kv_durable.specs.Journals.{Keeps, is_stopped, told_next}
 use Rattle.kv_durable.specs.declared.durable.Durable.{Durable}
 use Rattle.kv_durable.specs.declared.error.DurableError.{DurableError}
-use Rattle.kv_durable.specs.declared.error.DurableError.TheVariants.{Refused, FileFault, FileDamaged, FileBusy, OtherBucket, HasCheckpoint}
+use Rattle.kv_durable.specs.declared.error.DurableError.TheVariants.{Refused, FileFault, FileDamaged, FileBusy, OtherBucket}
 use Rattle.kv_durable.specs.declared.error.BatchError.{BatchError}
 use Rattle.kv_durable.specs.declared.error.BatchError.TheVariants as batches
 use Rattle.kv_model.specs.declared.batch.BatchRefused.{BatchRefused}
@@ -35,7 +35,6 @@ by_rules FileFault other = absurd (other refl)
 by_rules (FileDamaged at) other = absurd (other refl)
 by_rules FileBusy other = absurd (other refl)
 by_rules OtherBucket other = absurd (other refl)
-by_rules HasCheckpoint other = absurd (other refl)
 
 pub only_memory : (error : DurableError) → ((x : KvError) → error ≡ Refused x → x ≡ OutOfMemory) → told_as error ≡ OutOfMemory
 only_memory (Refused e) refused = refused e refl
@@ -43,7 +42,6 @@ only_memory FileFault refused = refl
 only_memory (FileDamaged at) refused = refl
 only_memory FileBusy refused = refl
 only_memory OtherBucket refused = refl
-only_memory HasCheckpoint refused = refl
 
 pub batch_by_rules : (error : BatchError) → ((batch_told_as error).error ≡ OutOfMemory → ⊥) → error ≡ batches.Refused (batch_told_as error)
 batch_by_rules (batches.Refused refused) other = refl
@@ -185,7 +183,6 @@ module _ {F : Type 0} (has : F → List ℕ → List ℕ → Type 0) (usable : F
     called_on {X} (Err (FileDamaged at)) recorded untouched bucket handed stops stopped no_other same = absurd no_other
     called_on {X} (Err FileBusy) recorded untouched bucket handed stops stopped no_other same = absurd no_other
     called_on {X} (Err OtherBucket) recorded untouched bucket handed stops stopped no_other same = absurd no_other
-    called_on {X} (Err HasCheckpoint) recorded untouched bucket handed stops stopped no_other same = absurd no_other
 
     -- the same of a batch of some requests
     module _ {R : Type 0} (requests : List R) where

@@ -14,14 +14,14 @@ ghost use Rattle.kv_replay.specs.Faults.{IsWriteOrMemory};
 ghost use Rattle.kv_replay.specs.inside.Written.{Pours, Puts};
 ghost use Rattle.kv_durable.specs.Bases.{fresh};
 ghost use Rattle.kv_durable.specs.Files.{Reads};
-ghost use Rattle.kv_durable.specs.declared.error.DurableError.TheVariants.{FileBusy, FileFault, HasCheckpoint, Refused};
+ghost use Rattle.kv_durable.specs.declared.error.DurableError.TheVariants.{FileBusy, FileFault, Refused};
 ghost use Rattle.kv_durable_script.specs.Dumps.{dump_text};
 ghost use Rattle.kv_durable_script.specs.Scripts.{IsScript};
 ghost use Rattle.kv_durable_script.specs.inside.Dumpable.{CanDumpEntry};
 
 use crate::lines::push_entry;
 use crate::stored::write_stored;
-use kv_durable::{DurableError, Retrace, recover};
+use kv_durable::{DurableError, recover};
 use kv_frames::Framing;
 use kv_journal::begin;
 use kv_keys::KvError;
@@ -142,10 +142,10 @@ pub fn dump<K: Output>(
         × (text : List ℕ) × StartsWith whole text × Appends (K.held sink.old) (K.held sink.new) text))) }
     ensures refused { IfErr result (λ e. (x : AnError) → e ≡ Refused x → (x ≡ WriteFault) ⊎ Refuses x (configure config.now)) }
     ensures write_fault { IsErrOf result (Refused WriteFault) → K.failed_between sink.old sink.new }
-    ensures no_fault { IfErr result (λ e. (e ≢ FileFault) × (e ≢ FileBusy) × (e ≢ HasCheckpoint)) }
+    ensures no_fault { IfErr result (λ e. (e ≢ FileFault) × (e ≢ FileBusy)) }
 {
     config.check()?;
-    let recovered = recover(alloc, config, bytes, Retrace::No)?;
+    let recovered = recover(alloc, config, bytes)?;
     if recovered.checkpointed {
         write_stored(alloc, &recovered.version, sink)?;
         return Ok(recovered.dropped);

@@ -11,7 +11,7 @@ mod target;
 
 pub use dumping::dump;
 pub use kv_durable::{
-    Durable, DurableError, JournalFile, NotDone, OpenFault, Opened, ReplaceableFile, Retrace, Sync,
+    Durable, DurableError, JournalFile, NotDone, OpenFault, Opened, ReplaceableFile, Sync,
     SystemFile, SystemPlace,
 };
 pub use running::{Finished, run_durable};

@@ -1,8 +1,8 @@
-//! Each short course of acts on two keys, under narrow limits: the checkpoint behind it is retraced.
+//! Each short course of acts on two keys, under narrow limits: the checkpoint behind it is opened as the same bucket.
 
 use crate::checkpointed::NEXT_SEED;
-use crate::durables::{Bucket, SEED, config};
-use kv_durable::{Durable, DurableError, Opened, Retrace, Sync};
+use crate::durables::{Bucket, SEED, config, is_same};
+use kv_durable::{Durable, DurableError, Opened, Sync};
 use kv_file::MemoryFile;
 use kv_model::Config;
 use kv_test_tools::{delete, purge, put};
@@ -19,10 +19,9 @@ fn opened_with(
     alloc: Global,
     config: &Config,
     bytes: &[u8],
-    asked: Retrace,
 ) -> Result<Opened<MemoryFile>, DurableError> {
     let file = MemoryFile::new(alloc, Vec::from_slice(alloc, bytes)?);
-    match Durable::open(alloc, config, file, SEED, Sync::Each, asked) {
+    match Durable::open(alloc, config, file, SEED, Sync::Each) {
         Ok(opened) => Ok(opened),
         Err(refused) => Err(refused.error),
     }
@@ -52,7 +51,7 @@ fn behind(
     course: u64,
     acts: u32,
 ) -> Result<Option<Bucket>, DurableError> {
-    let mut bucket = opened_with(alloc, config, &[], Retrace::No)?.durable;
+    let mut bucket = opened_with(alloc, config, &[])?.durable;
     let mut left = course;
     for _ in 0..acts {
         match act(alloc, &mut bucket, left % CHOICES) {
@@ -64,8 +63,8 @@ fn behind(
     Ok(Some(bucket))
 }
 
-// Whether the checkpoint behind a course is retraced; none where there is no such course.
-fn is_retraced(
+// Whether the checkpoint behind a course is opened as the same bucket; none where there is no such course.
+fn is_opened(
     alloc: Global,
     config: &Config,
     course: u64,
@@ -76,12 +75,13 @@ fn is_retraced(
     };
     bucket.checkpoint(&(), NEXT_SEED)?;
     let bytes = bucket.journal().file().kept();
-    let with = opened_with(alloc, config, bytes, Retrace::Yes)?;
-    Ok(Some(with.retraced))
+    let second = opened_with(alloc, config, bytes)?;
+    let same = is_same(bucket.bucket().version(), second.durable.bucket().version());
+    Ok(Some(second.checkpointed && same))
 }
 
-// How many courses there are of so many acts, each of which is retraced.
-fn all_are_retraced(
+// How many courses there are of so many acts, each of which is opened.
+fn all_are_opened(
     rt: &impl Abort,
     alloc: Global,
     config: &Config,
@@ -89,8 +89,8 @@ fn all_are_retraced(
 ) -> Result<u64, DurableError> {
     let mut courses = 0u64;
     for course in 0..CHOICES.saturating_pow(acts) {
-        if let Some(retraced) = is_retraced(alloc, config, course, acts)? {
-            assert!(rt; retraced, "the course {course} of {acts} acts");
+        if let Some(opened) = is_opened(alloc, config, course, acts)? {
+            assert!(rt; opened, "the course {course} of {acts} acts");
             courses = courses.saturating_add(1);
         }
     }
@@ -98,7 +98,7 @@ fn all_are_retraced(
 }
 
 #[test]
-fn each_short_course_is_retraced(rt: HostRuntime) -> Result<(), Fail> {
+fn the_checkpoint_behind_each_short_course_is_opened(rt: HostRuntime) -> Result<(), Fail> {
     let alloc = rt.alloc();
     let mut courses = 0u64;
     for (history, write_limit) in [
@@ -115,7 +115,7 @@ fn each_short_course_is_retraced(rt: HostRuntime) -> Result<(), Fail> {
         config.history = history;
         config.write_limit = write_limit;
         for acts in 0..LONGEST + 1 {
-            courses = courses.saturating_add(all_are_retraced(&rt, alloc, &config, acts)?);
+            courses = courses.saturating_add(all_are_opened(&rt, alloc, &config, acts)?);
         }
     }
     assert!(rt; courses > 8_000, "{courses} courses");

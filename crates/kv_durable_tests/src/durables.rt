@@ -1,7 +1,7 @@
 //! Tests of durable buckets over a file in memory.
 
 use crate::equal::equal;
-use kv_durable::{BatchError, Durable, DurableError, Opened, Retrace, Sync};
+use kv_durable::{BatchError, Durable, DurableError, Opened, Sync};
 use kv_file::{JournalFile, MemoryFile, Torn};
 use kv_keys::KvError;
 use kv_model::{Config, Request};
@@ -31,7 +31,7 @@ pub(crate) fn opened(
     file: MemoryFile,
     sync: Sync,
 ) -> Result<Opened<MemoryFile>, DurableError> {
-    match Durable::open(alloc, &config(alloc)?, file, SEED, sync, Retrace::No) {
+    match Durable::open(alloc, &config(alloc)?, file, SEED, sync) {
         Ok(opened) => Ok(opened),
         Err(refused) => Err(refused.error),
     }
@@ -285,7 +285,7 @@ fn until_it_fails(
 ) -> Result<(MemoryFile, usize), DurableError> {
     let mut file = empty(alloc);
     file.fail_after(calls);
-    let mut bucket = match Durable::open(alloc, &config(alloc)?, file, SEED, sync, Retrace::No) {
+    let mut bucket = match Durable::open(alloc, &config(alloc)?, file, SEED, sync) {
         Ok(opened) => opened.durable,
         Err(refused) => return Ok((refused.file, 0)),
     };
@@ -408,7 +408,7 @@ fn another_bucket_is_told_once(rt: &impl Abort, alloc: Global) -> Result<(), Dur
     let mut config = config(alloc)?;
     config.history = 3;
     let file = MemoryFile::new(alloc, Vec::from_slice(alloc, &course.bytes)?);
-    match Durable::open(alloc, &config, file, SEED, Sync::Each, Retrace::No) {
+    match Durable::open(alloc, &config, file, SEED, Sync::Each) {
         Ok(_) => assert!(rt; false),
         Err(refused) => {
             let is_memory = refused.error == DurableError::Refused(KvError::OutOfMemory);

@@ -23,12 +23,14 @@ mod files;
 #[cfg(test)]
 mod frames;
 #[cfg(test)]
-mod replaced;
+mod reopened;
 #[cfg(test)]
-mod retraced;
+mod replaced;
 #[cfg(test)]
 mod sample;
 #[cfg(test)]
 mod shrinking;
 #[cfg(test)]
 mod system;
+#[cfg(test)]
+mod unreachable;

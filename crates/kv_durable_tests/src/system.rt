@@ -1,7 +1,7 @@
 //! Tests of durable buckets over files of the system.
 
 use crate::equal::equal;
-use kv_durable::{Durable, DurableError, OpenFault, Opened, Retrace, Sync, SystemFile};
+use kv_durable::{Durable, DurableError, OpenFault, Opened, Sync, SystemFile};
 use kv_file::{JournalFile, ReplaceFault, ReplaceableFile, SystemPlace};
 use kv_model::Config;
 use kv_test_tools::{put, twice};
@@ -29,7 +29,7 @@ fn new_path(rt: &HostRuntime) -> Result<String, DurableError> {
 fn opened(rt: &HostRuntime, alloc: Global, path: &str) -> Result<Opened<SystemFile>, DurableError> {
     let file = SystemFile::open(rt, path)?;
     let config = Config::named(alloc, "settings")?;
-    match Durable::open(alloc, &config, file, 7, Sync::Each, Retrace::No) {
+    match Durable::open(alloc, &config, file, 7, Sync::Each) {
         Ok(opened) => Ok(opened),
         Err(refused) => Err(refused.error),
     }

@@ -11,11 +11,11 @@ use Rattle.kv_model.specs.Requests.{Asked, value_of}
 use Rattle.kv_model.proofs.Numbered.{writes_of-wrote, writes_of-seal, writes_of-compact}
 use Rattle.kv_model.proofs.Storing.{lawful_by}
 
-not_so : {X E : Type 0} (b : Bool) (e : E) (r : Result X E) (x : X) → cond b (Err e) r ≡ Ok x → (b ≡ false) × (r ≡ Ok x)
+pub not_so : {X E : Type 0} (b : Bool) (e : E) (r : Result X E) (x : X) → cond b (Err e) r ≡ Ok x → (b ≡ false) × (r ≡ Ok x)
 not_so true e r x h = absurd cc
 not_so false e r x h = (refl, h)
 
-not_full : (config : Configuration) (a : Asked) (acts : List Act) (w : Write) → accept config a acts ≡ Ok w → is_full config acts ≡ false
+pub not_full : (config : Configuration) (a : Asked) (acts : List Act) (w : Write) → accept config a acts ≡ Ok w → is_full config acts ≡ false
 not_full config a acts w h =
     let w₃ = unless (objection a acts) (next_write a acts) in
     let w₂ = cond (is_full config acts) (Err JournalFull) w₃ in

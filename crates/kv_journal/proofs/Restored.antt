@@ -51,29 +51,3 @@ stands_again config acts new legal lawful r =
       floor = r.floor;
       sealed = r.sealed;
     }
-
--- and what stands for lawful acts is so, as if it had been made of their checkpoint
-pub stands_restored : (config : Configuration) (acts : List Act) (version : Stored) → version.config ≡ config → StandsFor acts version → IsRestored config (checkpoint_of config acts) version
-stands_restored config acts version is s = subst (λ (c : Configuration). IsRestored c (checkpoint_of c acts) version) is own
-  where
-    some : 0 < version.config.history
-    some = history_some version.config s.legal
-
-    same : (key : List ℕ) → kept version.config.history key acts ≡ last_n version.config.history (since_purge (those_of key (stored_writes version.config.history acts)))
-    same key = kept_of_stored version.config version.config.history key acts s.lawful some
-
-    own : IsRestored version.config (checkpoint_of version.config acts) version
-    own = record {
-      same = refl;
-      writes = record {
-        written = λ n. s.written n;
-        kept = λ key. s.kept key ∙ ap (λ (ws : List Write). unless_empty (revisions ws)) (same key);
-        last_of = λ key.
-            s.last_of key ∙ sym (last_kept version.config.history (writes_of_key key acts) some)
-            ∙ ap (λ (ws : List Write). last_or None ws) (same key) ∙ last_kept version.config.history (those_of key (stored_writes version.config.history acts)) some;
-      };
-      last = s.last;
-      values = s.values;
-      floor = s.floor;
-      sealed = s.sealed;
-    }

@@ -1,2 +1,4 @@
 pub mod Redoes
-pub mod Rebuilt
+pub mod Contents
+pub mod Reachable
+pub mod Courses

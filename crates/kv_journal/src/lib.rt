@@ -3,21 +3,18 @@
 
 mod checkpoint;
 mod contents;
+mod course;
 mod damage;
 mod decode;
 mod encode;
 mod entry;
-mod filling;
 mod header;
 mod kind;
 pub mod laws;
 mod loose;
-mod markers;
-mod passing;
-mod rebuilding;
+mod numbers;
 mod replays;
 mod restoration;
-mod retracing;
 
 pub use checkpoint::push_checkpoint;
 pub use damage::shows_damage;
@@ -29,4 +26,3 @@ pub use kind::begins_checkpoint;
 pub use loose::loose_of;
 pub use replays::{ReplayError, Replayed, replay};
 pub use restoration::restore;
-pub use retracing::retrace;

@@ -10,7 +10,7 @@ ghost use Rattle.kv_journal.specs.Replays.{Extends, IsDamaged, TellsWhere};
 use crate::entry::redo;
 use kv_frames::Framing;
 use kv_store::Version;
-use std::alloc::Global;
+use std::alloc::{AllocError, AllocFailed, Global};
 
 /// Why the entries of a file were refused.
 #[derive(Clone, Copy, Debug, PartialEq, Eq)]
@@ -19,6 +19,28 @@ pub enum ReplayError {
     OutOfMemory,
     /// The frame at this place has its right checksum, and tells nothing that can stand behind the entries before it.
     Damaged { at: u64 },
+}
+
+impl From<AllocError> for ReplayError {
+    ghost use Rattle.std.specs.Prelude.{◌≡◌};
+    ghost use Rattle.kv_journal.specs.declared.replays.ReplayError.TheVariants.{OutOfMemory};
+
+    ghost from_gives = { λ _ e. e ≡ OutOfMemory };
+
+    fn from(_error: AllocError) -> ReplayError {
+        ReplayError::OutOfMemory
+    }
+}
+
+impl<T: Drop> From<AllocFailed<T>> for ReplayError {
+    ghost use Rattle.std.specs.Prelude.{◌≡◌};
+    ghost use Rattle.kv_journal.specs.declared.replays.ReplayError.TheVariants.{OutOfMemory};
+
+    ghost from_gives = { λ _ e. e ≡ OutOfMemory };
+
+    fn from(_error: AllocFailed<T>) -> ReplayError {
+        ReplayError::OutOfMemory
+    }
 }
 
 /// The version that a file stands for, and where its last whole frame ends.

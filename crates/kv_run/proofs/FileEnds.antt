@@ -19,7 +19,7 @@ use Rattle.kv_replay.specs.Sessions.{outside}
 use Rattle.kv_durable.specs.Durables.{state_of}
 use Rattle.kv_durable.specs.Refusals.{IsDamaged}
 use Rattle.kv_durable.specs.declared.error.DurableError.{DurableError}
-use Rattle.kv_durable.specs.declared.error.DurableError.TheVariants.{FileBusy, FileDamaged, FileFault, HasCheckpoint, OtherBucket, Refused}
+use Rattle.kv_durable.specs.declared.error.DurableError.TheVariants.{FileBusy, FileDamaged, FileFault, OtherBucket, Refused}
 use Rattle.kv_durable_script.specs.Runs.{EndsBy}
 use Rattle.kv_durable_script.specs.Scripts.{CanBeScript, IsScript}
 use Rattle.kv_durable_script.proofs.Scripting.{can_be_script}
@@ -93,10 +93,6 @@ unbegun_read config e legal why = elim why [
   | inr fault ↦ unbegun_fault config e legal fault
 ]
 
--- the file begins with a checkpoint for which no acts are known
-pub unbegun_checkpoint : (config : Configuration) (e : DurableError) → IsLegal config → e ≡ HasCheckpoint → IsUnbegun config e
-unbegun_checkpoint config e legal is = subst (λ (e : DurableError). IsUnbegun config e) (sym is) legal
-
 -- whatever refused a file of a legal configuration
 pub unbegun : (config : Configuration) (e : DurableError) → IsLegal config → ((x : KvError) → e ≡ Refused x → Refuses x (configure config)) → IsUnbegun config e
 unbegun config (Refused x) legal refused = elim (by_cause x (configure config) (refused x refl)) [
@@ -107,7 +103,6 @@ unbegun config FileFault legal refused = legal
 unbegun config (FileDamaged at) legal refused = legal
 unbegun config FileBusy legal refused = legal
 unbegun config OtherBucket legal refused = legal
-unbegun config HasCheckpoint legal refused = legal
 
 -- ---- a dump that ended early
 
@@ -170,10 +165,6 @@ module _ (config : Configuration) (bytes : List ℕ) (held holds : Option (List 
     | inr dumped ↦ absurd (let no : ⊥ = cc dumped.0.1 in no)
   ]
   dump_ended OtherBucket early refused failed = elim early [
-    | inl same ↦ inl (legal, same)
-    | inr dumped ↦ absurd (let no : ⊥ = cc dumped.0.1 in no)
-  ]
-  dump_ended HasCheckpoint early refused failed = elim early [
     | inl same ↦ inl (legal, same)
     | inr dumped ↦ absurd (let no : ⊥ = cc dumped.0.1 in no)
   ]
@@ -268,7 +259,6 @@ module _ (wanted : Wanted) (unread left held holds : Option (List ℕ)) (Same Re
   damaged_unbegun FileFault damaged ends = absurd damaged
   damaged_unbegun FileBusy damaged ends = absurd damaged
   damaged_unbegun OtherBucket damaged ends = absurd damaged
-  damaged_unbegun HasCheckpoint damaged ends = absurd damaged
 
   abbrev IsOfConfiguration : DurableError → Type 0
   IsOfConfiguration e = (error : KvError) × (e ≡ Refused error) × (configure wanted.config ≡ Err error) × (Same × Still)
@@ -310,7 +300,6 @@ module _ (wanted : Wanted) (unread left held holds : Option (List ℕ)) (Same Re
   of_configuration (FileDamaged at) two ends = absurd (omega (arith, two))
   of_configuration FileBusy two ends = absurd (omega (arith, two))
   of_configuration OtherBucket two ends = absurd (omega (arith, two))
-  of_configuration HasCheckpoint two ends = absurd (omega (arith, two))
 
   -- what was told since, beside why it ended
   ends_telling : {Alone Behind : Type 0} (e : DurableError) → (Still → Alone) → (Torn → Behind) → Ends e → EndsOnFile wanted unread left held holds Same ReaderFailed WriterFailed Alone Behind e

@@ -14,7 +14,7 @@ use Rattle.kv_replay.specs.Outcome.{Replays}
 use Rattle.kv_replay.specs.Sessions.{outside, text_from, whole_from}
 use Rattle.kv_durable.specs.Durables.{state_of}
 use Rattle.kv_durable.specs.declared.error.DurableError.{DurableError}
-use Rattle.kv_durable.specs.declared.error.DurableError.TheVariants.{FileBusy, FileDamaged, FileFault, HasCheckpoint, OtherBucket, Refused}
+use Rattle.kv_durable.specs.declared.error.DurableError.TheVariants.{FileBusy, FileDamaged, FileFault, OtherBucket, Refused}
 use Rattle.kv_durable_script.specs.Runs as runs
 use Rattle.kv_durable_script.specs.Scripts.{CanBeScript}
 use Rattle.kv_run.specs.Arguments.{Wanted}
@@ -37,7 +37,6 @@ IsUnbegun config FileFault = IsLegal config
 IsUnbegun config (FileDamaged at) = IsLegal config
 IsUnbegun config FileBusy = IsLegal config
 IsUnbegun config OtherBucket = IsLegal config
-IsUnbegun config HasCheckpoint = IsLegal config
 
 -- the run ended early on the bucket of some lawful acts; a fault of a device is that device's
 abbrev pub RunEndsBy : Form → Configuration → (unread left held holds : Option (List ℕ)) → (ReaderFailed WriterFailed : Type 0) → DurableError → Type 0

@@ -9,7 +9,7 @@ ghost use Rattle.kv_single.specs.Held.{Represents};
 ghost use Rattle.kv_replay.specs.declared.streams.TheConstants.{READ_CALLS};
 ghost use Rattle.kv_durable.specs.Durables.{state_of};
 ghost use Rattle.kv_durable.specs.declared.error.DurableError.{DurableError as AFault};
-ghost use Rattle.kv_durable.specs.declared.error.DurableError.TheVariants.{FileFault, HasCheckpoint, Refused};
+ghost use Rattle.kv_durable.specs.declared.error.DurableError.TheVariants.{FileFault, Refused};
 ghost use Rattle.kv_run.specs.Clashes.{clash_of, clash_text};
 ghost use Rattle.kv_run.specs.Files.{DumpEndsBy, EndsOnFile, IsDumped, IsFileRefused, IsRunOn, IsUnbegun, RunEndsBy};
 ghost use Rattle.kv_run.specs.Telling.{TellsBehind, TellsTorn, file_fault_text, file_status, torn_text};
@@ -18,7 +18,7 @@ use crate::arguments::Arguments;
 use crate::clashes::{accuse, clash, when_of};
 use crate::telling::{fail, tell_torn};
 use kv_durable_script::{
-    Durable, DurableError, Finished, Opened, Replacing, Retrace, Sync as When, SystemFile,
+    Durable, DurableError, Finished, Opened, Replacing, Sync as When, SystemFile,
     SystemPlace, dump, run_durable,
 };
 use kv_keys::KvError;
@@ -51,19 +51,7 @@ fn seed<T: RandomSource>(rt: &T) -> Result<u64, DurableError>
     }
 }
 
-/// What was opened, where acts are known that lead to what its file has.
-fn with_acts(opened: Opened<SystemFile>) -> Result<Opened<SystemFile>, DurableError>
-    ensures ok { IfOk result (λ o. (o ≡ opened) × (opened.retraced ≡ true)) }
-    ensures err { IfErr result (λ e. e ≡ HasCheckpoint) }
-{
-    if !opened.retraced {
-        return Err(DurableError::HasCheckpoint);
-    }
-    Ok(opened)
-}
-
-/// Opens the bucket of a file, which is made if it isn't there. One that begins with a checkpoint for which no acts are found is
-/// refused.
+/// Opens the bucket of a file, which is made if it isn't there.
 fn open<T: Files<File = File> + RandomSource>(
     rt: &T,
     alloc: Global,
@@ -77,8 +65,8 @@ fn open<T: Files<File = File> + RandomSource>(
 {
     let seed = seed(rt)?;
     let file = SystemFile::open(rt, path)?;
-    match Durable::open(alloc, config, file, seed, when, Retrace::Yes) {
-        Ok(opened) => with_acts(opened),
+    match Durable::open(alloc, config, file, seed, when) {
+        Ok(opened) => Ok(opened),
         Err(refused) => Err(refused.error),
     }
 }

@@ -57,7 +57,6 @@ Exit status, and what to do:
      FileDamaged            the file was changed from outside, or is no journal: take a copy that is whole
      FileBusy               another process has the file: wait for its end
      OtherBucket            the file has another name, history or limit: give the options that it was made with
-     HasCheckpoint          no writes are found that lead to the file's checkpoint: a program that uses the library opens it
   2  BadBucket, BadConfig   the name, or a number, is not as the options say: give another
      and other faults       an argument is unknown, twice there, or has no such value: standard error shows which
 

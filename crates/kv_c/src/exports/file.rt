@@ -5,7 +5,7 @@ ghost use Rattle.kv_c.specs.Calling.{configured, holds_bucket, opening_of, sync_
 ghost use Rattle.kv_c.specs.Codes.{IsOfFile, IsOpeningCode};
 ghost use Rattle.kv_c.specs.Making.{AreOfAnother, GivesUp, IsFound, IsLent, IsOpened, Makes, MakesEnd, MakesSync, OpensFile, Settles, ShowDamage, is_filed, number_in, stopped_in, waits_in};
 ghost use Rattle.kv_durable.specs.Refusals.{IsDamaged};
-ghost use Rattle.kv_durable.specs.declared.error.DurableError.TheVariants.{HasCheckpoint, OtherBucket, Refused};
+ghost use Rattle.kv_durable.specs.declared.error.DurableError.TheVariants.{OtherBucket, Refused};
 ghost use Rattle.kv_journal.specs.Header.{beginning};
 ghost use Rattle.kv_keys.specs.declared.error.KvError.{KvError as AnError};
 ghost use Rattle.kv_keys.specs.declared.error.KvError.TheVariants.{OutOfMemory};
@@ -20,7 +20,7 @@ use crate::made::{Lent, Made};
 use crate::outbox::Outbox;
 use crate::ready::ready_end;
 use crate::request::{Limits, config_of};
-use kv_durable::{Durable, DurableError, Opened, Retrace, Sync};
+use kv_durable::{Durable, DurableError, Opened, Sync};
 use kv_frames::Framing;
 use kv_journal::push_beginning;
 use kv_single::{Config, KvError};
@@ -77,20 +77,12 @@ fn opened_of(
     sync: u64,
 ) -> Result<Opened<Outbox>, DurableError>
     ensures ok { IfOk result (λ o. IsFound config.now (sync_asked sync) seed bytes.now o) }
-    ensures own { IfErr result (λ e. ¬ (e ≡ HasCheckpoint)) }
     ensures err { IfErr result (λ e. (x : AnError) → e ≡ Refused x → ¬ (x ≡ OutOfMemory) → configure config.now ≡ Err x) }
     ensures damaged { IfErr result (λ e. IsDamaged e → ShowDamage config.now bytes.now) }
     ensures other { IfErr result (λ e. e ≡ OtherBucket → AreOfAnother config.now bytes.now) }
 {
     let found = Vec::from_slice(alloc, bytes)?;
-    match Durable::open(
-        alloc,
-        config,
-        Outbox::of(found),
-        seed,
-        sync_of(sync),
-        Retrace::No,
-    ) {
+    match Durable::open(alloc, config, Outbox::of(found), seed, sync_of(sync)) {
         Ok(opened) => Ok(opened),
         Err(refused) => Err(refused.error),
     }
@@ -107,7 +99,6 @@ fn opening_of_file(
 ) -> Result<(Made, u64), DurableError>
     requires { IsLegal config.now }
     ensures ok { IfOk result (λ o. IsOpened config.now (sync_asked sync) seed number bytes.now o.1 o.0) }
-    ensures own { IfErr result (λ e. ¬ (e ≡ HasCheckpoint)) }
     ensures err { IfErr result (λ e. (x : AnError) → e ≡ Refused x → ¬ (x ≡ OutOfMemory) → configure config.now ≡ Err x) }
     ensures damaged { IfErr result (λ e. IsDamaged e → ShowDamage config.now bytes.now) }
     ensures other { IfErr result (λ e. e ≡ OtherBucket → AreOfAnother config.now bytes.now) }
@@ -142,7 +133,6 @@ fn open_file(
 ) -> Result<(Box<Content>, u64), DurableError>
     ensures ok { IfOk result (λ o. OpensFile (configured name.now limits.now) (sync_asked sync) seed number bytes.now o.1 (Some o.0.value)) }
     ensures opening { IfOk result (λ o. opening_of (Some o.0.value) ≡ Some opening) }
-    ensures own { IfErr result (λ e. ¬ (e ≡ HasCheckpoint)) }
     ensures err { IfErr result (λ e. (x : AnError) → e ≡ Refused x → ¬ (x ≡ OutOfMemory) →
         configure (configured name.now limits.now) ≡ Err x) }
     ensures legal { OnOk result (configure (configured name.now limits.now) ≡ Ok (configured name.now limits.now)) }

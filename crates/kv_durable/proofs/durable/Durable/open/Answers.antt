@@ -7,15 +7,12 @@ use Rattle.kv_durable.proofs.Finding.{again_opened, has_read, new_opened}
 use Rattle.kv_durable.proofs.durable.Durable.open.Goals as goal
 
 pub returns-in-Ok-clause-represents : goal.returns-in-Ok-clause-represents
-returns-in-Ok-clause-represents g c = λ retraced.
+returns-in-Ok-clause-represents g c =
     let gone = c.in-Ok.ensures.ok in
     let config = c.args.config.now in
-    let knows = gone.3.retraced (sym c.opened_of.ensures.parts.3 ∙ retraced) in
+    let knows = gone.3.knows in
     let acts = acts_before knows.0 ++ acts_of gone.2 in
     (acts, subst (Represents (state_of config acts)) (sym c.opened_of.ensures.parts.0) (gone.3.represents knows.0 knows.1))
-
-pub returns-in-Ok-clause-plain : goal.returns-in-Ok-clause-plain
-returns-in-Ok-clause-plain g c = λ plain. c.opened_of.ensures.parts.3 ∙ c.in-Ok.ensures.ok.3.known (sym c.opened_of.ensures.parts.2 ∙ plain)
 
 pub returns-in-Ok-clause-restored : goal.returns-in-Ok-clause-restored
 returns-in-Ok-clause-restored g c =
@@ -40,9 +37,9 @@ returns-in-Ok-clause-reopened g c = λ works.
     (λ base entries own first lawful can there place. c.opened_of.ensures.keeps base entries c.in-Ok.ensures.seed own first lawful can (c.in-Ok.ensures.usable ∙ works) there place)
 
 pub returns-in-Ok-clause-read : goal.returns-in-Ok-clause-read
-returns-in-Ok-clause-read g c = λ retraced.
+returns-in-Ok-clause-read g c =
     let has = g.F.JournalFile.has in
     let usable = g.F.JournalFile.usable in
-    has_read has usable c.args.config.now c.args.seed c.args.file c.found_in.new.file c.in-Ok.found c.opened_of.result.durable c.opened_of.result.dropped c.opened_of.result.checkpointed c.in-Ok.ensures.ok (sym c.opened_of.ensures.parts.3 ∙ retraced)
+    has_read has usable c.args.config.now c.args.seed c.args.file c.found_in.new.file c.in-Ok.found c.opened_of.result.durable c.opened_of.result.dropped c.opened_of.result.checkpointed c.in-Ok.ensures.ok
     c.opened_of.ensures.parts.0 c.opened_of.ensures.parts.1 c.opened_of.ensures.parts.2 c.opened_of.ensures.journal.0
     (λ works base entries own first lawful can there place. c.opened_of.ensures.keeps base entries c.in-Ok.ensures.seed own first lawful can (c.in-Ok.ensures.usable ∙ works) there place)

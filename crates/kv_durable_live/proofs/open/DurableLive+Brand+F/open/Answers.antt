@@ -7,11 +7,11 @@ use Rattle.kv_durable_live.proofs.Opening.{is_read, new_from}
 use Rattle.kv_durable_live.proofs.open.DurableLive+Brand+F.open.Goals as goal
 
 pub of_read-requires : goal.of_read-requires
-of_read-requires g c = λ found.
+of_read-requires g c =
     let has = g.F.JournalFile.has in
     let usable = g.F.JournalFile.usable in
     let o = c.in-Ok.read in
-    let read = c.in-Ok.ensures.read found in (
+    let read = c.in-Ok.ensures.read in (
       read.0,
       read.1,
       subst (λ file. IsRead has usable c.args.config.now file read.0 read.1 o.durable o.dropped) (sym c.of-before.ensures)
