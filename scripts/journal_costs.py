@@ -54,8 +54,8 @@ class Opening(NamedTuple):
 class Checkpoint(NamedTuple):
     """The seconds that a checkpoint takes, those of an opening of its file through the library, and those of one by the program."""
     made: float
-    taken: float
-    retraced: float
+    by_library: float
+    by_program: float
 
 
 def puts(count: int) -> str:
@@ -133,15 +133,15 @@ def above(modes: Sequence[Put], opened: Opening, checkpointed: Optional[Checkpoi
              ("an opening takes %.2f s, above %d s", opened.took, MOST_OPENING)]
     if checkpointed is not None:
         costs += [("a checkpoint takes %.2f s, above %d s", checkpointed.made, MOST_CHECKPOINT),
-                  ("an opening of a checkpoint takes %.2f s, above %d s", checkpointed.taken, MOST_OPENING),
-                  ("an opening of a checkpoint by the program takes %.2f s, above %d s", checkpointed.retraced, MOST_OPENING)]
+                  ("an opening of a checkpoint takes %.2f s, above %d s", checkpointed.by_library, MOST_OPENING),
+                  ("an opening of a checkpoint by the program takes %.2f s, above %d s", checkpointed.by_program, MOST_OPENING)]
     return [said % (cost, most) for said, cost, most in costs if cost > most]
 
 
 def page(modes: Sequence[Put], opened: Opening, checkpointed: Optional[Checkpoint], day: str) -> str:
     rows = "\n".join("| %s | %.2f µs | %.2f µs |" % (name, *costs) for (_, name, _), costs in zip(MODES, modes))
     said = "" if checkpointed is None else f"""
-A checkpoint of {WRITES:,} stored writes takes {checkpointed.made:.2f} s through the library, and is opened there in {checkpointed.taken:.2f} s. The program, which looks for acts that lead to it, opens it in {checkpointed.retraced:.2f} s.
+A checkpoint of {WRITES:,} stored writes takes {checkpointed.made:.2f} s through the library, and is opened there in {checkpointed.by_library:.2f} s. The program opens it in {checkpointed.by_program:.2f} s.
 """
     return """# What a journal file costs
 

@@ -3,7 +3,7 @@ device fails."""
 import base64, errno, json, os, random, resource, signal, subprocess, tempfile, threading, unittest
 from typing import IO, Any, Callable
 
-from tests import journal
+from tests import journal, journal_files
 from tests.files import failing
 from tests.program import RunsTest, begun, path
 
@@ -374,7 +374,7 @@ class BehindACheckpoint(ProgramJournal):
     def begin(self, sealed: bool = False) -> None:
         """Makes the file one that begins with a checkpoint of what is stored behind the script."""
         self.run_on("", "--history", "2")
-        self.put_data(journal.checkpointed(self.data(), self.STORED, 8, 4, 4, sealed))
+        self.put_data(journal_files.checkpointed(self.data(), self.STORED, 8, 4, 4, sealed))
 
     def entries(self, dump: str) -> list[Any]:
         """What the keys have behind a script, but for the revisions."""
@@ -391,7 +391,7 @@ class BehindACheckpoint(ProgramJournal):
 
     def test_the_entries_behind_it_count(self) -> None:
         self.begin()
-        self.put_data(journal.framed(self.data(), [b"\0\0\0\0\1\1e" + b"9", b"\0\0\0\0\5" + (7).to_bytes(8, "big")]))
+        self.put_data(journal_files.framed(self.data(), [b"\0\0\0\0\1\1e" + b"9", b"\0\0\0\0\5" + (7).to_bytes(8, "big")]))
         # the floor clears c, and takes the put of d away
         self.assertEqual(self.dumped("--history", "2"), "put a Mw==\nput a NQ==\npurge d\nput e OQ==\n")
 
@@ -406,7 +406,7 @@ class BehindACheckpoint(ProgramJournal):
 
     def test_a_checkpoint_that_is_no_buckets_is_damage(self) -> None:
         self.run_on("", "--history", "2")
-        self.put_data(journal.checkpointed(self.data(), self.STORED, 8, 9, 4, False))
+        self.put_data(journal_files.checkpointed(self.data(), self.STORED, 8, 9, 4, False))
         for option in ("--dump", "--journal"):
             self.check(option, [option, self.file, "--history", "2"], 1, faults="kvbucket: FileDamaged at byte ", exact=False)
 
@@ -442,9 +442,10 @@ class BehindACheckpoint(ProgramJournal):
         # every write above the floor is stored, and this one is not
         lost = [write for write in self.STORED if write[0] != 7]
         self.run_on("", "--history", "2")
-        self.put_data(journal.checkpointed(self.data(), lost, 8, 4, 4, False))
+        at = len(self.data())
+        self.put_data(journal_files.checkpointed(self.data(), lost, 8, 4, 4, False))
         before = self.data()
-        self.assertEqual(self.run_on("put a MQ==\n", "--history", "2", wanted=1, faults="kvbucket: HasCheckpoint\n"), "")
+        self.assertEqual(self.run_on("put a MQ==\n", "--history", "2", wanted=1, faults="kvbucket: FileDamaged at byte %d\n" % at), "")
         self.assertEqual(self.data(), before)
 
 
