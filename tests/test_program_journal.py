@@ -442,7 +442,8 @@ class BehindACheckpoint(ProgramJournal):
         # every write above the floor is stored, and this one is not
         lost = [write for write in self.STORED if write[0] != 7]
         self.run_on("", "--history", "2")
-        at = len(self.data())
+        # it is told where the checkpoint begins: behind the frame of the configuration
+        at = 25 + int.from_bytes(self.data()[17:21], "big")
         self.put_data(journal_files.checkpointed(self.data(), lost, 8, 4, 4, False))
         before = self.data()
         self.assertEqual(self.run_on("put a MQ==\n", "--history", "2", wanted=1, faults="kvbucket: FileDamaged at byte %d\n" % at), "")
