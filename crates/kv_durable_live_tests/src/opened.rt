@@ -3,9 +3,7 @@
 ghost use Rattle.std.specs.Prelude.{◌≡◌};
 
 use kv_durable::Durable;
-use kv_durable_live::{
-    DurableError, DurableLive, JournalFile, LiveName, Opened, Reader, Sync,
-};
+use kv_durable_live::{DurableError, DurableLive, JournalFile, LiveName, Opened, Reader, Sync};
 use kv_file::MemoryFile;
 use kv_keys::KvError;
 use kv_model::{Config, Request};

@@ -18,8 +18,8 @@ use crate::arguments::Arguments;
 use crate::clashes::{accuse, clash, when_of};
 use crate::telling::{fail, tell_torn};
 use kv_durable_script::{
-    Durable, DurableError, Finished, Opened, Replacing, Sync as When, SystemFile,
-    SystemPlace, dump, run_durable,
+    Durable, DurableError, Finished, Opened, Replacing, Sync as When, SystemFile, SystemPlace,
+    dump, run_durable,
 };
 use kv_keys::KvError;
 use kv_model::Config;
