@@ -76,4 +76,5 @@ def read(data: bytes) -> Journal:
     while (payload := frame_at(data, seed, at)) is not None:
         entries.append(entry(payload))
         at += 8 + len(payload)
-    return Journal(seed, first[37:].decode("ascii"), *struct.unpack_from(">QQQQ", first, 5), entries, at, shows_damage(data, seed, at))
+    limits = struct.unpack_from(">QQQQ", first, 5)
+    return Journal._make([seed, first[37:].decode("ascii"), *limits, entries, at, shows_damage(data, seed, at)])
