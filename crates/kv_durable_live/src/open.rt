@@ -111,6 +111,7 @@ impl<F: JournalFile> DurableLive<Brand, F> {
             × (o.opened.opening.config ≡ config.now) × (o.opened.readers ≡ readers)) }
         ensures new { IfOk result (λ o. F.usable file ≡ true → F.has file [] [] →
             Keeps F.has F.usable (fresh config.now) [] [] o.journal × (o.opened.opening.book.began ≡ [])) }
+        ensures seed { IfOk result (λ o. F.usable file ≡ true → F.has file [] [] → o.journal.framing.seed ≡ seed) }
         ensures from { IfOk result (λ o.
             GoesOnFrom F.has F.usable config.now file o.journal o.opened.opening.book.began) }
         ensures sync { IfOk result (λ o. o.journal.appender.sync ≡ sync) }

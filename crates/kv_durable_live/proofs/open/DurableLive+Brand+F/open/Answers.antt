@@ -1,4 +1,4 @@
-use Rattle.std.proofs.Common.{[], ◌≡◌, sym, subst, true}
+use Rattle.std.proofs.Common.{[], ◌≡◌, ◌∙◌, ap, sym, subst, true}
 use Rattle.std.proofs.lemmas.Result.{IfOk-weaker}
 use Rattle.kv_durable.specs.Bases.{fresh}
 use Rattle.kv_durable.specs.Journals.{Keeps}
@@ -29,3 +29,11 @@ returns-in-Ok-clause-new g c =
 
 pub returns-in-Ok-clause-from : goal.returns-in-Ok-clause-from
 returns-in-Ok-clause-from g c = rw c.of-before.ensures at c.of_read.ensures.from
+
+pub returns-in-Ok-clause-seed : goal.returns-in-Ok-clause-seed
+returns-in-Ok-clause-seed g c =
+    let has = g.F.JournalFile.has in
+    let usable = g.F.JournalFile.usable in
+    let file = c.args.file in
+    IfOk-weaker c.of_read.result _ (λ o. usable file ≡ true → has file [] [] → o.journal.framing.seed ≡ c.args.seed)
+    (λ o same works h. ap (λ j. j.framing.seed) same ∙ (c.in-Ok.ensures.new works h).1.has_seed) c.of_read.ensures.journal
