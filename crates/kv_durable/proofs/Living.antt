@@ -1,11 +1,12 @@
 -- Lives of a durable bucket.
-use Rattle.std.proofs.Common.{◌≡◌, ◌⊎◌, ℕ, ◌^◌, ◌<◌, Bool, List, [], ◌∷◌, ◌++◌, length, refl, sym, ap, ◌∙◌, subst, inl, inr, append_assoc, append-nil}
+use Rattle.std.proofs.Common.{◌≡◌, ◌⊎◌, ℕ, ◌^◌, ◌<◌, Bool, List, [], ◌∷◌, ◌++◌, length, refl, sym, ap, ◌∙◌, subst, inl, inr, arith, append_assoc, append-nil}
 use Rattle.kv_file.specs.File.{MayLeave}
 use Rattle.kv_frames.specs.Frames.{ArePayloads}
 use Rattle.kv_frames.proofs.Fronts.{nothing_whole}
 use Rattle.kv_model.specs.Acts.{Act, IsPrefix}
 use Rattle.kv_model.specs.Configuration.{Configuration, IsLegal}
 use Rattle.kv_model.specs.State.{State, empty}
+use Rattle.kv_journal.specs.Damage.{ShowsDamage, told_end}
 use Rattle.kv_journal.specs.Entries.{AreLawful, Entry, acts_of, payloads_of}
 use Rattle.kv_durable.specs.Bases.{Base, acts_before, replaced_by}
 use Rattle.kv_durable.specs.Durables.{IsAt, IsRecorded, state_of}
@@ -181,6 +182,30 @@ module _ {F : Type 0} (has : F → List ℕ → List ℕ → Type 0) (usable : F
         there.1,
         there.2,
       )
+
+  -- behind the last entry of a file that ends there, nothing shows damage
+  pub shows_none : (state : State) (kept : List Entry) (first : Durable F) (at : IsAt has usable state kept [] first)
+      → ((base : Base) (other : ℕ) (entries : List Entry) (rest : List ℕ) → base.config ≡ at.base.config → Reads base (file_of first.journal.framing.seed at.base kept) other entries rest
+      → ShowsDamage other (length (file_of other base entries)) rest) → ⊥
+  shows_none state kept first at damaged =
+      let base = at.base in
+      let seed = first.journal.framing.seed in
+      let shown = damaged base seed kept [] refl record {
+        seed_fits = at.keeps.seed_fits;
+        whole = sym (append-nil (file_of seed base kept));
+        first = at.keeps.first;
+        each = subst (λ (es : List Entry). ArePayloads (payloads_of es)) (append-nil kept) at.keeps.payloads;
+        replaced = at.keeps.replaced;
+        lawful = subst (AreLawful base.config (acts_before base)) (append-nil kept) at.keeps.lawful;
+        ended = nothing_whole seed (length (file_of seed base kept));
+      } in
+      elim shown.3.shown [
+        | inl near ↦ none shown.0 near.1.within
+        | inr next ↦ none (told_end []) next.1.within
+      ]
+    where
+      none : (n : ℕ) → n < 0 → ⊥
+      none n h = absurd (omega (arith, h))
 
   pub watched_goes_on : (later : State → State) (old new : Durable F) → ((state : State) → Represents state old.bucket → Represents (later state) new.bucket × ((later state).acts ≡ state.acts) × ((later state).config ≡ state.config))
       → new.journal ≡ old.journal → GoesOn has usable later old new

@@ -1,5 +1,7 @@
 -- A journal whose file is replaced.
-use Rattle.std.proofs.Common.{◌≡◌, ◌⊎◌, ℕ, ◌^◌, ◌<◌, Bool, List, [], length, refl, sym, ap, ◌∙◌, subst, append-nil, inl, inr}
+use Rattle.std.proofs.Common.{◌≡◌, ◌⊎◌, ℕ, ◌^◌, ◌<◌, Bool, true, false, List, [], Result, OnErr, length, refl, sym, ap, ◌∙◌, subst, append-nil, inl, inr}
+use Rattle.std.proofs.lemmas.Bool.{true≢false}
+use Rattle.std.proofs.lemmas.Result.{on_err_weaker}
 use Rattle.kv_file.specs.Bytes.{Has}
 use Rattle.kv_file.specs.declared.replace.ReplaceFault.{ReplaceFault}
 use Rattle.kv_file.specs.declared.replace.ReplaceFault.TheVariants.{Unchanged, Unknown}
@@ -15,9 +17,14 @@ use Rattle.kv_journal.specs.Entries.{Entry}
 use Rattle.kv_durable.specs.Bases.{Base, IsLawfulBase, base_payloads, opening, opening_size, replaced_by}
 use Rattle.kv_durable.specs.Durables.{IsAt, checkpoint_at}
 use Rattle.kv_durable.specs.Files.{file_of, frames_behind}
-use Rattle.kv_durable.specs.Journals.{HasEntries, Keeps}
+use Rattle.kv_durable.specs.Journals.{HasEntries, Keeps, is_stopped}
 use Rattle.kv_durable.specs.declared.durable.Durable.{Durable}
+use Rattle.kv_durable.specs.declared.error.DurableError.{DurableError}
 use Rattle.kv_durable.specs.declared.journal.Journal.{Journal}
+
+pub by_fault : {P : Type 0} (fault : ReplaceFault) → (fault ≡ Unchanged → P) → (fault ≡ Unknown → P) → P
+by_fault Unchanged here there = here refl
+by_fault Unknown here there = there refl
 
 module _ {F : Type 0} (has : F → List ℕ → List ℕ → Type 0) (usable : F → Bool) where
   pub replaced : (was base : Base) (kept loose : List Entry) (old new : Journal F) (seed : ℕ) (bytes : List ℕ) → Keeps has usable was kept loose old → base.config ≡ was.config → IsLawfulBase base → ArePayloads (base_payloads base)
@@ -114,6 +121,25 @@ module _ {F : Type 0} (has : F → List ℕ → List ℕ → Type 0) (usable : F
     refl,
   )
 
+  -- a checkpoint that was refused leaves the old file in use, where it goes on
+  pub goes_on : {T : Type 0} (r : Result T DurableError) (old new : Durable F) → new.bucket ≡ old.bucket
+      → OnErr r (is_stopped usable new.journal ≡ false → (base : Base) (kept loose : List Entry) → Keeps has usable base kept loose old.journal → Keeps has usable base kept loose new.journal)
+      → OnErr r (is_stopped usable new.journal ≡ false → (state : State) (kept loose : List Entry) (at : IsAt has usable state kept loose old) → (next : IsAt has usable state kept loose new) × (next.base ≡ at.base))
+  goes_on {T} r old new bucket = on_err_weaker r (λ on goes. still_at old new bucket (on goes))
+
+  -- it leaves the old file, or the new one
+  pub either_left : {T : Type 0} (r : Result T DurableError) (version : Stored) (old : Durable F) → version ≡ old.bucket.version → (file : F) (seed : ℕ)
+      → OnErr r ((was : Base) (kept loose : List Entry) (acts : List Act) → Keeps has usable was kept loose old.journal → StandsFor acts version → version.config ≡ was.config
+      → HasEntries has old.journal.framing.seed was kept loose file ⊎ HasEntries has seed (replaced_by was.config acts) [] [] file)
+      → OnErr r ((state : State) (kept loose : List Entry) (at : IsAt has usable state kept loose old) → HasEntries has old.journal.framing.seed at.base kept loose file ⊎ HasEntries has seed (checkpoint_at state) [] [] file)
+  either_left {T} r version old own file seed = on_err_weaker r (λ on state ks ls at. is_left version old own state ks ls at file seed on)
+
+  -- a journal whose file was not replaced has the old one in use, or is stopped
+  pub on_or_stopped : (fault : ReplaceFault) (old new : Journal F) → (fault ≡ Unchanged → (base : Base) (kept loose : List Entry) → Keeps has usable base kept loose old → Keeps has usable base kept loose new)
+      → (fault ≡ Unknown → is_stopped usable new ≡ true) → is_stopped usable new ≡ false → (base : Base) (kept loose : List Entry) → Keeps has usable base kept loose old → Keeps has usable base kept loose new
+  on_or_stopped fault old new unchanged stops goes base kept loose keeps =
+      by_fault fault (λ e. unchanged e base kept loose keeps) (λ e. absurd (true≢false (sym (stops e) ∙ goes)))
+
   -- a version that is that of the bucket whose journal this is
   module _ (was : Base) (kept loose : List Entry) (old : Journal F) (keeps : Keeps has usable was kept loose old) (acts : List Act) (version : Stored) (stands : StandsFor acts version) (same : version.config ≡ was.config) where
     own_version : version.config ≡ old.config.config
@@ -141,6 +167,12 @@ module _ {F : Type 0} (has : F → List ℕ → List ℕ → Type 0) (usable : F
     left_by_version file seed named bytes is are on =
         subst (λ (n : ℕ). HasEntries has old.framing.seed was kept loose file ⊎ HasEntries has n (replaced_by was.config acts) [] [] file) is (on was (replaced_by was.config acts) kept loose keeps (bytes_of seed bytes are))
 
-pub by_fault : {P : Type 0} (fault : ReplaceFault) → (fault ≡ Unchanged → P) → (fault ≡ Unknown → P) → P
-by_fault Unchanged here there = here refl
-by_fault Unknown here there = there refl
+    -- what a fault leaves: the old file, or the whole new one
+    pub either_by_version : (fault : ReplaceFault) (new : Journal F) (seed named : ℕ) (bytes : List ℕ) → seed ≡ named
+        → ((as' : List Act) → StandsFor as' version → version.config ≡ old.config.config → bytes ≡ opening seed (replaced_by old.config.config as')) → new.framing ≡ old.framing
+        → (fault ≡ Unchanged → (base : Base) (ks ls : List Entry) → Keeps has usable base ks ls old → Keeps has usable base ks ls new)
+        → (fault ≡ Unknown → (before base : Base) (ks ls : List Entry) → Keeps has usable before ks ls old → bytes ≡ opening seed base
+        → HasEntries has old.framing.seed before ks ls new.appender.file ⊎ HasEntries has seed base [] [] new.appender.file)
+        → HasEntries has old.framing.seed was kept loose new.appender.file ⊎ HasEntries has named (replaced_by was.config acts) [] [] new.appender.file
+    either_by_version fault new seed named bytes is are stays unchanged unknown =
+        by_fault fault (λ e. inl (same_file was kept loose old new stays (unchanged e was kept loose keeps))) (λ e. left_by_version new.appender.file seed named bytes is are (unknown e))

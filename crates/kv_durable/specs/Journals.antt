@@ -1,10 +1,14 @@
 -- The entries of a journal, and those that are added to it.
-use Rattle.std.specs.Prelude.{◌≡◌, ℕ, ◌+◌, ◌<◌, ◌^◌, Bool, not, ◌||◌, nat_lt, nat_le, if◌then◌else◌, List, [], ◌∷◌, ◌++◌, length}
+use Rattle.std.specs.Prelude.{◌≡◌, ℕ, ◌+◌, ◌<◌, ◌^◌, Bool, false, not, ◌||◌, nat_lt, nat_le, if◌then◌else◌, List, [], ◌∷◌, ◌++◌, length}
 use Rattle.kv_file.specs.Adding.{Adds}
 use Rattle.kv_file.specs.Bytes.{Has}
+use Rattle.kv_file.specs.declared.appender.Sync.TheVariants.{Each, Every}
 use Rattle.kv_frames.specs.Frames.{ArePayloads, IsPayload, frames}
 use Rattle.kv_journal.specs.Entries.{AreLawful, Entry, acts_of, payload_of, payloads_of}
-use Rattle.kv_journal.specs.Records.{Content}
+use Rattle.kv_journal.specs.Records.{Content, did}
+use Rattle.kv_model.specs.Acts.{Wrote}
+use Rattle.kv_model.specs.Requests.{asked, write_for}
+use Rattle.kv_model.specs.declared.request.Request.{Request}
 use Rattle.kv_durable.specs.Bases.{Base, IsLawfulBase, acts_before, base_payloads}
 use Rattle.kv_durable.specs.Files.{IsBetween, file_of, frames_behind}
 use Rattle.kv_durable.specs.declared.journal.Journal.{Journal}
@@ -76,3 +80,23 @@ abbrev pub LeavesFrames : {F : Type 0} → (F → List ℕ → List ℕ → Type
 LeavesFrames has usable bytes old file = (base : Base) (kept loose entries : List Entry) → Keeps has usable base kept loose old →
     bytes ≡ frames old.framing.seed old.appender.place (payloads_of entries) →
     IsLeft has old.framing.seed base kept (loose ++ entries) file
+
+-- the record of this request was added, and all is on the disk where that is due
+pub record AddsWrite {F : Type 0} (has : F → List ℕ → List ℕ → Type 0) (usable : F → Bool) (request : Request) (old new : Journal F) : Type 0 where
+  pub bytes : List ℕ
+  pub frame : (revision : ℕ) → IsFrameOf old (did (Wrote (write_for (asked request) revision))) bytes
+  pub added : AddsFrames has usable bytes old new
+  pub each : old.appender.sync ≡ Each → new.appender.loose ≡ 0
+  pub every : (n : ℕ) → old.appender.sync ≡ Every n → 0 < n → new.appender.waiting < n
+  pub framing : new.framing ≡ old.framing
+  pub sync : new.appender.sync ≡ old.appender.sync
+
+-- the file has failed: the record of this request was not added, or in part
+pub record LeavesWrite {F : Type 0} (has : F → List ℕ → List ℕ → Type 0) (usable : F → Bool) (faults : F → ℕ) (request : Request) (old new : Journal F) : Type 0 where
+  pub bytes : List ℕ
+  pub frame : (revision : ℕ) → IsFrameOf old (did (Wrote (write_for (asked request) revision))) bytes
+  pub left : LeavesFrames has usable bytes old new.appender.file
+  pub failed : usable new.appender.file ≡ false
+  pub counted : faults old.appender.file < faults new.appender.file
+  pub framing : new.framing ≡ old.framing
+  pub sync : new.appender.sync ≡ old.appender.sync

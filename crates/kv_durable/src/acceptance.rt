@@ -7,13 +7,13 @@ ghost use Rattle.kv_single.specs.Batches.{LeadThere};
 ghost use Rattle.kv_durable.specs.Journals.{AddsFrames, LeavesFrames};
 
 use crate::durable::Durable;
-use crate::ringed::Next;
 use kv_file::{FileFault, JournalFile};
+use kv_store::Version;
 
 /// What is to be accepted: the version that it leads to, and the frames that tell it.
 #[derive(Drop)]
 pub(crate) struct Prepared {
-    pub next: Next,
+    pub next: Version,
     pub frames: Vec<u8>,
 }
 

@@ -17,7 +17,6 @@ ghost use Rattle.kv_durable.specs.declared.error.BatchError.TheVariants.{FileFau
 use crate::acceptance::Prepared;
 use crate::durable::Durable;
 use crate::error::BatchError;
-use crate::ringed::Next;
 use kv_file::JournalFile;
 use kv_keys::KvError;
 use kv_model::{BatchRefused, Request};
@@ -51,15 +50,12 @@ impl<F: JournalFile> Durable<F> {
         ensures stopped { is_stopped F.usable self.now.journal ≡ true → result ≡ Err FileFault }
     {
         self.journal.may_add()?;
-        let bucket = self.bucket.single();
+        let bucket = &self.bucket;
         let alloc = bucket.alloc();
         let (next, revision) = bucket.version().apply_all(alloc, first, rest)?;
         match self.journal.frame_of_batch(alloc, requests) {
             Ok(frames) => Ok(PreparedBatch {
-                prepared: Prepared {
-                    next: Next::apart(next),
-                    frames,
-                },
+                prepared: Prepared { next, frames },
                 first: revision,
             }),
             Err(_) => Err(BatchError::Refused(BatchRefused {
@@ -133,7 +129,7 @@ impl<F: JournalFile> Durable<F> {
     {
         match requests.split_first() {
             Some((first, rest)) => self.write_some(requests, first, rest),
-            None => Ok(self.bucket.single().version().revision()),
+            None => Ok(self.bucket.version().revision()),
         }
     }
 }

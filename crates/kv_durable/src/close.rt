@@ -83,7 +83,6 @@ impl<F: JournalFile> Durable<F> {
     {
         let Durable { bucket, journal } = self;
         let mut journal = journal;
-        let bucket = bucket.single();
         match end(bucket.alloc(), &mut journal, bucket.version()) {
             Ok(()) => Ok(journal.into_file()),
             Err(error) => Err(NotDone {

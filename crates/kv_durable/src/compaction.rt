@@ -19,7 +19,6 @@ ghost use Rattle.kv_durable.specs.declared.error.DurableError.TheVariants.{FileF
 use crate::acceptance::Prepared;
 use crate::durable::Durable;
 use crate::error::DurableError;
-use crate::ringed::Next;
 use kv_file::JournalFile;
 
 impl<F: JournalFile> Durable<F> {
@@ -35,10 +34,9 @@ impl<F: JournalFile> Durable<F> {
         ensures no_other { IfErr result IsRefusal }
     {
         self.journal.may_add()?;
-        let bucket = self.bucket.single();
-        let made = bucket.version().seal(bucket.alloc())?;
+        let bucket = &self.bucket;
+        let next = bucket.version().seal(bucket.alloc())?;
         let frames = self.journal.frame_of_seal(bucket.alloc())?;
-        let next = Next::apart(made);
         Ok(Prepared { next, frames })
     }
 
@@ -57,11 +55,10 @@ impl<F: JournalFile> Durable<F> {
         ensures no_other { IfErr result IsRefusal }
     {
         self.journal.may_add()?;
-        let bucket = self.bucket.single();
+        let bucket = &self.bucket;
         bucket.may_compact(floor)?;
-        let made = bucket.version().compact(bucket.alloc(), floor)?;
+        let next = bucket.version().compact(bucket.alloc(), floor)?;
         let frames = self.journal.frame_of_compaction(bucket.alloc(), floor)?;
-        let next = Next::apart(made);
         Ok(Prepared { next, frames })
     }
 

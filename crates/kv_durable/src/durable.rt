@@ -4,7 +4,6 @@ ghost use Rattle.std.specs.Prelude.{◌≡◌};
 
 use crate::error::DurableError;
 use crate::journal::Journal;
-use crate::ringed::Ringed;
 use kv_file::JournalFile;
 use kv_single::Bucket;
 
@@ -16,7 +15,7 @@ use kv_single::Bucket;
 /// Reads and watches go on. The act whose call failed may be in the file, or not: an opening tells.
 #[derive(Drop)]
 pub struct Durable<F: JournalFile> {
-    pub(crate) bucket: Ringed,
+    pub(crate) bucket: Bucket,
     pub(crate) journal: Journal<F>,
 }
 
@@ -32,7 +31,7 @@ impl<F: JournalFile> Durable<F> {
     pub fn bucket(&self) -> &Bucket
         ensures { result.now ≡ self.now.bucket }
     {
-        self.bucket.single()
+        &self.bucket
     }
 
     /// The journal, which tells of the file.
@@ -46,10 +45,7 @@ impl<F: JournalFile> Durable<F> {
     pub fn from_parts(bucket: Bucket, journal: Journal<F>) -> Durable<F>
         ensures { (result.bucket ≡ bucket) × (result.journal ≡ journal) }
     {
-        Durable {
-            bucket: Ringed::new(bucket),
-            journal,
-        }
+        Durable { bucket, journal }
     }
 
     /// The bucket, and its journal.
@@ -57,6 +53,6 @@ impl<F: JournalFile> Durable<F> {
         ensures { (result.0 ≡ self.bucket) × (result.1 ≡ self.journal) }
     {
         let Durable { bucket, journal } = self;
-        (bucket.into_single(), journal)
+        (bucket, journal)
     }
 }

@@ -117,7 +117,7 @@ impl<F: JournalFile> Journal<F> {
             (λ v. v.items ≡ frames self.now.framing.seed self.now.appender.place (payload.now ∷ [])) }
         ensures short { IfOk result (λ v. length v.items < 2 ^ 33) }
     {
-        let mut frame = Vec::new(alloc);
+        let mut frame = Vec::with_capacity(alloc, 8 + payload.len())?;
         self.framing
             .push_frame(&mut frame, self.appender.place(), payload)?;
         Ok(frame)

@@ -12,6 +12,7 @@ ghost use Rattle.kv_model.specs.Acts.{Act, IsPrefix, Wrote, Write, floor_of, wri
 ghost use Rattle.kv_model.specs.Batches.{accept_all, after_all, after_batch};
 ghost use Rattle.kv_model.specs.Configuration.{Configuration, IsLegal};
 ghost use Rattle.kv_model.specs.Given.{given, item_revisions};
+ghost use Rattle.kv_journal.specs.Damage.{ShowsDamage};
 ghost use Rattle.kv_journal.specs.Entries.{AreLawful, Entry, acts_of, payloads_of};
 ghost use Rattle.kv_model.specs.Requests.{asked};
 ghost use Rattle.kv_model.specs.State.{State, empty};
@@ -123,7 +124,8 @@ pub fn a_batch_comes_back_whole<F: JournalFile>()
 {}
 
 /// A crash in a checkpoint leaves the old file or the new one. An opening of the new one answers the same bucket, and so does one
-/// of the old one where nothing was loose, as under `Sync::Each`; where something was, `a_second_life` says what comes back.
+/// of the old one where nothing was loose, as under `Sync::Each`; where something was, `a_second_life` says what comes back. Neither
+/// is refused as damaged: what an opening tells by that is not so of a file that ends behind its last entry.
 pub fn a_crash_in_a_checkpoint<F: JournalFile>()
     ensures new_file { (state : State) (seed : ℕ) (entries : List Entry) (second : Durable F) (dropped : ℕ) (rest : List ℕ) →
         seed < 2 ^ 64 →
@@ -133,6 +135,11 @@ pub fn a_crash_in_a_checkpoint<F: JournalFile>()
         (at : IsAt F.has F.usable state kept [] first) →
         IsReopened F.has F.usable at.base (file_of first.journal.framing.seed at.base kept) entries rest second dropped →
         Represents (state_of state.config state.acts) second.bucket × (entries ≡ kept) × (dropped ≡ 0) }
+    ensures not_damaged { (state : State) (kept : List Entry) (first : Durable F) →
+        (at : IsAt F.has F.usable state kept [] first) →
+        ((base : Base) (other : ℕ) (entries : List Entry) (rest : List ℕ) → base.config ≡ at.base.config →
+        Reads base (file_of first.journal.framing.seed at.base kept) other entries rest →
+        ShowsDamage other (length (file_of other base entries)) rest) → ⊥ }
 {}
 
 /// Each call that is answered goes on: one that was recorded, as a write, a batch, a seal and a compaction; a sync; a checkpoint,

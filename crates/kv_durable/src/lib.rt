@@ -14,7 +14,6 @@ pub mod laws;
 mod open;
 mod records;
 mod recovery;
-mod ringed;
 mod shrinking;
 mod start;
 mod watch;

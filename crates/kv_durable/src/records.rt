@@ -1,12 +1,12 @@
 //! The frames of what is told next.
 
-ghost use Rattle.std.specs.Prelude.{◌≡◌, ◌<◌, ◌^◌, ◌∷◌, [], ℕ, List, length, map, IfOk};
+ghost use Rattle.std.specs.Prelude.{◌≡◌, ◌⊎◌, ◌<◌, ◌^◌, ◌∷◌, [], ℕ, List, false, length, map, IfOk, OnErr, OnOk};
 ghost use Rattle.kv_frames.specs.Frames.{ArePayloads, frames};
 ghost use Rattle.kv_journal.specs.Entries.{payloads_of};
 ghost use Rattle.kv_journal.specs.Records.{act_records, asked_records, closed, did, did_all};
 ghost use Rattle.kv_model.specs.Acts.{Act, Compact, Seal, Wrote};
 ghost use Rattle.kv_model.specs.Requests.{asked, value_of, write_for};
-ghost use Rattle.kv_durable.specs.Journals.{IsFrameOf};
+ghost use Rattle.kv_durable.specs.Journals.{AddsWrite, IsFrameOf, LeavesWrite, is_stopped};
 
 use crate::journal::Journal;
 use kv_file::JournalFile;
@@ -24,6 +24,18 @@ impl<F: JournalFile> Journal<F> {
     {
         let payload = encode_request(alloc, self.loose_ahead(), request)?;
         self.frame_of(alloc, &payload)
+    }
+
+    // Adds the record of an accepted request. Where the file fails, the journal is stopped.
+    pub(crate) fn add_write(&mut self, alloc: Global, request: &Request) -> Result<(), AllocError>
+        requires goes { is_stopped F.usable self.old ≡ false }
+        requires short { length (value_of (asked request.now)) < 2 ^ 31 }
+        ensures ok { OnOk result (AddsWrite F.has F.usable request.now self.old self.new) }
+        ensures err { OnErr result ((self.new ≡ self.old)
+            ⊎ LeavesWrite F.has F.usable F.faults request.now self.old self.new) }
+    {
+        let frame = self.frame_of_write(alloc, request)?;
+        self.add(&frame).map_err(|_| AllocError)
     }
 
     /// The frame of a batch of accepted requests that is added next.

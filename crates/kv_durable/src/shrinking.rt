@@ -143,7 +143,7 @@ impl<F: JournalFile> Durable<F> {
         ensures no_other { IfErr result IsRefusal }
         ensures sync { self.new.journal.appender.sync ≡ self.old.journal.appender.sync }
     {
-        let bucket = self.bucket.single();
+        let bucket = &self.bucket;
         self.journal
             .replace_if_large(bucket.alloc(), place, seed, bucket.version())
     }

@@ -42,7 +42,7 @@ impl<F: JournalFile> Durable<F> {
         ensures refused { IfErr result (λ e. (e ≡ NoSuchWatch) × ((state : State) → Represents state self.now.bucket →
             Refused e ≡ answer_to state (Take number))) }
     {
-        self.bucket.single().peek(number)
+        self.bucket.peek(number)
     }
 
     /// Hands out the next item of a watch, lent from the bucket, and moves the watch on behind it, as `Bucket::take` does.
@@ -86,6 +86,6 @@ impl<F: JournalFile> Durable<F> {
         ensures highest { (state : State) → Represents state self.now.bucket → (floor : ℕ) → result < floor →
             (e : AnError) × (may_compact floor state ≡ Err e) }
     {
-        self.bucket.single().reach()
+        self.bucket.reach()
     }
 }

@@ -62,7 +62,7 @@ fn encode_write(
     ensures items { IfOk result (λ v. v.items ≡ to_be_bytes w32 loose ++ write_record op key.now value.now) }
     ensures payload { IfOk result (λ v. IsPayload v.items) }
 {
-    let mut bytes = Vec::new(alloc);
+    let mut bytes = Vec::with_capacity(alloc, 6 + bytes_of(key).len() + value.len())?;
     bytes.extend_from_slice(&loose.to_be_bytes())?;
     push_write(&mut bytes, op, key, value)?;
     Ok(bytes)

@@ -1,6 +1,6 @@
 //! Writes to a bucket, one or several in one step.
 
-ghost use Rattle.std.specs.Prelude.{◌≡◌, IfErr, IfOk, OnErr, OnOk, List, map};
+ghost use Rattle.std.specs.Prelude.{◌≡◌, ◌⊎◌, IfErr, IfOk, OnErr, OnOk, List, map};
 ghost use Rattle.kv_keys.specs.Outcome.{Refuses};
 ghost use Rattle.kv_keys.specs.declared.error.KvError.TheVariants.{OutOfMemory};
 ghost use Rattle.kv_model.specs.Acceptance.{accept};
@@ -18,6 +18,7 @@ use crate::bucket::Bucket;
 use kv_keys::KvError;
 use kv_model::{BatchRefused, Request};
 use kv_store::Version;
+use kv_trie::{Alone, Companion};
 
 impl Bucket {
     /// Does what is asked, and answers the revision of the write. A refused request changes nothing and uses no
@@ -29,7 +30,26 @@ impl Bucket {
             Refuses e (accept state.config (asked request.now) state.acts)) }
         ensures unchanged { OnErr result (self.new ≡ self.old) }
     {
-        self.version.write(self.alloc, request)?;
+        self.write_with(request, &mut Alone)
+    }
+
+    /// As `write`, and lets the companion happen, or does neither: it happens once the write is accepted and has all its
+    /// memory, so nothing can be refused behind it. Where the companion is refused, want of memory is answered.
+    pub fn write_with<C: Companion>(
+        &mut self,
+        request: &Request,
+        companion: &mut C,
+    ) -> Result<u64, KvError>
+        requires ready { C.ready companion.old }
+        ensures ok { IfOk result (λ revision. IsStep self.old (Write request.now) (Revision revision) self.new) }
+        ensures done { OnOk result (C.done companion.old companion.new) }
+        ensures refused { IfErr result (λ e. (state : State) → Represents state self.old →
+            Refuses e (accept state.config (asked request.now) state.acts)) }
+        ensures unchanged { OnErr result (self.new ≡ self.old) }
+        ensures kept { IfErr result (λ e. (companion.new ≡ companion.old)
+            ⊎ ((e ≡ OutOfMemory) × C.kept companion.old companion.new)) }
+    {
+        self.version.write_with(self.alloc, request, companion)?;
         Ok(self.version.revision())
     }
 

@@ -12,6 +12,7 @@ use std::test::Fail;
 
 mod asking;
 mod batches;
+mod companions;
 mod making;
 mod passing;
 mod rows;

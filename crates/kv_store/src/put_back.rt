@@ -7,7 +7,7 @@ use crate::key_history::{next_kept, revisions_of};
 use crate::version::Version;
 use crate::write::{Accepted, put_pairs};
 use kv_model::Write;
-use kv_trie::NewPair;
+use kv_trie::{Alone, NewPair};
 use std::alloc::{AllocError, Global};
 use std::sync::Arc;
 
@@ -36,7 +36,14 @@ impl Version {
         };
         let (of_key, of_revision) = accepted.pairs(alloc)?;
         let inner = Arc::make_mut(&mut self.inner)?;
-        put_pairs(alloc, inner, NewPair::Owned(of_key), of_revision, values)
+        put_pairs(
+            alloc,
+            inner,
+            NewPair::Owned(of_key),
+            of_revision,
+            values,
+            &mut Alone,
+        )
     }
 
     /// Gives a version these numbers: its last revision, how many entries are retained, its floor, and whether it is

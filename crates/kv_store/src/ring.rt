@@ -18,7 +18,7 @@ use crate::version::Version;
 use crate::write::Accepted;
 use kv_keys::{Key, KvError};
 use kv_model::{Request, Write};
-use kv_trie::NewPair;
+use kv_trie::{Alone, NewPair};
 use std::alloc::{AllocError, Global};
 use std::marker::Model;
 use std::mem;
@@ -363,7 +363,13 @@ impl Made {
             of_revision,
             values,
         } = self;
-        version.put(alloc, NewPair::Shared(of_key), of_revision, values)
+        version.put(
+            alloc,
+            NewPair::Shared(of_key),
+            of_revision,
+            values,
+            &mut Alone,
+        )
     }
 }
 

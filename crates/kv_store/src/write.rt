@@ -1,12 +1,13 @@
 //! Accepted writes: what is stored with each, and how it is put into both tries, of a new version or of a version
 //! itself.
 
-ghost use Rattle.std.specs.Prelude.{◌≡◌, ◌+◌, ◌<◌, ◌^◌, ◌-◌, ◌≤◌, if◌then◌else◌, ◌∷◌, ◌++◌, List, IsTrue, IfErr, IfOk, OnErr, OnOk, ℕ, length, Some, [], map};
+ghost use Rattle.std.specs.Prelude.{◌≡◌, ◌+◌, ◌<◌, ◌^◌, ◌-◌, ◌≤◌, if◌then◌else◌, ◌∷◌, ◌++◌, ◌⊎◌, List, IsTrue, IfErr, IfOk, OnErr, OnOk, ℕ, length, Some, [], map};
 ghost use Rattle.std.specs.Arc.{arc_value};
 ghost use Rattle.std.specs.Map.{lookup};
 ghost use Rattle.std.specs.Str.{bytes_eq};
 ghost use Rattle.kv_keys.specs.Grammar.{is_key};
 ghost use Rattle.kv_keys.specs.Outcome.{Refuses};
+ghost use Rattle.kv_keys.specs.declared.error.KvError.TheVariants.{OutOfMemory};
 ghost use Rattle.kv_model.specs.Acceptance.{accept, next_write};
 ghost use Rattle.kv_model.specs.Acts.{Act, Wrote, Write as AWrite, writes_of};
 ghost use Rattle.kv_model.specs.Requests.{asked, write_for};
@@ -24,7 +25,7 @@ use crate::rev::Rev;
 use crate::version::{Inner, Version};
 use kv_keys::{Key, KvError};
 use kv_model::{BatchRefused, Request, Write};
-use kv_trie::{NewPair, put_both};
+use kv_trie::{Alone, Companion, NewPair, put_both};
 use std::alloc::{AllocError, Global};
 use std::sync::Arc;
 
@@ -90,28 +91,44 @@ impl Version {
         })
     }
 
-    // Adds the write that is accepted, or changes nothing.
-    pub(crate) fn add(&mut self, alloc: Global, accepted: Accepted) -> Result<(), AllocError>
+    // Adds the write that is accepted, and lets the companion happen, or does neither.
+    fn add<C: Companion>(
+        &mut self,
+        alloc: Global,
+        accepted: Accepted,
+        companion: &mut C,
+    ) -> Result<(), AllocError>
         requires room { self.old.last < self.old.config.revision_limit }
         requires small { accepted.write.revision < 2 ^ 32 }
         requires revision { accepted.write.revision ≡ self.old.last + 1 }
         requires kept { accepted.kept.items ≡ kept_after accepted.write self.old }
         requires values { accepted.values ≡ values_after accepted.write self.old }
+        requires ready { C.ready companion.old }
         ensures ok { OnOk result (HasOneMore accepted.write self.old self.new) }
+        ensures done { OnOk result (C.done companion.old companion.new) }
         ensures unchanged { OnErr result (self.new ≡ self.old) }
+        ensures kept { OnErr result ((companion.new ≡ companion.old) ⊎ C.kept companion.old companion.new) }
     {
         let values = accepted.values;
         let (of_key, of_revision) = accepted.pairs(alloc)?;
-        self.put(alloc, NewPair::Owned(of_key), of_revision, values)
+        self.put(
+            alloc,
+            NewPair::Owned(of_key),
+            of_revision,
+            values,
+            companion,
+        )
     }
 
-    // Adds the write of this pair of its revision, with this pair of its key and so many entries, or changes nothing.
-    pub(crate) fn put(
+    // Adds the write of this pair of its revision, with this pair of its key and so many entries, and lets the companion
+    // happen, or does neither.
+    pub(crate) fn put<C: Companion>(
         &mut self,
         alloc: Global,
         of_key: NewPair<Key, KeyHistory>,
         of_revision: Arc<(Rev, Write)>,
         values: u64,
+        companion: &mut C,
     ) -> Result<(), AllocError>
         requires room { self.old.last < self.old.config.revision_limit }
         requires number { (arc_value of_revision).0 ≡ (arc_value of_revision).1.revision }
@@ -120,11 +137,14 @@ impl Version {
         requires kept { (pair_of of_key).1.revisions ≡ kept_after (arc_value of_revision).1 self.old }
         requires last { (pair_of of_key).1.last ≡ (arc_value of_revision).1 }
         requires values { values ≡ values_after (arc_value of_revision).1 self.old }
+        requires ready { C.ready companion.old }
         ensures ok { OnOk result (HasOneMore (arc_value of_revision).1 self.old self.new) }
+        ensures done { OnOk result (C.done companion.old companion.new) }
         ensures unchanged { OnErr result (self.new ≡ self.old) }
+        ensures kept { OnErr result ((companion.new ≡ companion.old) ⊎ C.kept companion.old companion.new) }
     {
         let inner = Arc::make_mut(&mut self.inner)?;
-        put_pairs(alloc, inner, of_key, of_revision, values)
+        put_pairs(alloc, inner, of_key, of_revision, values, companion)
     }
 
     // An equal version, whose parts nobody else has: they are changed where they lie. A snapshot would add an owner to
@@ -157,7 +177,7 @@ impl Version {
     {
         let accepted: Accepted = self.accepted(alloc, request)?;
         let mut next = self.with_own_inner(alloc)?;
-        next.add(alloc, accepted)?;
+        next.add(alloc, accepted, &mut Alone)?;
         Ok(next)
     }
 
@@ -173,8 +193,31 @@ impl Version {
             Refuses e (accept self.old.config (asked request.now) acts)) }
         ensures unchanged { OnErr result (self.new ≡ self.old) }
     {
+        self.write_with(alloc, request, &mut Alone)
+    }
+
+    /// As `write`, and lets the companion happen, or does neither. It happens once all that can be refused is done: the
+    /// write is accepted, and has its memory. Where the companion is refused, want of memory is answered.
+    pub fn write_with<C: Companion>(
+        &mut self,
+        alloc: Global,
+        request: &Request,
+        companion: &mut C,
+    ) -> Result<(), KvError>
+        requires ready { C.ready companion.old }
+        ensures config { OnOk result (self.new.config ≡ self.old.config) }
+        ensures ok { OnOk result ((acts : List Act) → StandsFor acts self.old →
+            (w : AWrite)
+            × ((accept self.old.config (asked request.now) acts ≡ Ok w) × StandsFor (acts ++ Wrote w ∷ []) self.new)) }
+        ensures done { OnOk result (C.done companion.old companion.new) }
+        ensures refused { IfErr result (λ e. (acts : List Act) → StandsFor acts self.old →
+            Refuses e (accept self.old.config (asked request.now) acts)) }
+        ensures unchanged { OnErr result (self.new ≡ self.old) }
+        ensures kept { IfErr result (λ e. (companion.new ≡ companion.old)
+            ⊎ ((e ≡ OutOfMemory) × C.kept companion.old companion.new)) }
+    {
         let accepted = self.accepted(alloc, request)?;
-        self.add(alloc, accepted)?;
+        self.add(alloc, accepted, companion)?;
         Ok(())
     }
 
@@ -245,17 +288,19 @@ impl Version {
 }
 
 // Puts the write into the trie of revisions, and into that of keys what is stored of its key then; it is the last of all
-// then, and there are so many entries. Or it changes nothing.
-pub(crate) fn put_pairs(
+// then, and there are so many entries. The companion happens with it. Or it does neither.
+pub(crate) fn put_pairs<C: Companion>(
     alloc: Global,
     inner: &mut Inner,
     of_key: NewPair<Key, KeyHistory>,
     of_revision: Arc<(Rev, Write)>,
     values: u64,
+    companion: &mut C,
 ) -> Result<(), AllocError>
     requires keys { length inner.old.by_key < 2 ^ 32 - 1 }
     requires writes { length inner.old.by_revision < 2 ^ 32 - 1 }
     requires number { (arc_value of_revision).0 ≡ (arc_value of_revision).1.revision }
+    requires ready { C.ready companion.old }
     ensures found { OnOk result ((q : List ℕ) → lookup (λ k. bytes_eq q k) (kept_entries inner.new.by_key) ≡
         (if bytes_eq (pair_of of_key).0 q then Some (pair_of of_key).1.revisions else
         lookup (λ k. bytes_eq q k) (kept_entries inner.old.by_key))) }
@@ -270,7 +315,9 @@ pub(crate) fn put_pairs(
       last = (arc_value of_revision).1.revision;
       values = values;
     }) }
+    ensures done { OnOk result (C.done companion.old companion.new) }
     ensures unchanged { OnErr result (inner.new ≡ inner.old) }
+    ensures kept { OnErr result ((companion.new ≡ companion.old) ⊎ C.kept companion.old companion.new) }
 {
     let revision = of_revision.1.revision();
     put_both(
@@ -279,6 +326,7 @@ pub(crate) fn put_pairs(
         of_key,
         &mut inner.by_revision,
         NewPair::Shared(of_revision),
+        companion,
     )
     .map_err(|_| AllocError)?;
     inner.last = revision;

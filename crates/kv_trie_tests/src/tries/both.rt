@@ -1,7 +1,7 @@
 //! Puts into two tries: both change, or neither.
 
 use super::*;
-use kv_trie::{NewPair, put_both};
+use kv_trie::{Alone, NewPair, put_both};
 use std::sync::Arc;
 
 // The names are the keys of the one trie and of the other, in which those of one length have one place. The first and
@@ -29,7 +29,14 @@ fn put_in_both(alloc: Global, both: &mut Both, text: &str, value: u32) -> Result
     if both.keys.len() < MANY && both.shorts.len() < MANY {
         let of_key = NewPair::Owned((key, value));
         let of_short = NewPair::Shared(Arc::new(alloc, (short, value))?);
-        put_both(alloc, &mut both.keys, of_key, &mut both.shorts, of_short)
+        put_both(
+            alloc,
+            &mut both.keys,
+            of_key,
+            &mut both.shorts,
+            of_short,
+            &mut Alone,
+        )
     } else {
         Err(KvError::JournalFull)
     }

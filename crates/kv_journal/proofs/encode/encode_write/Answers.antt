@@ -11,8 +11,8 @@ returns-clause-payload c =
     omega (
       arith,
       ap len c.in_ok-extend_from_slice.ensures.items,
-      length-append c.new-bytes.result.items c.to_be_bytes.result,
-      ap len c.new-bytes.ensures.items,
+      length-append c.in_ok-bytes.bytes.items c.to_be_bytes.result,
+      ap len c.in_ok-bytes.ensures.items,
       ap len c.to_be_bytes.ensures,
     ) in
     let all : length c.push_write.new.out.items ≡ 6 + length c.args.key.now + length c.args.value.now =

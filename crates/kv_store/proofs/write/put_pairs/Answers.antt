@@ -13,17 +13,17 @@ use Rattle.kv_store.proofs.Outcomes.{was_ok}
 use Rattle.kv_store.proofs.write.put_pairs.Goals as goal
 
 pub returns-clause-found : goal.returns-clause-found
-returns-clause-found c = λ q.
+returns-clause-found g c = λ q.
     let done = rw (was_ok _ c.put_both.result c.map_err.result c.in_ok-map_err.was c.map_err.ensures.cases) at c.put_both.ensures.both in
     more_by_bytes (λ v. v.revisions) (pair_of c.args.of_key).0 q (pair_of c.args.of_key).1 c.args.inner.now.by_key c.put_both.new.first (done.0.1 q)
 
 pub returns-clause-last : goal.returns-clause-last
-returns-clause-last c = λ q.
+returns-clause-last g c = λ q.
     let done = rw (was_ok _ c.put_both.result c.map_err.result c.in_ok-map_err.was c.map_err.ensures.cases) at c.put_both.ensures.both in
     more_by_bytes (λ v. v.last) (pair_of c.args.of_key).0 q (pair_of c.args.of_key).1 c.args.inner.now.by_key c.put_both.new.first (done.0.1 q)
 
 pub returns-clause-len : goal.returns-clause-len
-returns-clause-len c =
+returns-clause-len g c =
     let done = rw (was_ok _ c.put_both.result c.map_err.result c.in_ok-map_err.was c.map_err.ensures.cases) at c.put_both.ensures.both in
     omega (
       arith,
@@ -34,7 +34,7 @@ returns-clause-len c =
     )
 
 pub returns-clause-put : goal.returns-clause-put
-returns-clause-put c =
+returns-clause-put g c =
     let done = rw (was_ok _ c.put_both.result c.map_err.result c.in_ok-map_err.was c.map_err.ensures.cases) at c.put_both.ensures.both in
     let old = c.args.inner.now.by_revision in
     let w : Write = (arc_value c.args.of_revision).1 in

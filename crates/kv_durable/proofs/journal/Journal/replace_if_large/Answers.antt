@@ -1,7 +1,6 @@
-use Rattle.std.proofs.Common.{◌≡◌, ◌∙◌, ◌*◌, ◌<◌, ◌≤◌, ℕ, Err, ap, arith, inl, length, subst, sym}
-use Rattle.std.proofs.lemmas.Bool.{true≢false}
+use Rattle.std.proofs.Common.{◌≡◌, ◌∙◌, ◌*◌, ◌<◌, ◌≤◌, ℕ, Err, ap, arith, length, subst}
 use Rattle.kv_file.proofs.Added.{when_err}
-use Rattle.kv_durable.proofs.Replacing.{by_fault, by_version, left_by_version, same_file, size_of}
+use Rattle.kv_durable.proofs.Replacing.{by_version, either_by_version, on_or_stopped, size_of}
 use Rattle.kv_durable.proofs.journal.Journal.replace_if_large.Goals as goal
 
 pub returns-in_err-bytes-clause-goes_on : goal.returns-in_err-bytes-clause-goes_on
@@ -26,20 +25,16 @@ returns-in_err-replace-clause-large g c = λ _ was kept loose acts keeps stands 
     subst (λ (n : ℕ). 2 * n < c.args.self.now.appender.place) (c.len.ensures ∙ len ∙ size) (c.has_twice.ensures.yes c.if-not-has_twice.false)
 
 pub returns-in_err-replace-clause-goes_on : goal.returns-in_err-replace-clause-goes_on
-returns-in_err-replace-clause-goes_on g c = when_err c.from_residual-in_err-replace.result (λ goes base ks ls keeps.
+returns-in_err-replace-clause-goes_on g c =
     let replaced = c.in_err-replace.ensures in
-    by_fault c.in_err-replace.field-0.0 (λ e. replaced.unchanged (ap Err e) base ks ls keeps) (λ e. absurd (true≢false (sym (replaced.stops (ap Err e)) ∙ goes))))
+    when_err c.from_residual-in_err-replace.result
+    (on_or_stopped g.F.JournalFile.has g.F.JournalFile.usable c.in_err-replace.field-0.0 c.args.self.now c.replace.new.self (λ e. replaced.unchanged (ap Err e)) (λ e. replaced.stops (ap Err e)))
 
 pub returns-in_err-replace-clause-either : goal.returns-in_err-replace-clause-either
 returns-in_err-replace-clause-either g c = when_err c.from_residual-in_err-replace.result (λ was kept loose acts keeps stands same.
-    let has = g.F.JournalFile.has in
-    let usable = g.F.JournalFile.usable in
-    let old = c.args.self.now in
     let replaced = c.in_err-replace.ensures in
-    by_fault c.in_err-replace.field-0.0
-    (λ e. inl (same_file has usable was kept loose old c.replace.new.self replaced.stays (replaced.unchanged (ap Err e) was kept loose keeps)))
-    (λ e. left_by_version has usable was kept loose old keeps acts c.args.version.now stands same c.replace.new.self.appender.file c.new-next.result.seed c.args.seed c.in_ok-bytes.bytes.items c.new-next.ensures
-    c.in_ok-bytes.ensures.items (λ before base ks ls k is. replaced.unknown (ap Err e) before base ks ls k is)))
+    either_by_version g.F.JournalFile.has g.F.JournalFile.usable was kept loose c.args.self.now keeps acts c.args.version.now stands same c.in_err-replace.field-0.0 c.replace.new.self c.new-next.result.seed c.args.seed
+    c.in_ok-bytes.bytes.items c.new-next.ensures c.in_ok-bytes.ensures.items replaced.stays (λ e. replaced.unchanged (ap Err e)) (λ e. replaced.unknown (ap Err e)))
 
 pub returns-clause-large : goal.returns-clause-large
 returns-clause-large g c = λ _ was kept loose acts keeps stands same.
