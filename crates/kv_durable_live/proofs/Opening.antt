@@ -1,8 +1,11 @@
 -- What an opening of what was read goes on from.
 use Rattle.std.proofs.Common.{◌≡◌, ◌⊎◌, ℕ, Bool, true, false, List, [], ◌∷◌, ◌++◌, Result, Ok, Err, refl, sym, ap, ◌∙◌, subst, append-nil, inl, inr}
-use Rattle.std.specs.Prelude.{IfOk}
+use Rattle.std.specs.Prelude.{IfOk, IsOk}
+use Rattle.kv_keys.specs.Outcome.{Refuses}
+use Rattle.kv_keys.specs.declared.error.KvError.{KvError}
+use Rattle.kv_keys.specs.declared.error.KvError.TheVariants.{OutOfMemory}
 use Rattle.kv_bucket.specs.Keeping as keeping
-use Rattle.kv_bucket.specs.Keeping.{KeeperState}
+use Rattle.kv_bucket.specs.Keeping.{KeeperState, may_open, then_readers}
 use Rattle.kv_durable.specs.Bases.{Base, acts_before, fresh}
 use Rattle.kv_durable.specs.Durables.{state_of}
 use Rattle.kv_durable.specs.Files.{Reads}
@@ -14,12 +17,21 @@ use Rattle.kv_durable_live.specs.Openings.{AreRead, GoesOnFrom, IsRead}
 use Rattle.kv_durable_live.specs.Sharing.{IsAt}
 use Rattle.kv_journal.specs.Entries.{Entry, acts_of}
 use Rattle.kv_model.specs.Acts.{Act}
-use Rattle.kv_model.specs.Configuration.{Configuration}
+use Rattle.kv_model.specs.Configuration.{Configuration, configure}
 use Rattle.kv_single.specs.Held.{Represents}
 
 pub both_ok : {X E : Type 0} (r : Result X E) (P Q R : X → Type 0) → ((x : X) → P x → Q x → R x) → IfOk r P → IfOk r Q → IfOk r R
 both_ok (Ok x) P Q R f p q = f x p q
 both_ok (Err e) P Q R f p q = tt
+
+-- an opening that may be made is refused for want of memory alone
+pub refuses_opening : (config : Configuration) (readers : ℕ) (x : KvError) → may_open config readers ≡ Ok config → Refuses x (configure config) → Refuses x (may_open config readers)
+refuses_opening config readers x may refuses = only x (configure config) refuses may
+  where
+    only : (x : KvError) (o : Result Configuration KvError) → Refuses x o → then_readers readers o ≡ Ok config → Refuses x (then_readers readers o)
+    only OutOfMemory o r m = subst (λ (p : Result Configuration KvError). IsOk p) (sym m) refl
+    only _ (Ok c) r m = absurd cc
+    only _ (Err d) r m = absurd cc
 
 none_or_some : (bytes : List ℕ) → (bytes ≡ []) ⊎ (bytes ≡ [] → ⊥)
 none_or_some [] = inl refl

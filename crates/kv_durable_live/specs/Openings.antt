@@ -1,10 +1,14 @@
 -- What an opening goes on from.
-use Rattle.std.specs.Prelude.{◌≡◌, ℕ, Bool, true, List, [], ◌++◌}
+use Rattle.std.specs.Prelude.{◌≡◌, ℕ, Bool, true, List, [], ◌++◌, Result}
+use Rattle.kv_keys.specs.Outcome.{Refuses}
+use Rattle.kv_keys.specs.declared.error.KvError.{KvError}
 use Rattle.kv_durable.specs.Bases.{Base, acts_before, fresh}
 use Rattle.kv_durable.specs.Files.{Reads}
 use Rattle.kv_durable.specs.Journals.{Keeps}
 use Rattle.kv_durable.specs.Openings.{HasRead}
 use Rattle.kv_durable.specs.declared.durable.Durable.{Durable}
+use Rattle.kv_durable.specs.declared.error.DurableError.{DurableError}
+use Rattle.kv_durable.specs.declared.error.DurableError.TheVariants.{Refused}
 use Rattle.kv_durable.specs.declared.journal.Journal.{Journal}
 use Rattle.kv_journal.specs.Entries.{Entry, acts_of}
 use Rattle.kv_model.specs.Acts.{Act}
@@ -35,3 +39,7 @@ GoesOnFrom has usable config file journal acts = usable file ≡ true → (kept 
     × Keeps has usable base entries [] journal × (kept ++ loose ≡ [] → (entries ≡ []) × (base ≡ fresh config))
     × ((kept ++ loose ≡ [] → ⊥) → (rest : List ℕ) × Reads base (kept ++ loose) journal.framing.seed entries rest)
     × IsPlainWhere config (kept ++ loose) base
+
+-- the error is the refusal of this outcome, or want of memory where it refuses nothing
+abbrev pub IsRefusedBy : {X : Type 0} → Result X KvError → DurableError → Type 0
+IsRefusedBy {X} outcome error = (x : KvError) × (error ≡ Refused x) × Refuses x outcome

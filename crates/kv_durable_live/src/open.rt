@@ -1,16 +1,21 @@
 //! Opening a durable bucket that threads share.
 
-ghost use Rattle.std.specs.Prelude.{◌≡◌, ◌++◌, ℕ, List, [], Ok, All, length, true, IfErr, IfOk};
+ghost use Rattle.std.specs.Prelude.{◌≡◌, ◌≢◌, ◌<◌, ◌++◌, ℕ, List, [], Ok, All, length, true, IfErr, IfOk};
+ghost use Rattle.kv_keys.specs.Outcome.{Refuses};
+ghost use Rattle.kv_keys.specs.declared.error.KvError.{KvError as AnError};
 ghost use Rattle.kv_bucket.specs.Keeping.{may_open};
+ghost use Rattle.kv_bucket.specs.ReaderState.{IsUnread};
 ghost use Rattle.kv_durable.specs.Bases.{Base, acts_before, fresh};
 ghost use Rattle.kv_durable.specs.Durables.{state_of};
 ghost use Rattle.kv_durable.specs.Files.{Reads, file_of};
 ghost use Rattle.kv_durable.specs.Journals.{Keeps};
 ghost use Rattle.kv_durable.specs.Refusals.{IsDamaged};
-ghost use Rattle.kv_durable_live.specs.Openings.{GoesOnFrom, IsRead};
+ghost use Rattle.kv_durable.specs.declared.error.DurableError.TheVariants.{FileBusy, FileFault, OtherBucket, Refused};
+ghost use Rattle.kv_durable_live.specs.Openings.{GoesOnFrom, IsRead, IsRefusedBy};
 ghost use Rattle.kv_durable_live.specs.Sharing.{IsAt};
 ghost use Rattle.kv_journal.specs.Damage.{ShowsDamage};
 ghost use Rattle.kv_journal.specs.Entries.{Entry, acts_of};
+ghost use Rattle.kv_journal.specs.Header.{BeginsWith, configuration_payload};
 ghost use Rattle.kv_single.specs.Held.{Represents};
 
 use crate::keeper::DurableKeeper;
@@ -35,10 +40,12 @@ fn opened_from<B: Began>(
     bucket: &Bucket,
     readers: usize,
 ) -> Result<kv_bucket::Opened, KvError>
-    requires { Represents (state_of config.now B.acts) bucket.now }
+    requires may { may_open config.now readers ≡ Ok config.now }
+    requires represents { Represents (state_of config.now B.acts) bucket.now }
     ensures ok { IfOk result (λ o. (may_open config.now readers ≡ Ok config.now) × (o.opening.config ≡ config.now)
         × (o.readers ≡ readers)) }
     ensures began { IfOk result (λ o. o.opening.book.began ≡ B.acts) }
+    ensures refused { IfErr result (λ e. Refuses e (may_open config.now readers)) }
 {
     let version = bucket.version().snapshot()?;
     Live::open_from::<B>(alloc, config, version, readers)
@@ -52,13 +59,14 @@ fn named<B: Began, F: JournalFile>(
     durable: Durable<F>,
     readers: usize,
 ) -> Result<Opened<F>, NotDone<F>>
+    requires may { may_open config.now readers ≡ Ok config.now }
     requires acts { B.acts ≡ acts.now }
     requires represents { Represents (state_of config.now B.acts) durable.bucket }
     ensures ok { IfOk result (λ o. (may_open config.now readers ≡ Ok config.now)
         × (o.opened.opening.config ≡ config.now) × (o.opened.readers ≡ readers)) }
     ensures began { IfOk result (λ o. o.opened.opening.book.began ≡ acts.now) }
     ensures journal { IfOk result (λ o. o.journal ≡ durable.journal) }
-    ensures err { IfErr result (λ r. IsDamaged r.error → ⊥) }
+    ensures refused { IfErr result (λ r. IsRefusedBy (may_open config.now readers) r.error) }
 {
     let (bucket, journal) = durable.into_parts();
     match opened_from::<B>(alloc, config, &bucket, readers) {
@@ -78,14 +86,15 @@ fn of_read<F: JournalFile>(
     read: kv_durable::Opened<F>,
     readers: usize,
 ) -> Result<Opened<F>, NotDone<F>>
-    requires { (base : Base) × (entries : List Entry)
+    requires may { may_open config.now readers ≡ Ok config.now }
+    requires read { (base : Base) × (entries : List Entry)
         × IsRead F.has F.usable config.now before.now.value base entries read.durable read.dropped }
     ensures ok { IfOk result (λ o. (may_open config.now readers ≡ Ok config.now)
         × (o.opened.opening.config ≡ config.now) × (o.opened.readers ≡ readers)) }
     ensures from { IfOk result (λ o.
         GoesOnFrom F.has F.usable config.now before.now.value o.journal o.opened.opening.book.began) }
     ensures journal { IfOk result (λ o. o.journal ≡ read.durable.journal) }
-    ensures err { IfErr result (λ r. IsDamaged r.error → ⊥) }
+    ensures refused { IfErr result (λ r. IsRefusedBy (may_open config.now readers) r.error) }
 {
     let about = (config, before, &read);
     let acts = ChosenActs::of::<Brand, _>(&about);
@@ -119,6 +128,12 @@ impl<F: JournalFile> DurableLive<Brand, F> {
         ensures damaged { IfErr result (λ r. IsDamaged r.error → (kept loose : List ℕ) → F.has file kept loose →
             (base : Base) (other : ℕ) (entries : List Entry) (rest : List ℕ) → base.config ≡ config.now →
             Reads base (kept ++ loose) other entries rest → ShowsDamage other (length (file_of other base entries)) rest) }
+        ensures other { IfErr result (λ r. r.error ≡ OtherBucket → (kept loose : List ℕ) → F.has file kept loose →
+            (other : ℕ) × (payload : List ℕ) × (rest : List ℕ)
+            × BeginsWith (kept ++ loose) other payload rest × (payload ≢ configuration_payload config.now)) }
+        ensures refused { IfErr result (λ r. (x : AnError) → r.error ≡ Refused x → Refuses x (may_open config.now readers)) }
+        ensures fault { IfErr result (λ r. r.error ≡ FileFault → F.usable file ≡ true → F.faults file < F.faults r.file) }
+        ensures never { IfErr result (λ r. r.error ≢ FileBusy) }
     {
         if let Err(error) = Live::check(config, readers) {
             return Err(NotDone {
@@ -149,6 +164,8 @@ impl<F: JournalFile> Opened<F> {
         ensures ok { IfOk result
             (λ r. (r.0.journal ≡ self.journal) × (length r.2.items ≡ self.opened.readers)
             × All (λ reader. (reader.seen ≡ []) × (reader.told ≡ N.opening.book.began)) r.2.items) }
+        ensures refused { IfErr result
+            (λ r. ((x : AnError) × (r.error ≡ Refused x) × IsUnread x) × (r.file ≡ self.journal.appender.file)) }
     {
         let Opened { opened, journal } = self;
         match opened.keeper::<N, R>(rt) {
@@ -174,6 +191,8 @@ impl<F: JournalFile> Opened<F> {
         ensures ok { IfOk result
             (λ r. (length r.1.items ≡ self.opened.readers)
             × All (λ reader. (reader.seen ≡ []) × (reader.told ≡ N.opening.book.began)) r.1.items) }
+        ensures refused { IfErr result
+            (λ r. ((x : AnError) × (r.error ≡ Refused x) × IsUnread x) × (r.file ≡ self.journal.appender.file)) }
     {
         let (keeper, notifier, readers) = self.keeper::<N, R>(rt)?;
         let live = DurableLive {

@@ -7,7 +7,7 @@ use Rattle.kv_journal.specs.Entries.{acts_of}
 
 pub of-acts-requires : goal.of-acts-requires
 of-acts-requires g c =
-    let read = c.requires in
+    let read = c.requires.read in
     (acts_before read.0 ++ acts_of read.1, (read.0, read.1, refl, read.2))
 
 pub named-requires-clause-represents : goal.named-requires-clause-represents

@@ -6,8 +6,8 @@ use Rattle.kv_durable_live.specs.Openings.{IsRead}
 use Rattle.kv_durable_live.proofs.Opening.{is_read, new_from}
 use Rattle.kv_durable_live.proofs.open.DurableLive+Brand+F.open.Goals as goal
 
-pub of_read-requires : goal.of_read-requires
-of_read-requires g c =
+pub of_read-requires-clause-read : goal.of_read-requires-clause-read
+of_read-requires-clause-read g c =
     let has = g.F.JournalFile.has in
     let usable = g.F.JournalFile.usable in
     let o = c.in-Ok.read in
