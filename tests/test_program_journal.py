@@ -137,6 +137,27 @@ class Kept(ProgramJournal):
                 self.assertEqual(self.kept(), [("put", "k%d" % i, b"value %d" % i) for i in range(1, revision + 1)])
 
 
+    def test_what_takes_the_place_of_a_file_has_its_permissions(self) -> None:
+        self.put_data(b"")
+        os.chmod(self.file, 0o600)
+        for script in ("put a MQ==\n", "put a Mg==\n" * 40 + "compact 41\n"):
+            number = os.stat(self.file).st_ino
+            self.run_on(script)
+            found = os.stat(self.file)
+            self.assertNotEqual(found.st_ino, number)
+            self.assertEqual(found.st_mode & 0o777, 0o600)
+
+    def test_a_link_stays_a_link(self) -> None:
+        link = self.file + ".link"
+        os.symlink(os.path.basename(self.file), link)
+        for script in ("put a MQ==\n", "put a Mg==\n" * 40 + "compact 41\n"):
+            # the file is made, and then replaced by a checkpoint
+            done = subprocess.run([path, "--journal", link], input=script.encode(), capture_output=True, timeout=120)
+            self.assertEqual((done.returncode, done.stderr), (0, b""))
+            self.assertTrue(os.path.islink(link) and not os.path.islink(self.file))
+        self.assertEqual(self.kept()[-1], ("closed", 41))
+
+
 class Told(ProgramJournal):
     def test_a_torn_end_is_cut_off_and_told(self) -> None:
         self.run_on(WRITES)
@@ -246,11 +267,8 @@ class Failing(ProgramJournal):
                         self.assertTrue(whole.stdout.startswith(done.stdout))
                         self.assertTrue(done.stdout == b"" or done.stdout.endswith(b"\n"))
                         answered = len(done.stdout.splitlines())
-                        if os.path.exists(self.file) and 0 < len(self.data()) < BEGINNING:
-                            # a file that was not made is no journal
-                            self.assertEqual(done.stdout, b"")
-                            self.run_on(READS, wanted=1, faults="kvbucket: FileDamaged at byte 0\n")
-                            continue
+                        # a file that is made has nothing, or all that it begins with
+                        self.assertFalse(os.path.exists(self.file) and 0 < len(self.data()) < BEGINNING)
                         again = subprocess.run([path, "--journal", self.file, *arguments], input=READS.encode(), capture_output=True, timeout=120)
                         self.assertEqual(again.returncode, 0, again.stderr)
                         # a line more may have been done than was answered
@@ -261,7 +279,7 @@ class Failing(ProgramJournal):
         script = "put app.port ODA=\nput a MQ==\ncompact 1\nseal\n"
         for when in ("each", "2", "close"):
             calls = self.fails_each(["--sync", when], script, self.away)
-            self.assertEqual(set("owslkri") - set(calls) - set("ki"), set(), calls)
+            self.assertEqual(set("owslkrntip") - set(calls) - set("ki"), set(), calls)
 
     def test_each_call_may_fail_of_a_file_with_a_torn_end(self) -> None:
         self.run_on("")

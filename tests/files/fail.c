@@ -2,7 +2,7 @@
    that open or rename a path under the folder FAIL_FOLDER and of those on such a file. FAIL_HOW is the number of the error; with a
    minus, a write brings half of its bytes first, and the call behind it fails. With FAIL_ONCE all later calls go well, as on a
    device that comes back, and else they fail too. As the program ends it writes a line of the calls to the file FAIL_LOG: a letter each
-   of o(pen), r(ead), w(rite), s(ync), t(runcate), l(ock), k (seek), i (stat) and n (rename). It declares what it calls itself, so that
+   of o(pen), r(ead), w(rite), s(ync), t(runcate), l(ock), k (seek), i (stat), n (rename) and p (the path behind all links). It declares what it calls itself, so that
    any C compiler builds it without headers. */
 typedef unsigned long size;
 
@@ -137,6 +137,11 @@ int rename(const char *path, const char *to) {
 int renameat(int folder, const char *path, int other, const char *to) {
     if (is_under(path) && fails('n')) return -1;
     return ((int (*)(int, const char *, int, const char *))next("renameat"))(folder, path, other, to);
+}
+
+char *realpath(const char *path, char *room) {
+    if (is_under(path) && fails('p')) return 0;
+    return ((char *(*)(const char *, char *))next("realpath"))(path, room);
 }
 
 /* A program that returns from main ends by this. */

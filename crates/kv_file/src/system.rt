@@ -88,8 +88,13 @@ fn is_there<R: Files<File = File>>(rt: &R, path: &str, file: &File) -> io::Resul
     Ok(found.dev() == own.dev() && found.ino() == own.ino())
 }
 
-// A file of this path with these bytes, on the disk, and locked.
-fn written<R: Files<File = File>>(rt: &R, path: &str, bytes: &[u8]) -> Result<File, OpenFault> {
+// A file of this path with these bytes, and with the permissions of the old one, on the disk, and locked.
+fn written<R: Files<File = File>>(
+    rt: &R,
+    path: &str,
+    old: &File,
+    bytes: &[u8],
+) -> Result<File, OpenFault> {
     let mut file = OpenOptions::new()
         .read(true)
         .append(true)
@@ -97,6 +102,7 @@ fn written<R: Files<File = File>>(rt: &R, path: &str, bytes: &[u8]) -> Result<Fi
         .open(rt, path)?;
     file.try_lock()?;
     file.set_len(0)?;
+    file.set_permissions(old.metadata()?.permissions())?;
     file.write_all(bytes)?;
     file.sync_all()?;
     Ok(file)
@@ -111,7 +117,7 @@ fn put_in_place<R: Files<File = File>>(
     if !is_there(place.rt, place.path, file)? {
         return Err(OpenFault::Failed);
     }
-    let next = written(place.rt, place.next, bytes)?;
+    let next = written(place.rt, place.next, file, bytes)?;
     fs::rename(place.rt, place.next, place.path)?;
     Ok(next)
 }

@@ -51,27 +51,45 @@ fn seed<T: RandomSource>(rt: &T) -> Result<u64, DurableError>
     }
 }
 
-/// Opens the bucket of a file, which is made if it isn't there.
-fn open<T: Files<File = File> + RandomSource>(
+/// The file of a path, which is made if it isn't there, and its path behind all links: what takes the place of the file is not to
+/// take that of a link.
+fn file_of<T: Files<File = File>>(
     rt: &T,
     alloc: Global,
-    config: &Config,
     path: &str,
+) -> Result<(SystemFile, String), DurableError>
+    ensures { IfErr result (λ e. (config : Configuration) → IsLegal config → IsUnbegun config e) }
+{
+    let file = SystemFile::open(rt, path)?;
+    match rt.canonicalize(alloc, path) {
+        Ok(place) => Ok((file, place.into_string())),
+        Err(error) if error.kind() == ErrorKind::OutOfMemory => {
+            Err(DurableError::Refused(KvError::OutOfMemory))
+        }
+        Err(_) => Err(DurableError::FileFault),
+    }
+}
+
+/// Opens the bucket of a file that lies in this place.
+fn open<T: Files<File = File> + RandomSource>(
+    alloc: Global,
+    config: &Config,
+    file: SystemFile,
+    place: &SystemPlace<'_, T>,
     when: When,
 ) -> Result<Opened<SystemFile>, DurableError>
     requires legal { IsLegal config.now × (configure config.now ≡ Ok config.now) }
     ensures ok { IfOk result (λ o. (acts : List Act) × Represents (state_of config.now acts) o.durable.bucket) }
     ensures err { IfErr result (λ e. IsUnbegun config.now e) }
 {
-    let seed = seed(rt)?;
-    let file = SystemFile::open(rt, path)?;
-    match Durable::open(alloc, config, file, seed, when) {
+    let seed = seed(place.rt)?;
+    match Durable::open(alloc, config, file, place, seed, when) {
         Ok(opened) => Ok(opened),
         Err(refused) => Err(refused.error),
     }
 }
 
-/// The path of the file that a checkpoint is written to: beside the one whose place it takes, as from C.
+/// The path of the file that takes the place of the one of a path: beside that, as from C.
 fn path_beside(alloc: Global, path: &str) -> Result<String, DurableError>
     ensures { IfErr result (λ e. (config : Configuration) → IsUnbegun config e) }
 {
@@ -102,20 +120,21 @@ fn run<T: Files<File = File> + RandomSource, R: Input, W: Output, F: Output>(
         ⊎ F.failed_between faults.old faults.new }
 {
     let config = legal_config(alloc, arguments)?;
-    let next = path_beside(alloc, path)?;
     let when = when_of(arguments.sync()).unwrap_or(When::Each);
+    let (file, real) = file_of(rt, alloc, path)?;
+    let next = path_beside(alloc, real.as_str())?;
+    let place = SystemPlace {
+        rt,
+        path: real.as_str(),
+        next: next.as_str(),
+    };
     let Opened {
         durable,
         dropped,
         ..
-    } = open(rt, alloc, &config, path, when)?;
+    } = open(alloc, &config, file, &place, when)?;
     tell_torn(alloc, dropped, "dropped", path, faults)?;
     let mut source = Bounded::new(reader, READ_CALLS);
-    let place = SystemPlace {
-        rt,
-        path,
-        next: next.as_str(),
-    };
     let replacing = Replacing {
         place: &place,
         seeds: rt,
