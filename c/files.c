@@ -226,19 +226,21 @@ static uint64_t open_locked(const char *path, kv_file **file, size_t *size) {
     return code;
 }
 
-/* Cuts a torn end off, and does what the opening needs. The name of a new file comes onto the disk too, which only its folder
- * has. */
-static bool carry_out_opening(kv_bucket *bucket, const kv_file *file, size_t size) {
+/* Does what the opening needs: cuts a torn end off, or puts what a new file begins with in the place of the empty one. That is not
+ * added to, so that no crash leaves a part of it. */
+static bool carry_out_opening(kv_bucket *bucket, kv_file *file, size_t size) {
     kv_lent lent;
     uint8_t none[1];
+    if (size == 0)
+        return kv_replace(bucket, file) == KV_REPLACED;
     kv_lend(bucket, 0, none, 0, &lent);
-    if (size > lent.at + lent.size && ftruncate(file->file, (off_t)lent.at) != 0)
+    if (size > lent.at && ftruncate(file->file, (off_t)lent.at) != 0)
         return false;
-    return kv_carry_out(bucket) && (size > 0 || fsync(file->folder) == 0);
+    return kv_carry_out(bucket);
 }
 
 /* Opens the bucket of a file that is locked. */
-static uint64_t open_locked_as(kv_bucket *bucket, const kv_file *file, size_t size, const uint8_t *name,
+static uint64_t open_locked_as(kv_bucket *bucket, kv_file *file, size_t size, const uint8_t *name,
                                size_t name_size, const kv_limits *limits, uint64_t sync, uint64_t *dropped,
                                uint64_t *at) {
     uint8_t *bytes = malloc(size + 1);
@@ -256,8 +258,6 @@ static uint64_t open_locked_as(kv_bucket *bucket, const kv_file *file, size_t si
         return kv_settle(bucket, &unused);
     }
     kv_free(bucket);
-    /* Else the part of what a new file begins with would be damage. */
-    (void)!(size > 0 || ftruncate(file->file, 0));
     return KV_FILE_FAULT;
 }
 

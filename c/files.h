@@ -89,6 +89,10 @@ void kv_free(kv_bucket *bucket);
 bool kv_carry_out(kv_bucket *bucket);
 /* KV_OK where the name of the file is still this file's, KV_FILE_BUSY where it is another's. */
 uint64_t kv_has_name(const kv_file *file);
+/* What became of a file that was to be replaced. Of the last it is not known which of the two a crash leaves. */
+typedef enum kv_replacement { KV_REPLACED, KV_STAYS, KV_EITHER } kv_replacement;
+/* Puts a file that has what is lent in the place of this one. */
+kv_replacement kv_replace(kv_bucket *bucket, kv_file *file);
 /* A checkpoint, where the file has more than twice the bytes that it has behind that. */
 void kv_shrink(kv_bucket *bucket);
 #endif

@@ -120,8 +120,9 @@ typedef struct kv_status {
 
 uint64_t kv_open(kv_bucket *bucket, const uint8_t *name, size_t name_size, const kv_limits *limits);
 /* Opens a bucket that outlives the process, by a journal file: what it had accepted is there again, but its watches. Where
- * the path names no file, or an empty one, it is made that of a new bucket. No other opening has the file until this one is
- * closed, or its process has ended. *dropped tells how many bytes of a torn end were cut off, which a crash had left.
+ * the path names no file, or an empty one, it is made that of a new bucket: one under its name with .checkpoint behind it takes
+ * its place, so a crash leaves an empty file or a whole one. No other opening has the file until this one is closed, or its
+ * process has ended. *dropped tells how many bytes of a torn end were cut off, which a crash had left.
  *
  * KV_FILE_BUSY where another opening has the file; KV_OTHER_BUCKET where it is that of a bucket with another name or other
  * limits; KV_FILE_DAMAGED where its bytes are no longer those that were written, or it is no journal: *at is then, and only

@@ -4,7 +4,7 @@ from typing import Iterator
 
 START, HEADER = b"!<arch>\n", 60
 # The objects of the shell in C, which the machine's own compiler makes; all others of libvilgoued.a are the kit's.
-OWN = ("checkpoint.o", "files.o", "handles.o", "opening.o", "shared.o", "watcher.o")
+OWN = ("checkpoint.o", "files.o", "handles.o", "opening.o", "replacing.o", "shared.o", "watcher.o")
 
 
 def headers(data: bytes) -> Iterator[tuple[str, bytes]]:

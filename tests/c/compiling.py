@@ -15,7 +15,7 @@ STATIC = [os.path.join(libraries, "libvilgoued.a")]
 SHELL = [os.path.join(top, "c", name) for name in ("shared.c", "watcher.c")]
 OPENING = os.path.join(top, "c", "opening.c")
 # Those that call what is proved by names that the shared library has for itself.
-FILES = [os.path.join(top, "c", name) for name in ("files.c", "checkpoint.c", "handles.c")]
+FILES = [os.path.join(top, "c", name) for name in ("files.c", "replacing.c", "checkpoint.c", "handles.c")]
 STRICT = ["-pedantic", "-Wall", "-Wextra", "-Werror"]
 CHECKED = ["-g", "-fsanitize=address,undefined", "-fno-sanitize-recover=all"]
 # The calls of the system that a program has for itself.

@@ -138,20 +138,16 @@ static uint64_t writes(uint64_t sync, uint64_t *known) {
 }
 
 static void run(uint64_t sync) {
-    uint64_t known, answered = writes(sync, &known), again, code;
+    uint64_t known, answered = writes(sync, &known), again;
     kv_bucket b = {0};
     left = -1;
-    code = opened(&b, KV_SYNC_EACH);
-    /* A part of what a new file begins with stays where nothing can be taken back. */
-    if (code == KV_FILE_DAMAGED && answered == 0 && !once) {
-        WANT(unlink("failing.kv") == 0);
-        return;
-    }
-    WANT(code == KV_OK);
+    /* A file whose making failed is empty, or has all that a new one begins with. */
+    WANT(opened(&b, KV_SYNC_EACH) == KV_OK);
     again = last_of(&b);
     /* The call that was refused may be in the file, a batch as a whole. */
     WANT(again >= known && again <= (answered == 4 ? 6 : answered + 1));
     WANT(kv_close(&b) == KV_OK && unlink("failing.kv") == 0);
+    WANT(unlink("failing.kv.checkpoint") != 0);
 }
 
 /* Whether the bucket is as its writes have left it. */

@@ -2,7 +2,7 @@
 
 ghost use Rattle.std.specs.Prelude.{◌≡◌, [], false, true};
 
-use kv_file::{FileFault, JournalFile, ReadFault};
+use kv_file::{FileFault, JournalFile, ReadFault, ReplaceFault, ReplaceableFile};
 use std::alloc::Global;
 
 /// A file as Rattle sees it: the shell has read what it had, and writes what it is lent. So no call of this one fails, and
@@ -100,6 +100,15 @@ impl JournalFile for Outbox {
     }
 
     fn cut(&mut self, _len: u64) -> Result<(), FileFault> {
+        self.found = None;
+        self.is_clean = true;
+        Ok(())
+    }
+}
+
+// The shell puts what it is lent of a new file in the place of the empty one.
+impl ReplaceableFile<()> for Outbox {
+    fn replace(&mut self, _place: &(), _bytes: Vec<u8>) -> Result<(), ReplaceFault> {
         self.found = None;
         self.is_clean = true;
         Ok(())

@@ -181,13 +181,15 @@ module _ {F : Type 0} (has : F → List ℕ → List ℕ → Type 0) (usable : F
             subst (λ (w : List ℕ). has new w []) front there),
       )
 
-  pub begun_handed : {T : Type 0} (r : Result T DurableError) → bytes ≡ [] → OnErr r (usable mid ≡ true → has mid [] [] → (n : ℕ) × has new [] (take n (beginning seed config)))
+  pub begun_handed : {T : Type 0} (r : Result T DurableError) → bytes ≡ [] → OnErr r (usable mid ≡ true → has mid [] [] → has new [] [] ⊎ has new (beginning seed config) [])
       → OnErr r (usable old ≡ true → (kept loose : List ℕ) → has old kept loose → LeavesBytes has config seed kept loose new)
   begun_handed (Ok x) none on = tt
   begun_handed (Err e) none on = λ usable_old kept loose h.
       let empty_is = sym (are kept loose h) ∙ none in
-      let there = on (still ∙ usable_old) (from_empty has mid kept loose empty_is (same kept loose h)) in
-      inr (empty_is, there.0, there.1)
+      elim (on (still ∙ usable_old) (from_empty has mid kept loose empty_is (same kept loose h))) [
+        | inl none_there ↦ inl ([], [], sym empty_is, none_there)
+        | inr all_there ↦ inr (empty_is, all_there)
+      ]
 
   pub reads_handed : {T : Type 0} (r : Result T DurableError) → OnErr r (usable mid ≡ true → (kept loose : List ℕ) → has mid kept loose → (k : List ℕ) × (l : List ℕ) × (k ++ l ≡ kept ++ loose) × has new k l)
       → OnErr r (usable old ≡ true → (kept loose : List ℕ) → has old kept loose → LeavesBytes has config seed kept loose new)

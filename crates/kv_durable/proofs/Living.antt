@@ -1,26 +1,38 @@
 -- Lives of a durable bucket.
-use Rattle.std.proofs.Common.{◌≡◌, ◌⊎◌, ℕ, ◌^◌, ◌<◌, Bool, List, [], ◌∷◌, ◌++◌, length, refl, sym, ap, ◌∙◌, subst, inl, inr, arith, append_assoc, append-nil}
+use Rattle.std.proofs.Common.{◌≡◌, ◌⊎◌, ℕ, ◌^◌, ◌<◌, Bool, true, false, List, [], ◌∷◌, ◌++◌, length, refl, sym, ap, ◌∙◌, subst, inl, inr, arith, append_assoc, append-nil}
 use Rattle.kv_file.specs.File.{MayLeave}
-use Rattle.kv_frames.specs.Frames.{ArePayloads}
-use Rattle.kv_frames.proofs.Fronts.{nothing_whole}
+use Rattle.kv_frames.specs.Frames.{ArePayloads, frame}
+use Rattle.kv_frames.proofs.Fronts.{frame_parts, nothing_whole}
 use Rattle.kv_model.specs.Acts.{Act, IsPrefix}
 use Rattle.kv_model.specs.Configuration.{Configuration, IsLegal}
 use Rattle.kv_model.specs.State.{State, empty}
 use Rattle.kv_journal.specs.Damage.{ShowsDamage, told_end}
 use Rattle.kv_journal.specs.Entries.{AreLawful, Entry, acts_of, payloads_of}
-use Rattle.kv_durable.specs.Bases.{Base, acts_before, replaced_by}
+use Rattle.kv_durable.specs.Bases.{Base, acts_before, fresh, opening, replaced_by}
 use Rattle.kv_durable.specs.Durables.{IsAt, IsRecorded, state_of}
 use Rattle.kv_durable.specs.Files.{HasForgery, IsBetween, Reads, file_of}
 use Rattle.kv_durable.specs.Lives.{ComesBack, Follows, GoesOn, Lives, lived}
-use Rattle.kv_durable.specs.Openings.{IsNew, IsReopened}
+use Rattle.kv_durable.specs.Openings.{IsNew, IsReopened, IsReopenedOn}
 use Rattle.kv_single.specs.Held.{Represents}
+use Rattle.kv_journal.specs.Header.{BeginsWith, beginning, configuration_payload}
 use Rattle.kv_journal.specs.Records.{Content}
+use Rattle.kv_journal.proofs.Front.{configuration_fits, one_header}
 use Rattle.kv_journal.proofs.Going.{acts_of-append}
 use Rattle.kv_durable.specs.Journals.{Keeps, told_next}
 use Rattle.kv_durable.proofs.Recording.{added_kept, all_added}
 use Rattle.kv_durable.specs.declared.durable.Durable.{Durable}
 use Rattle.kv_durable.proofs.Adding.{lawful_append}
+use Rattle.kv_durable.proofs.Bytes.{fresh_opening}
 use Rattle.kv_durable.proofs.Crashing.{after_a_crash, beginning_acts, one_reading}
+
+-- what a new file begins with is that of its own bucket
+pub own_beginning : (config : Configuration) (seed other : ℕ) (payload rest : List ℕ) → IsLegal config → seed < 2 ^ 64 → BeginsWith (beginning seed config) other payload rest → payload ≡ configuration_payload config
+own_beginning config seed other payload rest legal fits begins =
+    let own = configuration_payload config in
+    let parts = one_header seed other (frame seed 17 own) (frame other 17 payload ++ rest) fits begins.seed_fits begins.stands in
+    let same : frame seed 17 payload ++ rest ≡ frame seed 17 own ++ [] =
+    subst (λ (n : ℕ). frame n 17 payload ++ rest ≡ frame seed 17 own ++ []) (sym parts.0) (sym parts.1 ∙ sym (append-nil (frame seed 17 own))) in
+    (frame_parts seed 17 payload rest own [] begins.is_payload.1 (configuration_fits config own refl legal).1 same).0
 
 pub prefix_on : (xs ys zs : List Entry) → IsPrefix xs ys → IsPrefix ys zs → IsPrefix xs zs
 prefix_on xs ys zs one two = (one.0 ++ two.0, sym (append_assoc xs one.0 two.0) ∙ ap (λ (ws : List Entry). ws ++ two.0) one.1 ∙ two.1)
@@ -183,22 +195,9 @@ module _ {F : Type 0} (has : F → List ℕ → List ℕ → Type 0) (usable : F
         there.2,
       )
 
-  -- behind the last entry of a file that ends there, nothing shows damage
-  pub shows_none : (state : State) (kept : List Entry) (first : Durable F) (at : IsAt has usable state kept [] first)
-      → ((base : Base) (other : ℕ) (entries : List Entry) (rest : List ℕ) → base.config ≡ at.base.config → Reads base (file_of first.journal.framing.seed at.base kept) other entries rest
-      → ShowsDamage other (length (file_of other base entries)) rest) → ⊥
-  shows_none state kept first at damaged =
-      let base = at.base in
-      let seed = first.journal.framing.seed in
-      let shown = damaged base seed kept [] refl record {
-        seed_fits = at.keeps.seed_fits;
-        whole = sym (append-nil (file_of seed base kept));
-        first = at.keeps.first;
-        each = subst (λ (es : List Entry). ArePayloads (payloads_of es)) (append-nil kept) at.keeps.payloads;
-        replaced = at.keeps.replaced;
-        lawful = subst (AreLawful base.config (acts_before base)) (append-nil kept) at.keeps.lawful;
-        ended = nothing_whole seed (length (file_of seed base kept));
-      } in
+  -- where a file ends, nothing shows damage
+  nothing_shown : (seed at : ℕ) → ShowsDamage seed at [] → ⊥
+  nothing_shown seed at shown =
       elim shown.3.shown [
         | inl near ↦ none shown.0 near.1.within
         | inr next ↦ none (told_end []) next.1.within
@@ -206,6 +205,55 @@ module _ {F : Type 0} (has : F → List ℕ → List ℕ → Type 0) (usable : F
     where
       none : (n : ℕ) → n < 0 → ⊥
       none n h = absurd (omega (arith, h))
+
+  -- behind the last entry of a file that ends there, nothing shows damage
+  pub shows_none : (state : State) (kept : List Entry) (first : Durable F) (at : IsAt has usable state kept [] first)
+      → ((base : Base) (other : ℕ) (entries : List Entry) (rest : List ℕ) → base.config ≡ at.base.config → Reads base (file_of first.journal.framing.seed at.base kept) other entries rest
+      → ShowsDamage other (length (file_of other base entries)) rest) → ⊥
+  shows_none state kept first at damaged =
+      let base = at.base in
+      let seed = first.journal.framing.seed in
+      nothing_shown seed (length (file_of seed base kept)) (damaged base seed kept [] refl record {
+        seed_fits = at.keeps.seed_fits;
+        whole = sym (append-nil (file_of seed base kept));
+        first = at.keeps.first;
+        each = subst (λ (es : List Entry). ArePayloads (payloads_of es)) (append-nil kept) at.keeps.payloads;
+        replaced = at.keeps.replaced;
+        lawful = subst (AreLawful base.config (acts_before base)) (append-nil kept) at.keeps.lawful;
+        ended = nothing_whole seed (length (file_of seed base kept));
+      })
+
+  -- what a new file begins with is read as a file with no entry
+  new_file : (config : Configuration) (seed : ℕ) → file_of seed (fresh config) [] ≡ beginning seed config
+  new_file config seed = append-nil (opening seed (fresh config)) ∙ fresh_opening seed config
+
+  begins_new : (config : Configuration) (seed : ℕ) → seed < 2 ^ 64 → Reads (fresh config) (beginning seed config) seed [] []
+  begins_new config seed fits = record {
+    seed_fits = fits;
+    whole = sym (append-nil (file_of seed (fresh config) []) ∙ new_file config seed);
+    first = tt;
+    each = tt;
+    replaced = tt;
+    lawful = tt;
+    ended = nothing_whole seed (length (file_of seed (fresh config) []));
+  }
+
+  pub new_again : (config : Configuration) (seed : ℕ) (second : Durable F) (dropped : ℕ) (checkpointed : Bool) → IsLegal config → seed < 2 ^ 64
+      → IsReopenedOn has usable config (beginning seed config) second dropped checkpointed → Represents (empty config) second.bucket × (dropped ≡ 0) × (checkpointed ≡ false)
+  new_again config seed second dropped checkpointed legal fits again =
+      let is = again.tells.read (fresh config) seed [] [] refl (begins_new config seed fits) in
+      let there = again.each (fresh config) is in
+      let whole = subst (λ (w : List ℕ). IsReopened has usable (fresh config) w again.entries again.rest second dropped) (sym (new_file config seed)) there in
+      let found = whole_again (fresh config) seed [] again.entries second dropped again.rest fits tt tt whole in
+      (found.0, found.2, told_fresh checkpointed (λ e. again.tells.some e (sym is.stands)))
+    where
+      told_fresh : (b : Bool) → (b ≡ true → ⊥) → b ≡ false
+      told_fresh true never = absurd (never refl)
+      told_fresh false never = refl
+
+  pub new_shows_none : (config : Configuration) (seed : ℕ) → seed < 2 ^ 64
+      → ((base : Base) (other : ℕ) (entries : List Entry) (rest : List ℕ) → base.config ≡ config → Reads base (beginning seed config) other entries rest → ShowsDamage other (length (file_of other base entries)) rest) → ⊥
+  new_shows_none config seed fits damaged = nothing_shown seed (length (file_of seed (fresh config) [])) (damaged (fresh config) seed [] [] refl (begins_new config seed fits))
 
   pub watched_goes_on : (later : State → State) (old new : Durable F) → ((state : State) → Represents state old.bucket → Represents (later state) new.bucket × ((later state).acts ≡ state.acts) × ((later state).config ≡ state.config))
       → new.journal ≡ old.journal → GoesOn has usable later old new

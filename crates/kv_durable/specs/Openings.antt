@@ -1,5 +1,5 @@
 -- What an opening makes of a file.
-use Rattle.std.specs.Prelude.{◌≡◌, ◌⊎◌, ℕ, ◌<◌, ◌^◌, Bool, true, false, List, [], ◌++◌, length, take}
+use Rattle.std.specs.Prelude.{◌≡◌, ◌⊎◌, ℕ, ◌<◌, ◌^◌, Bool, true, false, List, [], ◌++◌, length}
 use Rattle.kv_frames.specs.Frames.{ArePayloads}
 use Rattle.kv_model.specs.Acceptance.{IsLawful}
 use Rattle.kv_model.specs.Acts.{Act}
@@ -43,11 +43,11 @@ HasRead has usable base file entries durable dropped = Represents (state_of base
     × ((kept ++ loose ≡ [] → ⊥) → (rest : List ℕ) × IsReopened has usable base (kept ++ loose) entries rest durable dropped))
 
 -- What a failed opening leaves. Of a file with bytes these are left, and those that were on the disk are there, at least up to
--- the end of what is read. An empty file has a beginning of what it was to begin with.
+-- the end of what is read. An empty file is empty still, or has all that it was to begin with.
 abbrev pub LeavesBytes : {F : Type 0} → (F → List ℕ → List ℕ → Type 0) → Configuration → (seed : ℕ) → (kept loose : List ℕ) → F → Type 0
 LeavesBytes has config seed kept loose file =
     ((k : List ℕ) × (l : List ℕ) × (k ++ l ≡ kept ++ loose) × has file k l)
-    ⊎ ((kept ++ loose ≡ []) × (n : ℕ) × has file [] (take n (beginning seed config)))
+    ⊎ ((kept ++ loose ≡ []) × has file (beginning seed config) [])
 
 -- Which base a file goes on from: its first frames are these payloads, and where there are none it has no checkpoint. A base
 -- that the file is read with is one of these, and so is one whose checkpoint the file begins with.

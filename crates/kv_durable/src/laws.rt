@@ -2,7 +2,7 @@
 //! goes on with (`recover`), and over bytes between two lists of entries (`IsBetween`), which each call leaves, whether it was
 //! answered or the file failed, and at each moment before.
 
-ghost use Rattle.std.specs.Prelude.{◌≡◌, ◌⊎◌, ◌<◌, ◌≤◌, ◌^◌, ◌++◌, ◌∷◌, [], ℕ, Bool, List, Ok, length, map, true};
+ghost use Rattle.std.specs.Prelude.{◌≡◌, ◌⊎◌, ◌<◌, ◌≤◌, ◌^◌, ◌++◌, ◌∷◌, [], ℕ, Bool, List, Ok, false, length, map, true};
 ghost use Rattle.std.specs.List.Sorted.{IsStrictlyIncreasing};
 ghost use Rattle.kv_file.specs.File.{MayLeave};
 ghost use Rattle.kv_frames.specs.Frames.{ArePayloads};
@@ -14,6 +14,7 @@ ghost use Rattle.kv_model.specs.Configuration.{Configuration, IsLegal};
 ghost use Rattle.kv_model.specs.Given.{given, item_revisions};
 ghost use Rattle.kv_journal.specs.Damage.{ShowsDamage};
 ghost use Rattle.kv_journal.specs.Entries.{AreLawful, Entry, acts_of, payloads_of};
+ghost use Rattle.kv_journal.specs.Header.{BeginsWith, beginning, configuration_payload};
 ghost use Rattle.kv_model.specs.Requests.{asked};
 ghost use Rattle.kv_model.specs.State.{State, empty};
 ghost use Rattle.kv_model.specs.declared.request.Request.{Request};
@@ -24,7 +25,7 @@ ghost use Rattle.kv_durable.specs.Durables.{IsAt, IsRecorded, batch_of, state_of
 ghost use Rattle.kv_durable.specs.Files.{HasForgery, IsBeginning, IsBetween, Reads, file_of};
 ghost use Rattle.kv_durable.specs.Journals.{told_next};
 ghost use Rattle.kv_durable.specs.Lives.{ComesBack, Follows, GoesOn, IsAllOrNone, Lives, lived};
-ghost use Rattle.kv_durable.specs.Openings.{IsNew, IsReopened};
+ghost use Rattle.kv_durable.specs.Openings.{IsNew, IsReopened, IsReopenedOn};
 ghost use Rattle.kv_durable.specs.Resuming.{entry_got, from_behind, known_by};
 ghost use Rattle.kv_durable.specs.declared.durable.Durable.{Durable};
 
@@ -140,6 +141,22 @@ pub fn a_crash_in_a_checkpoint<F: JournalFile>()
         ((base : Base) (other : ℕ) (entries : List Entry) (rest : List ℕ) → base.config ≡ at.base.config →
         Reads base (file_of first.journal.framing.seed at.base kept) other entries rest →
         ShowsDamage other (length (file_of other base entries)) rest) → ⊥ }
+{}
+
+/// An opening that makes a file leaves an empty one, or all that a new one begins with (`handed` of `Durable::open`), and so does a
+/// crash in it, since a file is replaced as a whole. An empty file is never refused as damaged (`empty`); nor is the other, whose
+/// opening answers the new bucket, and drops nothing.
+pub fn a_crash_while_a_file_is_made<F: JournalFile>()
+    ensures begun { (config : Configuration) (seed : ℕ) (second : Durable F) (dropped : ℕ) (checkpointed : Bool) →
+        IsLegal config → seed < 2 ^ 64 →
+        IsReopenedOn F.has F.usable config (beginning seed config) second dropped checkpointed →
+        Represents (empty config) second.bucket × (dropped ≡ 0) × (checkpointed ≡ false) }
+    ensures not_damaged { (config : Configuration) (seed : ℕ) → seed < 2 ^ 64 →
+        ((base : Base) (other : ℕ) (entries : List Entry) (rest : List ℕ) → base.config ≡ config →
+        Reads base (beginning seed config) other entries rest →
+        ShowsDamage other (length (file_of other base entries)) rest) → ⊥ }
+    ensures not_of_another { (config : Configuration) (seed other : ℕ) (payload rest : List ℕ) → IsLegal config → seed < 2 ^ 64 →
+        BeginsWith (beginning seed config) other payload rest → payload ≡ configuration_payload config }
 {}
 
 /// Each call that is answered goes on: one that was recorded, as a write, a batch, a seal and a compaction; a sync; a checkpoint,

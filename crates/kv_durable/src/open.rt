@@ -25,7 +25,7 @@ use crate::durable::{Durable, NotDone};
 use crate::error::DurableError;
 use crate::journal::Journal;
 use crate::recovery::recover;
-use kv_file::{JournalFile, ReadFault, Sync};
+use kv_file::{JournalFile, ReadFault, ReplaceFault, ReplaceableFile, Sync};
 use kv_frames::Framing;
 use kv_journal::push_beginning;
 use kv_keys::KvError;
@@ -80,26 +80,33 @@ fn beginning_of(alloc: Global, framing: &Framing, config: &Config) -> Result<Vec
     Ok(bytes)
 }
 
-// Adds bytes to a file, and brings them onto the disk.
-fn put_first<F: JournalFile>(file: &mut F, bytes: &[u8]) -> Result<(), DurableError>
-    ensures ok { OnOk result (F.usable file.old ≡ true → F.has file.old [] [] → F.has file.new bytes.now []) }
+// Puts a file that has these bytes in the place of an empty one. A file that was added to could begin with a part of them behind
+// a crash.
+fn put_first<F: JournalFile, P>(file: &mut F, place: &P, bytes: Vec<u8>) -> Result<(), DurableError>
+where
+    F: ReplaceableFile<P>,
+    ensures ok { OnOk result (F.usable file.old ≡ true → F.has file.old [] [] → F.has file.new bytes.items []) }
     ensures usable { OnOk result (F.usable file.new ≡ F.usable file.old) }
-    ensures handed { OnErr result (F.usable file.old ≡ true → F.has file.old [] [] → (n : ℕ) × F.has file.new [] (take n bytes.now)) }
+    ensures handed { OnErr result (F.usable file.old ≡ true → F.has file.old [] [] → F.has file.new [] [] ⊎ F.has file.new bytes.items []) }
     ensures err { IfErr result (λ e. e ≡ FileFault) }
     ensures failed { OnErr result (F.usable file.old ≡ true → F.faults file.old < F.faults file.new) }
 {
-    file.append(bytes)?;
-    file.sync()?;
-    Ok(())
+    match file.replace(place, bytes) {
+        Ok(()) => Ok(()),
+        Err(ReplaceFault::Unchanged | ReplaceFault::Unknown) => Err(DurableError::FileFault),
+    }
 }
 
 // Makes an empty file that of a new bucket. All memory is asked for before the file is touched.
-fn begin_in<F: JournalFile>(
+fn begin_in<F: JournalFile, P>(
     alloc: Global,
     config: &Config,
     file: &mut F,
+    place: &P,
     seed: u64,
 ) -> Result<Found, DurableError>
+where
+    F: ReplaceableFile<P>,
     requires { IsLegal config.now }
     ensures ok { IfOk result (λ found. Represents (empty config.now) found.bucket × (found.framing.seed ≡ seed)
         × (found.place ≡ length (beginning seed config.now)) × (found.dropped ≡ 0) × (found.checkpointed ≡ false)
@@ -109,7 +116,7 @@ fn begin_in<F: JournalFile>(
     ensures refused { IfErr result (λ e. (x : AnError) → e ≡ Refused x → Refuses x (configure config.now)) }
     ensures untouched { IfErr result (λ e. (x : AnError) → e ≡ Refused x → file.new ≡ file.old) }
     ensures handed { OnErr result (F.usable file.old ≡ true → F.has file.old [] [] →
-        (n : ℕ) × F.has file.new [] (take n (beginning seed config.now))) }
+        F.has file.new [] [] ⊎ F.has file.new (beginning seed config.now) []) }
     ensures fault { IsErrOf result FileFault → F.usable file.old ≡ true → F.faults file.old < F.faults file.new }
     ensures no_other { IfErr result IsRefusal }
 {
@@ -117,13 +124,13 @@ fn begin_in<F: JournalFile>(
     let own = OwnConfig::copy_of(alloc, config)?;
     let framing = Framing::new(seed);
     let bytes = beginning_of(alloc, &framing, config)?;
-    let place = bytes.len() as u64;
-    put_first(file, &bytes)?;
+    let end = bytes.len() as u64;
+    put_first(file, place, bytes)?;
     Ok(Found {
         bucket,
         config: own,
         framing,
-        place,
+        place: end,
         dropped: 0,
         checkpointed: false,
     })
@@ -179,12 +186,15 @@ fn has_none(bytes: &[u8]) -> bool
 }
 
 // Reads a file, and goes on with it; an empty one is made that of a new bucket.
-fn found_in<F: JournalFile>(
+fn found_in<F: JournalFile, P>(
     alloc: Global,
     config: &Config,
     file: &mut F,
+    place: &P,
     seed: u64,
 ) -> Result<Found, DurableError>
+where
+    F: ReplaceableFile<P>,
     ensures ok { IfOk result (λ found. (bytes : List ℕ) × (payloads : List (List ℕ)) × (entries : List Entry)
         × IsFound config.now seed bytes payloads entries found
         × ((kept loose : List ℕ) → F.has file.old kept loose → bytes ≡ kept ++ loose)
@@ -206,13 +216,14 @@ fn found_in<F: JournalFile>(
     ensures handed { OnErr result (F.usable file.old ≡ true → (kept loose : List ℕ) → F.has file.old kept loose →
         LeavesBytes F.has config.now seed kept loose file.new) }
     ensures fault { IsErrOf result FileFault → F.usable file.old ≡ true → F.faults file.old < F.faults file.new }
+    ensures empty { IfErr result (λ e. F.has file.old [] [] → IsRefusal e) }
     ensures never { IfErr result (λ e. e ≢ FileBusy) }
 {
     config.check()?;
     let bytes = read_all(alloc, file)?;
     let text = bytes.as_slice();
     if has_none(text) {
-        return begin_in(alloc, config, file, seed);
+        return begin_in(alloc, config, file, place, seed);
     }
     go_on_in(alloc, config, file, text)
 }
@@ -245,10 +256,11 @@ fn opened_of<F: JournalFile>(file: F, found: Found, sync: Sync) -> Opened<F>
 }
 
 impl<F: JournalFile> Durable<F> {
-    /// Opens the bucket of a file. An empty file is made that of a new bucket, with this seed: choose it at random, and
-    /// another for each file. Of any other file the seed is not asked for; it has to be that of a bucket with this
-    /// configuration. What a crash left behind the last whole frame is cut off, and told; damage is refused with its
-    /// place, and changes nothing. The bucket has no watches, and all that it has is on the disk.
+    /// Opens the bucket of a file. An empty file, where it lies in such a place, is replaced by that of a new bucket, with this
+    /// seed: choose it at random, and another for each file. A crash meanwhile leaves the empty file, or all that a new one begins
+    /// with. Of any other file the seed and the place are not asked for; it has to be that of a bucket with this configuration.
+    /// What a crash left behind the last whole frame is cut off, and told; damage is refused with its place, and changes
+    /// nothing. The bucket has no watches, and all that it has is on the disk.
     ///
     /// Of a file that begins with a checkpoint the bytes do not tell which acts that stands in place of: the bucket is at the
     /// state of whatever lawful acts it is the checkpoint of, with those of the entries behind them. A checkpoint that no acts lead
@@ -256,13 +268,16 @@ impl<F: JournalFile> Durable<F> {
     ///
     /// It reads the file once, into memory, makes each act again, and puts back each write of a checkpoint, for which it takes
     /// memory until the call has answered. Nothing else is to write the file meanwhile.
-    pub fn open(
+    pub fn open<P>(
         alloc: Global,
         config: &Config,
         file: F,
+        place: &P,
         seed: u64,
         sync: Sync,
     ) -> Result<Opened<F>, NotDone<F>>
+    where
+        F: ReplaceableFile<P>,
         ensures represents { IfOk result (λ o. (acts : List Act) × Represents (state_of config.now acts) o.durable.bucket) }
         ensures restored { IfOk result (λ o. (payloads : List (List ℕ)) × (entries : List Entry) × ((base : Base) →
             IsBaseOf config.now payloads base → Represents (state_of config.now (acts_before base ++ acts_of entries)) o.durable.bucket)) }
@@ -291,10 +306,11 @@ impl<F: JournalFile> Durable<F> {
         ensures handed { IfErr result (λ r. F.usable file ≡ true → (kept loose : List ℕ) → F.has file kept loose →
             LeavesBytes F.has config.now seed kept loose r.file) }
         ensures fault { IfErr result (λ r. r.error ≡ FileFault → F.usable file ≡ true → F.faults file < F.faults r.file) }
+        ensures empty { IfErr result (λ r. F.has file [] [] → IsRefusal r.error) }
         ensures never { IfErr result (λ r. r.error ≢ FileBusy) }
     {
         let mut file = file;
-        match found_in(alloc, config, &mut file, seed) {
+        match found_in(alloc, config, &mut file, place, seed) {
             Ok(found) => Ok(opened_of(file, found, sync)),
             Err(error) => Err(NotDone { error, file }),
         }

@@ -6,16 +6,18 @@ use Rattle.kv_keys.specs.declared.error.KvError.{KvError}
 use Rattle.kv_keys.specs.declared.error.KvError.TheVariants.{OutOfMemory}
 use Rattle.kv_bucket.specs.Keeping as keeping
 use Rattle.kv_bucket.specs.Keeping.{KeeperState, may_open, then_readers}
-use Rattle.kv_durable.specs.Bases.{Base, acts_before, fresh}
+use Rattle.kv_durable.specs.Bases.{Base, acts_before, fresh, opening}
 use Rattle.kv_durable.specs.Durables.{state_of}
-use Rattle.kv_durable.specs.Files.{Reads}
+use Rattle.kv_durable.specs.Files.{Reads, file_of}
 use Rattle.kv_durable.specs.Journals.{Keeps}
-use Rattle.kv_durable.specs.Openings.{HasRead, IsReopenedOn}
+use Rattle.kv_durable.specs.Openings.{HasRead, IsNew, IsReopenedOn}
 use Rattle.kv_durable.specs.declared.durable.Durable.{Durable}
 use Rattle.kv_durable.specs.declared.journal.Journal.{Journal}
-use Rattle.kv_durable_live.specs.Openings.{AreRead, GoesOnFrom, IsRead}
+use Rattle.kv_durable.proofs.Finding.{from_empty}
+use Rattle.kv_durable_live.specs.Openings.{AreRead, GoesOnFrom, IsRead, LeavesFile}
 use Rattle.kv_durable_live.specs.Sharing.{IsAt}
 use Rattle.kv_journal.specs.Entries.{Entry, acts_of}
+use Rattle.kv_journal.specs.Header.{beginning}
 use Rattle.kv_model.specs.Acts.{Act}
 use Rattle.kv_model.specs.Configuration.{Configuration, configure}
 use Rattle.kv_single.specs.Held.{Represents}
@@ -79,6 +81,25 @@ module _ {F : Type 0} (has : F → List ℕ → List ℕ → Type 0) (usable : F
         (λ some. let again = all.3 some in (again.0, subst (λ (j : Journal F). Reads base (kept ++ loose) j.framing.seed entries again.0) (sym same) again.1.reads)),
         there.plain works kept loose h,
       )
+
+  -- what an opening has read is in its file
+  pub opened_leaves : (file : F) (seed : ℕ) (base : Base) (entries : List Entry) (durable : Durable F) (dropped : ℕ) → base.config ≡ config → HasRead has usable base file entries durable dropped
+      → (usable file ≡ true → has file [] [] → IsNew has usable config seed durable dropped)
+      → usable file ≡ true → (kept loose : List ℕ) → has file kept loose → LeavesFile has config seed kept loose durable.journal.appender.file
+  opened_leaves file seed base entries durable dropped own read new works kept loose h =
+      let at_file = durable.journal.appender.file in
+      elim (none_or_some (kept ++ loose)) [
+        | inl none ↦
+            let n = new works (from_empty has file kept loose none h) in
+            let whole : file_of durable.journal.framing.seed n.at.base [] ≡ beginning seed config =
+            ap (λ (m : ℕ). file_of m n.at.base []) n.has_seed ∙ ap (λ (b : Base). file_of seed b []) n.based ∙ append-nil (opening seed (fresh config)) ∙ append-nil (beginning seed config) in
+            inl (inr (none, subst (λ (w : List ℕ). has at_file w []) whole n.at.keeps.bytes.file))
+        | inr some ↦
+            let again = (read.1 works kept loose h).3 some in
+            let r = again.1 in
+            let seed_of = durable.journal.framing.seed in
+            inr (base, seed_of, entries, again.0, own, r.reads, subst (λ (b : Base). has at_file (file_of seed_of b entries) []) r.based r.at.keeps.bytes.file)
+      ]
 
   pub new_from : (file : F) (journal : Journal F) (acts : List Act) → GoesOnFrom has usable config file journal acts → usable file ≡ true → has file [] [] → Keeps has usable (fresh config) [] [] journal × (acts ≡ [])
   new_from file journal acts from works h =

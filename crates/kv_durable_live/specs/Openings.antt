@@ -1,11 +1,11 @@
 -- What an opening goes on from.
-use Rattle.std.specs.Prelude.{◌≡◌, ℕ, Bool, true, List, [], ◌++◌, Result}
+use Rattle.std.specs.Prelude.{◌≡◌, ◌⊎◌, ℕ, Bool, true, List, [], ◌++◌, Result}
 use Rattle.kv_keys.specs.Outcome.{Refuses}
 use Rattle.kv_keys.specs.declared.error.KvError.{KvError}
 use Rattle.kv_durable.specs.Bases.{Base, acts_before, fresh}
-use Rattle.kv_durable.specs.Files.{Reads}
+use Rattle.kv_durable.specs.Files.{Reads, file_of}
 use Rattle.kv_durable.specs.Journals.{Keeps}
-use Rattle.kv_durable.specs.Openings.{HasRead}
+use Rattle.kv_durable.specs.Openings.{HasRead, LeavesBytes}
 use Rattle.kv_durable.specs.declared.durable.Durable.{Durable}
 use Rattle.kv_durable.specs.declared.error.DurableError.{DurableError}
 use Rattle.kv_durable.specs.declared.error.DurableError.TheVariants.{Refused}
@@ -39,6 +39,14 @@ GoesOnFrom has usable config file journal acts = usable file ≡ true → (kept 
     × Keeps has usable base entries [] journal × (kept ++ loose ≡ [] → (entries ≡ []) × (base ≡ fresh config))
     × ((kept ++ loose ≡ [] → ⊥) → (rest : List ℕ) × Reads base (kept ++ loose) journal.framing.seed entries rest)
     × IsPlainWhere config (kept ++ loose) base
+
+-- What a refused opening leaves of a file. It leaves what a failed opening of a `Durable` does; or the file as it was opened: what
+-- is read of it is there, all of it on the disk, and the rest was cut off.
+abbrev pub LeavesFile : {F : Type 0} → (F → List ℕ → List ℕ → Type 0) → Configuration → (seed : ℕ) → (kept loose : List ℕ) → F → Type 0
+LeavesFile has config seed kept loose file =
+    LeavesBytes has config seed kept loose file
+    ⊎ ((base : Base) × (other : ℕ) × (entries : List Entry) × (rest : List ℕ) × (base.config ≡ config)
+    × Reads base (kept ++ loose) other entries rest × has file (file_of other base entries) [])
 
 -- the error is the refusal of this outcome, or want of memory where it refuses nothing
 abbrev pub IsRefusedBy : {X : Type 0} → Result X KvError → DurableError → Type 0

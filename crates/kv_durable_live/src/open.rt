@@ -6,12 +6,12 @@ ghost use Rattle.kv_keys.specs.declared.error.KvError.{KvError as AnError};
 ghost use Rattle.kv_bucket.specs.Keeping.{may_open};
 ghost use Rattle.kv_bucket.specs.ReaderState.{IsUnread};
 ghost use Rattle.kv_durable.specs.Bases.{Base, acts_before, fresh};
-ghost use Rattle.kv_durable.specs.Durables.{state_of};
+ghost use Rattle.kv_durable.specs.Durables.{IsRefusal, state_of};
 ghost use Rattle.kv_durable.specs.Files.{Reads, file_of};
 ghost use Rattle.kv_durable.specs.Journals.{Keeps};
 ghost use Rattle.kv_durable.specs.Refusals.{IsDamaged};
 ghost use Rattle.kv_durable.specs.declared.error.DurableError.TheVariants.{FileBusy, FileFault, OtherBucket, Refused};
-ghost use Rattle.kv_durable_live.specs.Openings.{GoesOnFrom, IsRead, IsRefusedBy};
+ghost use Rattle.kv_durable_live.specs.Openings.{GoesOnFrom, IsRead, IsRefusedBy, LeavesFile};
 ghost use Rattle.kv_durable_live.specs.Sharing.{IsAt};
 ghost use Rattle.kv_journal.specs.Damage.{ShowsDamage};
 ghost use Rattle.kv_journal.specs.Entries.{Entry, acts_of};
@@ -21,7 +21,7 @@ ghost use Rattle.kv_single.specs.Held.{Represents};
 use crate::keeper::DurableKeeper;
 use crate::live::DurableLive;
 use kv_bucket::{Began, Bucket, ChosenActs, Config, KvError, Live, LiveName, Notifier, Reader};
-use kv_durable::{Durable, DurableError, Journal, JournalFile, NotDone, Sync};
+use kv_durable::{Durable, DurableError, Journal, JournalFile, NotDone, ReplaceableFile, Sync};
 use std::alloc::Global;
 use std::marker::Brand;
 use std::snapshot::Snapshot;
@@ -67,6 +67,7 @@ fn named<B: Began, F: JournalFile>(
     ensures began { IfOk result (λ o. o.opened.opening.book.began ≡ acts.now) }
     ensures journal { IfOk result (λ o. o.journal ≡ durable.journal) }
     ensures refused { IfErr result (λ r. IsRefusedBy (may_open config.now readers) r.error) }
+    ensures file { IfErr result (λ r. r.file ≡ durable.journal.appender.file) }
 {
     let (bucket, journal) = durable.into_parts();
     match opened_from::<B>(alloc, config, &bucket, readers) {
@@ -95,6 +96,7 @@ fn of_read<F: JournalFile>(
         GoesOnFrom F.has F.usable config.now before.now.value o.journal o.opened.opening.book.began) }
     ensures journal { IfOk result (λ o. o.journal ≡ read.durable.journal) }
     ensures refused { IfErr result (λ r. IsRefusedBy (may_open config.now readers) r.error) }
+    ensures file { IfErr result (λ r. r.file ≡ read.durable.journal.appender.file) }
 {
     let about = (config, before, &read);
     let acts = ChosenActs::of::<Brand, _>(&about);
@@ -102,20 +104,23 @@ fn of_read<F: JournalFile>(
 }
 
 impl<F: JournalFile> DurableLive<Brand, F> {
-    /// Opens the bucket of a file, for 1 to 32 readers. An empty file is made that of a new bucket, with this seed, and any other
-    /// goes on, as `Durable::open` does it: what is published begins with the acts that the file has. The configuration and the
-    /// number of readers are checked before the file is touched.
+    /// Opens the bucket of a file, for 1 to 32 readers. An empty file, where it lies in such a place, is replaced by that of a new
+    /// bucket, with this seed, and any other goes on, as `Durable::open` does it: what is published begins with the acts that the
+    /// file has. The configuration and the number of readers are checked before the file is touched.
     ///
     /// Of a file that begins with a checkpoint, what is published begins with acts in whose place that can stand: all that is read
     /// of the bucket is the same whichever they are.
-    pub fn open(
+    pub fn open<P>(
         alloc: Global,
         config: &Config,
         file: F,
+        place: &P,
         seed: u64,
         sync: Sync,
         readers: usize,
     ) -> Result<Opened<F>, NotDone<F>>
+    where
+        F: ReplaceableFile<P>,
         ensures ok { IfOk result (λ o. (may_open config.now readers ≡ Ok config.now)
             × (o.opened.opening.config ≡ config.now) × (o.opened.readers ≡ readers)) }
         ensures new { IfOk result (λ o. F.usable file ≡ true → F.has file [] [] →
@@ -132,7 +137,10 @@ impl<F: JournalFile> DurableLive<Brand, F> {
             (other : ℕ) × (payload : List ℕ) × (rest : List ℕ)
             × BeginsWith (kept ++ loose) other payload rest × (payload ≢ configuration_payload config.now)) }
         ensures refused { IfErr result (λ r. (x : AnError) → r.error ≡ Refused x → Refuses x (may_open config.now readers)) }
+        ensures left { IfErr result (λ r. F.usable file ≡ true → (kept loose : List ℕ) → F.has file kept loose →
+            LeavesFile F.has config.now seed kept loose r.file) }
         ensures fault { IfErr result (λ r. r.error ≡ FileFault → F.usable file ≡ true → F.faults file < F.faults r.file) }
+        ensures empty { IfErr result (λ r. F.has file [] [] → IsRefusal r.error) }
         ensures never { IfErr result (λ r. r.error ≢ FileBusy) }
     {
         if let Err(error) = Live::check(config, readers) {
@@ -142,7 +150,7 @@ impl<F: JournalFile> DurableLive<Brand, F> {
             });
         }
         let before = Snapshot::of(&file);
-        match Durable::open(alloc, config, file, seed, sync) {
+        match Durable::open(alloc, config, file, place, seed, sync) {
             Ok(read) => of_read(alloc, config, &before, read, readers),
             Err(refused) => Err(refused),
         }

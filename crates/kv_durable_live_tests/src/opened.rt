@@ -34,7 +34,7 @@ pub fn config(alloc: Global) -> Result<Config, KvError> {
 
 // An opening of a file, for two readers.
 pub fn opened(alloc: Global, file: MemoryFile) -> Result<Opened<MemoryFile>, DurableError> {
-    match DurableLive::open(alloc, &config(alloc)?, file, SEED, Sync::Each, 2) {
+    match DurableLive::open(alloc, &config(alloc)?, file, &(), SEED, Sync::Each, 2) {
         Ok(opened) => Ok(opened),
         Err(refused) => Err(refused.error),
     }
@@ -84,6 +84,7 @@ pub fn second_life(alloc: Global, file: &MemoryFile) -> Result<Durable<MemoryFil
         alloc,
         &config(alloc)?,
         MemoryFile::new(alloc, bytes),
+        &(),
         SEED,
         Sync::Each,
     ) {

@@ -148,6 +148,7 @@ fn a_shared_compaction_replaces_a_large_file(rt: HostRuntime) -> Result<(), Fail
 
 // So many calls of the file go well behind the writes: the first two add the compaction to it, and the others replace it. What is
 // published has the compaction once that is in the file, whatever comes of the checkpoint.
+// A file that is refused memory fails too: then all is done once more.
 #[derive(Clone, Copy)]
 struct IsCutOff {
     calls: u64,
@@ -168,7 +169,7 @@ impl<R: Wait + Abort> Test<R> for IsCutOff {
         }
         let calls = self.calls;
         match live.compact_and_checkpoint(rt, WRITES, &(), NEXT_SEED) {
-            Err(DurableError::FileFault) => assert!(rt; calls < 2),
+            Err(DurableError::FileFault) if calls < 2 => {}
             Ok(Shrunk::Failed(DurableError::FileFault)) => assert!(rt; calls == 2 || calls == 3),
             Ok(Shrunk::Replaced) => equal(rt, calls, 4),
             Ok(Shrunk::Left) => assert!(rt; false),

@@ -21,7 +21,7 @@ fn opened_with(
     bytes: &[u8],
 ) -> Result<Opened<MemoryFile>, DurableError> {
     let file = MemoryFile::new(alloc, Vec::from_slice(alloc, bytes)?);
-    match Durable::open(alloc, config, file, SEED, Sync::Each) {
+    match Durable::open(alloc, config, file, &(), SEED, Sync::Each) {
         Ok(opened) => Ok(opened),
         Err(refused) => Err(refused.error),
     }

@@ -31,7 +31,7 @@ pub(crate) fn opened(
     file: MemoryFile,
     sync: Sync,
 ) -> Result<Opened<MemoryFile>, DurableError> {
-    match Durable::open(alloc, &config(alloc)?, file, SEED, sync) {
+    match Durable::open(alloc, &config(alloc)?, file, &(), SEED, sync) {
         Ok(opened) => Ok(opened),
         Err(refused) => Err(refused.error),
     }
@@ -285,7 +285,7 @@ fn until_it_fails(
 ) -> Result<(MemoryFile, usize), DurableError> {
     let mut file = empty(alloc);
     file.fail_after(calls);
-    let mut bucket = match Durable::open(alloc, &config(alloc)?, file, SEED, sync) {
+    let mut bucket = match Durable::open(alloc, &config(alloc)?, file, &(), SEED, sync) {
         Ok(opened) => opened.durable,
         Err(refused) => return Ok((refused.file, 0)),
     };
@@ -314,17 +314,12 @@ fn comes_back(
 ) -> Result<(), DurableError> {
     for left in 0..file.loose().len() + 1 {
         let bytes = file.crashed(alloc, left, torn)?;
-        match reopened(alloc, &bytes) {
-            Ok(again) => {
-                let version = again.durable.bucket().version();
-                assert!(rt;
-                    is_behind(course, answered, version)
-                        || is_behind(course, answered.saturating_add(1), version)
-                );
-            }
-            Err(DurableError::FileDamaged { at: 0 }) => assert!(rt; answered == 0),
-            Err(error) => return Err(error),
-        }
+        let again = reopened(alloc, &bytes)?;
+        let version = again.durable.bucket().version();
+        assert!(rt;
+            is_behind(course, answered, version)
+                || is_behind(course, answered.saturating_add(1), version)
+        );
     }
     Ok(())
 }
@@ -408,7 +403,7 @@ fn another_bucket_is_told_once(rt: &impl Abort, alloc: Global) -> Result<(), Dur
     let mut config = config(alloc)?;
     config.history = 3;
     let file = MemoryFile::new(alloc, Vec::from_slice(alloc, &course.bytes)?);
-    match Durable::open(alloc, &config, file, SEED, Sync::Each) {
+    match Durable::open(alloc, &config, file, &(), SEED, Sync::Each) {
         Ok(_) => assert!(rt; false),
         Err(refused) => {
             let is_memory = refused.error == DurableError::Refused(KvError::OutOfMemory);

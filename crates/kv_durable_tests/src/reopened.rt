@@ -22,7 +22,7 @@ fn opened_with(
     let mut config = config(alloc)?;
     config.history = history;
     let file = MemoryFile::new(alloc, Vec::from_slice(alloc, bytes)?);
-    match Durable::open(alloc, &config, file, SEED, Sync::Each) {
+    match Durable::open(alloc, &config, file, &(), SEED, Sync::Each) {
         Ok(opened) => Ok(opened),
         Err(refused) => Err(refused.error),
     }

@@ -27,9 +27,15 @@ fn new_path(rt: &HostRuntime) -> Result<String, DurableError> {
 }
 
 fn opened(rt: &HostRuntime, alloc: Global, path: &str) -> Result<Opened<SystemFile>, DurableError> {
+    let next = format!(in alloc; "{path}.next")?;
+    let place = SystemPlace {
+        rt,
+        path,
+        next: next.as_str(),
+    };
     let file = SystemFile::open(rt, path)?;
     let config = Config::named(alloc, "settings")?;
-    match Durable::open(alloc, &config, file, 7, Sync::Each) {
+    match Durable::open(alloc, &config, file, &place, 7, Sync::Each) {
         Ok(opened) => Ok(opened),
         Err(refused) => Err(refused.error),
     }

@@ -82,7 +82,7 @@ fn opened_of(
     ensures other { IfErr result (λ e. e ≡ OtherBucket → AreOfAnother config.now bytes.now) }
 {
     let found = Vec::from_slice(alloc, bytes)?;
-    match Durable::open(alloc, config, Outbox::of(found), seed, sync_of(sync)) {
+    match Durable::open(alloc, config, Outbox::of(found), &(), seed, sync_of(sync)) {
         Ok(opened) => Ok(opened),
         Err(refused) => Err(refused.error),
     }
