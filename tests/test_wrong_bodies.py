@@ -2,7 +2,7 @@
 kit, and the libraries below each crate as `rt ci` or a build left them. As many crates are tried side by side as JOBS says, or as there
 are processors, those with most to do first. Where GATE names the file that a running `rt ci` is written to, a crate is tried once that
 has proved the libraries below it, two at a time until it ends: so they take the processors that proofs leave idle."""
-import concurrent.futures, os, tempfile, threading, time, unittest
+import concurrent.futures, os, re, tempfile, threading, time, unittest
 from typing import Iterator, NamedTuple, Optional
 
 from scripts import kit
@@ -13,6 +13,8 @@ JOBS = int(os.environ.get("JOBS") or len(os.sched_getaffinity(0)))
 NAMED = os.environ.get("CRATES", "").split()
 GATE = os.environ.get("GATE", "")
 BESIDE_GATE = 2
+# What `rt ci` says of a crate whose library stands: that this run proved it, or that an earlier run on this machine did.
+PROVED = re.compile(r"rt: (\w+) (?:proved$|is kept: )")
 # A body of this function that means the same as the one that stands there, which nothing may refuse.
 SAME = Body("kv_frames", "same", "kv_frames::crc::shifted", (Change("src/crc.rt", "const POLYNOMIAL: u32 = 0x82F6_3B78;", "const POLYNOMIAL: u32 = 0x82F63B78;"),))
 
@@ -58,7 +60,7 @@ class Gate:
         return not self.path or any(it.startswith("-- the gate: ") for it in self.lines())
 
     def has_proved(self, crates: list[str]) -> bool:
-        return not self.path or {"rt: %s proved" % it for it in crates} <= set(self.lines())
+        return not self.path or set(crates) <= {it[1] for it in map(PROVED.match, self.lines()) if it}
 
 
 class Turns:
@@ -129,7 +131,9 @@ class InTurn(unittest.TestCase):
 
     @unittest.skipUnless(kit.command(), "the Rattle kit's command rt is not on the path: install the kit")
     def test_a_crate_waits_for_the_libraries_below_it(self) -> None:
-        for told, taken in (((), {"kv_keys", "kv_frames", None}), (("rt: kv_keys proved", "rt: kv_trie NOT PROVED", "-- the gate: 9 s"), {"kv_keys", "kv_frames", "kv_model", None})):
+        kept = "rt: kv_keys is kept: an earlier run on this machine proved the same files over the same libraries"
+        for told, taken in (((), {"kv_keys", "kv_frames", None}), ((kept, "-- the gate: 9 s"), {"kv_keys", "kv_frames", "kv_model", None}),
+                            (("rt: kv_keys proved", "rt: kv_trie NOT PROVED", "-- the gate: 9 s"), {"kv_keys", "kv_frames", "kv_model", None})):
             with self.subTest(told):
                 turns = self.turns(*told)
                 self.assertEqual({turns.take() for _ in range(4)}, taken)
