@@ -12,6 +12,7 @@ use crate::batch::Batch;
 use crate::feed::Feed;
 use crate::filed::Filed;
 use crate::made::{Made, Ready};
+use crate::ringed::Ringed;
 use kv_single::{Bucket, Request, Version};
 use std::alloc::Global;
 use std::mem;
@@ -20,7 +21,7 @@ use std::mem;
 #[derive(Drop)]
 pub enum Content {
     /// A bucket of one thread, with its file if it has one.
-    Bucket(Bucket, Option<Filed>, u64),
+    Bucket(Ringed, Option<Filed>, u64),
     /// What a bucket had accepted by a moment.
     View(Version, u64),
     /// A watch over views.
@@ -37,7 +38,7 @@ impl Content {
         ensures { option_copied result ≡ version_in (Some self.now) }
     {
         match self {
-            Content::Bucket(bucket, _, _) => Some(bucket.version()),
+            Content::Bucket(bucket, _, _) => Some(bucket.single().version()),
             Content::View(version, _) => Some(version),
             Content::Feed(..) | Content::Batch(_) | Content::Made(..) => None,
         }
@@ -60,7 +61,7 @@ impl Content {
         ensures none { IfNone result (is_filed self.now ≡ false) }
     {
         match self {
-            Content::Bucket(bucket, Some(filed), _) => Some((bucket, filed)),
+            Content::Bucket(bucket, Some(filed), _) => Some((bucket.single(), filed)),
             Content::Bucket(_, None, _)
             | Content::View(..)
             | Content::Feed(..)

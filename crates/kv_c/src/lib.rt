@@ -20,5 +20,6 @@ mod parts;
 mod read;
 mod ready;
 mod request;
+mod ringed;
 mod slot;
 mod status;

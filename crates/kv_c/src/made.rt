@@ -6,8 +6,9 @@ ghost use Rattle.kv_model.specs.declared.call.Call.{Call as ACall};
 
 use crate::filed::{Filed, Syncs};
 use crate::more::ready_more;
+use crate::ringed::{Next, Ringed};
 use kv_durable::DurableError;
-use kv_single::{Bucket, Request, Version};
+use kv_single::{Request, Version};
 use std::alloc::{AllocError, Global};
 use std::marker::Model;
 
@@ -17,7 +18,7 @@ const MOST_WAITING: usize = 16_777_216;
 /// What a call leads to, the frames that tell it, and the number that it answers.
 #[derive(Drop)]
 pub struct Ready {
-    pub next: Version,
+    pub next: Next,
     pub frames: Vec<u8>,
     pub told: u64,
 }
@@ -63,9 +64,9 @@ fn copy_front(room: &mut [u8], bytes: &[u8]) -> usize
 
 /// A call that was made on a bucket with a file, and waits for the shell. The bucket is as it was before the call.
 pub struct Made {
-    bucket: Bucket,
+    bucket: Ringed,
     // What the call leads to, if it leads to anything else.
-    next: Option<Version>,
+    next: Option<Next>,
     // The journal with the frames of the call.
     filed: Filed,
     // The file whose place that one takes, where the call is a checkpoint.
@@ -132,7 +133,7 @@ impl Made {
     ghost use Rattle.kv_c.specs.Filing.{is_stopped};
 
     /// A call on a bucket with this file.
-    pub(crate) fn of(bucket: Bucket, filed: Filed, ready: Ready) -> Made
+    pub(crate) fn of(bucket: Ringed, filed: Filed, ready: Ready) -> Made
         requires leads { (calls : List ACall) × LeadThere calls bucket (record bucket { version = ready.next }) }
         requires goes { is_stopped filed ≡ false }
         requires short { length ready.frames.items < 2 ^ 33 }
@@ -158,7 +159,7 @@ impl Made {
 
     /// The bucket as the call leaves it, with its file, and the number that the call answers: the shell has written what
     /// it was lent.
-    pub(crate) fn settle(self) -> (Bucket, Filed, u64)
+    pub(crate) fn settle(self) -> (Ringed, Filed, u64)
         ensures { IsSettled self result.0 result.1 × (result.2 ≡ self.told) }
     {
         let Made {
@@ -173,14 +174,14 @@ impl Made {
             joins: _,
         } = self;
         let mut bucket = bucket;
-        if let Some(version) = next {
-            bucket.go_on_through(version);
+        if let Some(next) = next {
+            bucket.go_on_through(next);
         }
         (bucket, filed, told)
     }
 
     /// The bucket as it was before the call, with its file, to which nothing more is added: the shell has failed.
-    pub(crate) fn give_up(self) -> (Bucket, Filed)
+    pub(crate) fn give_up(self) -> (Ringed, Filed)
         ensures { IsGivenUp self result.0 result.1 }
     {
         let Made {
@@ -200,7 +201,7 @@ impl Made {
     }
 
     /// A sync of the file.
-    pub(crate) fn synced(alloc: Global, bucket: Bucket, filed: Filed) -> Made
+    pub(crate) fn synced(alloc: Global, bucket: Ringed, filed: Filed) -> Made
         requires { is_stopped filed ≡ false }
         ensures { MakesSync bucket filed result }
     {
@@ -224,7 +225,7 @@ impl Made {
     }
 
     /// A clean end of the file, which this frame tells.
-    pub(crate) fn ended(bucket: Bucket, filed: Filed, frame: Vec<u8>) -> Made
+    pub(crate) fn ended(bucket: Ringed, filed: Filed, frame: Vec<u8>) -> Made
         requires goes { is_stopped filed ≡ false }
         requires short { length frame.items < 2 ^ 33 }
         requires frame { IsFrameOf filed.journal.value (closed bucket.version.last) frame.items }
@@ -251,7 +252,7 @@ impl Made {
     }
 
     /// The opening of a bucket, whose new file begins with these bytes; an old one is cut off where its journal ends.
-    pub(crate) fn opened(bucket: Bucket, filed: Filed, first: Vec<u8>) -> Made
+    pub(crate) fn opened(bucket: Ringed, filed: Filed, first: Vec<u8>) -> Made
         ensures parts { (result.bucket ≡ bucket) × (result.next ≡ None) × (result.filed ≡ filed) × (result.former ≡ None)
             × (result.bytes ≡ first.items) × (result.syncs.behind ≡ true) }
         ensures old { first.items ≡ [] → result.at ≡ filed.journal.value.appender.place }
@@ -279,7 +280,7 @@ impl Made {
     }
 
     /// A checkpoint: this file, which has these bytes, takes the place of the former one.
-    pub(crate) fn replacing(bucket: Bucket, former: Filed, filed: Filed, bytes: Vec<u8>) -> Made
+    pub(crate) fn replacing(bucket: Ringed, former: Filed, filed: Filed, bytes: Vec<u8>) -> Made
         ensures parts { (result.bucket ≡ bucket) × (result.next ≡ None) × (result.filed ≡ filed) × (result.former ≡ Some former)
             × (result.bytes ≡ bytes.items) × (result.at ≡ 0) × (result.syncs.behind ≡ true) }
     {
@@ -300,7 +301,7 @@ impl Made {
     }
 
     /// The bucket with its former file, where the call is a checkpoint.
-    pub(crate) fn keep(self) -> Result<(Bucket, Filed), Made>
+    pub(crate) fn keep(self) -> Result<(Ringed, Filed), Made>
         ensures ok { IfOk result (λ p. (p.0 ≡ self.bucket) × (self.former ≡ Some p.1)) }
         ensures err { IfErr result (λ made. (made ≡ self) × (self.former ≡ None)) }
     {
@@ -343,8 +344,8 @@ impl Made {
         ensures { result.now ≡ (bucket_behind self.now).version }
     {
         match &self.next {
-            Some(version) => version,
-            None => self.bucket.version(),
+            Some(next) => next.version(),
+            None => self.bucket.single().version(),
         }
     }
 
@@ -383,7 +384,7 @@ impl Made {
         ensures no_other { IfErr result IsRefusal }
     {
         let ready = ready_more(
-            &self.bucket,
+            self.bucket.single(),
             self.version_behind(),
             &self.filed,
             self.bytes.len(),

@@ -18,6 +18,7 @@ ghost use Rattle.kv_single.specs.Held.{Represents};
 use crate::filed::Filed;
 use crate::made::Ready;
 use crate::ready::MOST_VALUE;
+use crate::ringed::Next;
 use kv_durable::DurableError;
 use kv_frames::Framing;
 use kv_journal::encode_request;
@@ -94,5 +95,9 @@ pub(crate) fn ready_more(
     let next = next_behind(bucket, version, request)?;
     let frames = frame_behind(bucket.alloc(), filed, waiting, request)?;
     let told = next.revision();
-    Ok(Ready { next, frames, told })
+    Ok(Ready {
+        next: Next::apart(next),
+        frames,
+        told,
+    })
 }

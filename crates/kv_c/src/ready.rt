@@ -24,49 +24,54 @@ ghost use Rattle.kv_single.specs.Stepping.{IsStep};
 
 use crate::filed::Filed;
 use crate::made::Ready;
+use crate::ringed::{Next, Ringed};
 use kv_durable::{BatchError, DurableError};
-use kv_single::{BatchRefused, Bucket, KvError, Request, Version};
+use kv_single::{BatchRefused, Bucket, KvError, Request};
 
 /// No bucket takes a longer value.
 pub(crate) const MOST_VALUE: usize = 1_048_576;
 
 // The version with one write more. What no bucket takes is refused first, as the rules do.
-fn next_of(bucket: &Bucket, request: &Request) -> Result<Version, KvError>
-    ensures config { IfOk result (λ next. next.config ≡ bucket.now.version.config) }
-    ensures ok { IfOk result (λ next. Accepts bucket.now request.now next) }
+fn next_of(bucket: &mut Ringed, request: &Request) -> Result<Next, KvError>
+    ensures config { IfOk result (λ next. next.config ≡ bucket.old.version.config) }
+    ensures ok { IfOk result (λ next. Accepts bucket.old request.now next) }
     ensures short { OnOk result (length (value_of (asked request.now)) ≤ 1048576) }
-    ensures refused { IfErr result (λ e. (state : State) → Represents state bucket.now →
+    ensures refused { IfErr result (λ e. (state : State) → Represents state bucket.old →
         Refuses e (accept state.config (asked request.now) state.acts)) }
+    ensures same { bucket.new ≡ bucket.old }
 {
     if request.value().len() > MOST_VALUE {
         return Err(KvError::ValueTooLarge);
     }
-    bucket.version().apply(bucket.alloc(), request)
+    bucket.next(request)
 }
 
 /// A write.
 pub(crate) fn ready_write(
-    bucket: &Bucket,
+    bucket: &mut Ringed,
     filed: &Filed,
     request: &Request,
 ) -> Result<Ready, DurableError>
     ensures goes { OnOk result (is_stopped filed.now ≡ false) }
-    ensures config { IfOk result (λ r. r.next.config ≡ bucket.now.version.config) }
-    ensures accepts { IfOk result (λ r. Accepts bucket.now request.now r.next) }
+    ensures config { IfOk result (λ r. r.next.config ≡ bucket.old.version.config) }
+    ensures accepts { IfOk result (λ r. Accepts bucket.old request.now r.next) }
     ensures told { IfOk result (λ r. r.told ≡ r.next.last) }
     ensures frame { IfOk result (λ r. (revision : ℕ) →
         IsFrameOf filed.now.journal.value (did (Wrote (write_for (asked request.now) revision))) r.frames.items) }
     ensures short { IfOk result (λ r. length r.frames.items < 2 ^ 33) }
     ensures refused { IfErr result (λ e. (x : AnError) → e ≡ Refused x → (state : State) →
-        Represents state bucket.now → Refuses x (accept state.config (asked request.now) state.acts)) }
+        Represents state bucket.old → Refuses x (accept state.config (asked request.now) state.acts)) }
     ensures fault { IsErrOf result FileFault → is_stopped filed.now ≡ true }
     ensures stopped { is_stopped filed.now ≡ true → result ≡ Err FileFault }
     ensures no_other { IfErr result IsRefusal }
+    ensures same { bucket.new ≡ bucket.old }
 {
     filed.may_add()?;
     let next = next_of(bucket, request)?;
-    let frames = filed.journal.frame_of_write(bucket.alloc(), request)?;
-    let told = next.revision();
+    let frames = filed
+        .journal
+        .frame_of_write(bucket.single().alloc(), request)?;
+    let told = next.version().revision();
     Ok(Ready { next, frames, told })
 }
 
@@ -95,7 +100,11 @@ pub(crate) fn ready_batch(
     let alloc = bucket.alloc();
     let (next, told) = bucket.version().apply_all(alloc, first, rest)?;
     match filed.journal.frame_of_batch(alloc, requests) {
-        Ok(frames) => Ok(Ready { next, frames, told }),
+        Ok(frames) => Ok(Ready {
+            next: Next::apart(next),
+            frames,
+            told,
+        }),
         Err(_) => Err(BatchError::Refused(BatchRefused {
             at: rest.len(),
             error: KvError::OutOfMemory,
@@ -118,7 +127,7 @@ pub(crate) fn ready_seal(bucket: &Bucket, filed: &Filed) -> Result<Ready, Durabl
     let next = bucket.version().seal(bucket.alloc())?;
     let frames = filed.journal.frame_of_seal(bucket.alloc())?;
     Ok(Ready {
-        next,
+        next: Next::apart(next),
         frames,
         told: 0,
     })
@@ -147,7 +156,7 @@ pub(crate) fn ready_compaction(
     let next = bucket.version().compact(bucket.alloc(), floor)?;
     let frames = filed.journal.frame_of_compaction(bucket.alloc(), floor)?;
     Ok(Ready {
-        next,
+        next: Next::apart(next),
         frames,
         told: 0,
     })

@@ -1,4 +1,4 @@
-//! A version and the two before it, of which the oldest becomes the next by the writes that it lacks.
+//! A version and those before it, of which the oldest becomes the next by the writes that it lacks.
 
 ghost use Rattle.std.specs.Prelude.{◌≡◌, ◌∷◌, ◌++◌, ◌⊎◌, if◌then◌else◌, ◌<◌, ◌^◌, List, [], true, false, None, Ok, Err, IfErr, IfOk, IfSome, OnErr, OnOk};
 ghost use Rattle.kv_keys.specs.Outcome.{Refuses};
@@ -59,14 +59,16 @@ impl Older {
     }
 }
 
-/// A version that is followed by others, each with one write more. It keeps the two before it. Where nobody else has a
-/// snapshot of the oldest any more, the next version is made of that: it takes in the two writes that it lacks, whose
-/// pairs it shares with the versions that have them, and then the new one, and no node of it is copied. Each of the
-/// three so has nodes of its own wherever something was written.
+/// A version that is followed by others, each with one write more. It keeps the two before it, or one. Where nobody else
+/// has a snapshot of the oldest any more, the next version is made of that: it takes in the writes that it lacks, whose
+/// pairs it shares with the versions that have them, and then the new one, and no node of it is copied. Each of them so has
+/// nodes of its own wherever something was written.
 ///
 /// Contracts see what its version stores.
 pub struct Ring {
     version: Version,
+    // It keeps one version before its own, and no oldest.
+    keeps_one: bool,
     // The version before it.
     before: Option<Older>,
     // And the one before that.
@@ -81,6 +83,7 @@ impl Drop for Ring {
     fn drop(self) {
         let Self {
             version: _,
+            keeps_one: _,
             before: _,
             oldest: _,
             held: _,
@@ -102,16 +105,31 @@ impl Model for Ring {
 }
 
 impl Ring {
-    /// The ring of this version, with none before it.
-    pub fn new(version: Version) -> Ring
+    // The ring of this version, with none before it.
+    fn of(version: Version, keeps_one: bool) -> Ring
         ensures { result ≡ version }
     {
         Ring {
             version,
+            keeps_one,
             before: None,
             oldest: None,
             held: None,
         }
+    }
+
+    /// The ring of this version, which is to keep two before its own: for versions that readers have a while longer.
+    pub fn new(version: Version) -> Ring
+        ensures { result ≡ version }
+    {
+        Ring::of(version, false)
+    }
+
+    /// The same, where it is to keep one: for versions that nobody else has once there is a next one.
+    pub fn pair(version: Version) -> Ring
+        ensures { result ≡ version }
+    {
+        Ring::of(version, true)
     }
 
     /// Its version.
@@ -134,6 +152,21 @@ impl Ring {
         }
     }
 
+    // The version before its own, with the write that it lacks: none where there is none, or somebody else has it too.
+    fn brought_up(&mut self, alloc: Global) -> Result<Option<Version>, AllocError>
+        ensures same { self.new ≡ self.old }
+        ensures alike { IfOk result (λ found. IfSome found (λ version. IsAlike self.old version)) }
+    {
+        let Some(before) = self.before.take() else {
+            return Ok(None);
+        };
+        if before.version.is_shared() {
+            self.held = Some(before.version);
+            return Ok(None);
+        }
+        Ok(Some(before.follow(alloc)?))
+    }
+
     // The oldest version, with the two writes that it lacks: none where there is none, or somebody else has it too.
     fn caught_up(&mut self, alloc: Global) -> Result<Option<Version>, AllocError>
         ensures same { self.new ≡ self.old }
@@ -141,6 +174,7 @@ impl Ring {
     {
         let Ring {
             version: _,
+            keeps_one: _,
             before,
             oldest,
             held,
@@ -166,7 +200,12 @@ impl Ring {
         ensures same { self.new ≡ self.old }
         ensures alike { IfOk result (λ version. IsAlike self.old version) }
     {
-        match self.caught_up(alloc) {
+        let found = if self.keeps_one {
+            self.brought_up(alloc)
+        } else {
+            self.caught_up(alloc)
+        };
+        match found {
             Ok(Some(version)) => Ok(version),
             _ => self.version.with_own_inner(alloc),
         }
@@ -198,6 +237,7 @@ impl Ring {
     {
         let Ring {
             version,
+            keeps_one: _,
             before,
             oldest,
             held: _,
@@ -267,7 +307,7 @@ impl Ring {
         ensures err { IfErr result (λ e. e ≡ OutOfMemory) }
         ensures unchanged { OnErr result (self.new ≡ self.old) }
     {
-        *self = Ring::new(self.version.seal(alloc)?);
+        *self = Ring::of(self.version.seal(alloc)?, self.keeps_one);
         Ok(())
     }
 
@@ -280,7 +320,7 @@ impl Ring {
             Refuses e (if is_bad_floor floor acts then Err BadFloor else Ok floor)) }
         ensures unchanged { OnErr result (self.new ≡ self.old) }
     {
-        *self = Ring::new(self.version.compact(alloc, floor)?);
+        *self = Ring::of(self.version.compact(alloc, floor)?, self.keeps_one);
         Ok(())
     }
 }

@@ -17,8 +17,9 @@ use crate::content::Content;
 use crate::handle::Handle;
 use crate::ready::ready_batch;
 use crate::request;
+use crate::ringed::Ringed;
 use kv_durable::BatchError;
-use kv_single::{BatchRefused, Bucket, KvError, Request};
+use kv_single::{BatchRefused, KvError, Request};
 use std::alloc::Global;
 
 /// The most bytes that a value has in any bucket.
@@ -244,7 +245,7 @@ fn refuse_batch(refused: BatchRefused, revision: &mut u64, at: &mut usize) -> u6
 // Does all that is asked, and hands out the revision of the first write; or hands out the place of the one that is refused,
 // and where its key's last revision is another one, that.
 #[tactic(auto, using(crate::proofs::Refusing::no_fault, crate::proofs::Refusing::not_made))]
-fn write_all(bucket: &mut Bucket, requests: &[Request], revision: &mut u64, at: &mut usize) -> u64
+fn write_all(bucket: &mut Ringed, requests: &[Request], revision: &mut u64, at: &mut usize) -> u64
     ensures accepted { result ≡ 0 → AreWrites bucket.old (map asked requests.now) revision.new bucket.new }
     ensures why { ¬ (result ≡ 0) → (state : State) → Represents state bucket.old →
         IsRefusedWith state (Some (map asked requests.now)) result at.new revision.new }

@@ -16,12 +16,12 @@ use crate::codes::{CLOSED, FILE_FAULT, MADE, refuse_compaction};
 use crate::content::Content;
 use crate::handle::Handle;
 use crate::ready::ready_compaction;
+use crate::ringed::Ringed;
 use kv_durable::DurableError;
-use kv_single::Bucket;
 use std::alloc::Global;
 
 #[tactic(auto, using(crate::proofs::Refusing::code_from, crate::proofs::Refusing::code_memory, crate::proofs::Refusing::compacted_from, crate::proofs::Refusing::no_fault, crate::proofs::Refusing::not_made))]
-fn compact(bucket: &mut Bucket, floor: u64, watch: &mut u64) -> u64
+fn compact(bucket: &mut Ringed, floor: u64, watch: &mut u64) -> u64
     ensures compacted { result ≡ 0 → IsStep bucket.old (Compact floor) (Compacted floor) bucket.new }
     ensures code { (state : State) → Represents state bucket.old → ¬ (result ≡ 1) →
         result ≡ code_by accepted (may_compact floor state) }
@@ -126,7 +126,7 @@ fn reach_of(content: &Content, floor: &mut u64) -> u64
 {
     match content {
         Content::Bucket(bucket, _, _) => {
-            *floor = bucket.reach();
+            *floor = bucket.single().reach();
             0
         }
         Content::View(..) | Content::Feed(..) | Content::Batch(_) | Content::Made(..) => CLOSED,

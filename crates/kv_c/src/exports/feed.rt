@@ -28,7 +28,7 @@ fn numbered(content: &Content) -> Option<(&Version, u64)>
     ensures none { IfNone result (version_in (Some content.now) ≡ None) }
 {
     match content {
-        Content::Bucket(bucket, _, opening) => Some((bucket.version(), *opening)),
+        Content::Bucket(bucket, _, opening) => Some((bucket.single().version(), *opening)),
         Content::View(version, opening) => Some((version, *opening)),
         Content::Feed(..) | Content::Batch(_) | Content::Made(..) => None,
     }

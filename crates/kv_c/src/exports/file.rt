@@ -20,6 +20,7 @@ use crate::made::{Lent, Made};
 use crate::outbox::Outbox;
 use crate::ready::ready_end;
 use crate::request::{Limits, config_of};
+use crate::ringed::Ringed;
 use kv_durable::{Durable, DurableError, Opened, Sync};
 use kv_frames::Framing;
 use kv_journal::push_beginning;
@@ -114,7 +115,7 @@ fn opening_of_file(
                 number,
                 has_failed: false,
             };
-            Ok((Made::opened(bucket, filed, first), dropped))
+            Ok((Made::opened(Ringed::new(bucket), filed, first), dropped))
         }
         Err(_) => Err(DurableError::Refused(KvError::OutOfMemory)),
     }

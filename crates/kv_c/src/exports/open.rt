@@ -12,6 +12,7 @@ use crate::codes::OPEN_ALREADY;
 use crate::content::Content;
 use crate::handle::Handle;
 use crate::request::{Limits, config_of};
+use crate::ringed::Ringed;
 use kv_single::{Bucket, KvError};
 use std::alloc::Global;
 
@@ -25,7 +26,7 @@ fn open(alloc: Global, name: &[u8], limits: &Limits, opening: u64) -> Result<Box
 {
     let config = config_of(alloc, name, limits)?;
     let bucket = Bucket::open(alloc, &config)?;
-    Ok(Box::new(alloc, Content::Bucket(bucket, None, opening))?)
+    Ok(Box::new(alloc, Content::Bucket(Ringed::new(bucket), None, opening))?)
 }
 
 /// Opens a bucket with no writes, under a number: those of two openings are to differ.

@@ -164,7 +164,7 @@ fn status_of_content(content: &Content, numbers: &mut Numbers) -> u64
 {
     match content {
         Content::Bucket(bucket, _, _) => {
-            *numbers = numbers_of(bucket.version(), bucket.watches());
+            *numbers = numbers_of(bucket.single().version(), bucket.single().watches());
             0
         }
         Content::View(version, _) => {

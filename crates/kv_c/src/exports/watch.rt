@@ -17,13 +17,14 @@ use crate::handle::Handle;
 use crate::item::{self, Item};
 use crate::parse::filters_of;
 use crate::request::{Wanted, options_of};
-use kv_single::{Bucket, KvError, Options};
+use crate::ringed::Ringed;
+use kv_single::{KvError, Options};
 use std::alloc::Global;
 
 #[tactic(auto, using(crate::proofs::Refusing::code_from, crate::proofs::Refusing::code_memory))]
 fn opened(
     alloc: Global,
-    bucket: &mut Bucket,
+    bucket: &mut Ringed,
     filters: &[u8],
     options: Options,
     number: &mut u64,
@@ -93,7 +94,7 @@ pub extern "C" fn kv_watch(
 }
 
 fn take_from(
-    bucket: &mut Bucket,
+    bucket: &mut Ringed,
     number: u64,
     keys: &mut [u8],
     values: &mut [u8],
@@ -112,7 +113,7 @@ fn take_from(
     ensures room { ¬ (result ≡ 0) → (keys.new ≡ keys.old) × (values.new ≡ values.old) }
     ensures untold { ¬ (result ≡ 0) → ¬ (result ≡ 33) → item.new ≡ item.old }
 {
-    let done = match bucket.peek(number) {
+    let done = match bucket.single().peek(number) {
         Ok(taken) => item::hand(&taken, keys, values, item),
         Err(refusal) => refusal.code(),
     };
@@ -182,7 +183,7 @@ pub extern "C" fn kv_take(
     done
 }
 
-fn stop_in(bucket: &mut Bucket, number: u64) -> Result<u64, KvError>
+fn stop_in(bucket: &mut Ringed, number: u64) -> Result<u64, KvError>
     ensures ok { IfOk result (λ handed. IsStep bucket.old (Stop number) (Ended handed) bucket.new) }
     ensures err { IfErr result (λ e. IsStep bucket.old (Stop number) (Refused e) bucket.new) }
     ensures unchanged { OnErr result (bucket.new ≡ bucket.old) }

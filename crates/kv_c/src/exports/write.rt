@@ -20,13 +20,14 @@ use crate::content::Content;
 use crate::handle::Handle;
 use crate::ready::{ready_seal, ready_write};
 use crate::request;
+use crate::ringed::Ringed;
 use kv_durable::DurableError;
-use kv_single::{Bucket, KvError, Request};
+use kv_single::{KvError, Request};
 use std::alloc::Global;
 
 // Writes what is asked, and hands out its revision; where the key's last revision is another one, that.
 #[tactic(auto, using(crate::proofs::Refusing::code_from, crate::proofs::Refusing::code_memory, crate::proofs::Refusing::no_fault, crate::proofs::Refusing::not_made), unfolding(crate::specs::Codes::outcome))]
-fn write_to(bucket: &mut Bucket, request: Result<Request, KvError>, revision: &mut u64) -> u64
+fn write_to(bucket: &mut Ringed, request: Result<Request, KvError>, revision: &mut u64) -> u64
     ensures accepted { result ≡ 0 → (what : Asked) → IsAsked what request →
         IsWrite bucket.old what revision.new bucket.new }
     ensures code { (what : Asked) → IsAsked what request → (state : State) → Represents state bucket.old →
@@ -65,10 +66,14 @@ fn make_write(alloc: Global, content: &mut Content, request: &Request, revision:
     ensures stopped { stopped_in (Some content.old) ≡ true → result ≡ 22 }
     ensures never { (¬ (result ≡ 0)) × (¬ (result ≡ 32)) }
 {
-    let Some((bucket, filed)) = content.with_file() else {
-        return CLOSED;
+    let ready = match content {
+        Content::Bucket(bucket, filed, _) => match filed {
+            Some(filed) => ready_write(bucket, filed, request),
+            None => return CLOSED,
+        },
+        _ => return CLOSED,
     };
-    match ready_write(bucket, filed, request) {
+    match ready {
         Ok(ready) => {
             content.make(alloc, ready);
             MADE
@@ -240,7 +245,7 @@ pub extern "C" fn kv_make_purge(
 }
 
 #[tactic(auto, using(crate::proofs::Refusing::no_fault, crate::proofs::Refusing::not_made))]
-fn seal(bucket: &mut Bucket) -> u64
+fn seal(bucket: &mut Ringed) -> u64
     ensures sealed { result ≡ 0 → IsStep bucket.old Seal Sealed bucket.new }
     ensures code { ¬ (result ≡ 1) → result ≡ 0 }
     ensures refused { ¬ (result ≡ 0) → bucket.new ≡ bucket.old }
