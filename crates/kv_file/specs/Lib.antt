@@ -1,3 +1,4 @@
 pub mod File
 pub mod Adding
 pub mod Bytes
+pub mod Locking

@@ -23,12 +23,22 @@ pub enum OpenFault {
 }
 
 impl From<io::Error> for OpenFault {
+    ghost use Rattle.std.specs.Prelude.{◌≡◌};
+    ghost use Rattle.kv_file.specs.declared.system.OpenFault.TheVariants.{Failed};
+
+    ghost from_gives = { λ _ fault. fault ≡ Failed };
+
     fn from(_error: io::Error) -> OpenFault {
         OpenFault::Failed
     }
 }
 
 impl From<TryLockError> for OpenFault {
+    ghost use Rattle.std.specs.Prelude.{◌≡◌};
+    ghost use Rattle.kv_file.specs.Locking.{lock_fault};
+
+    ghost from_gives = { λ error fault. fault ≡ lock_fault error };
+
     fn from(error: TryLockError) -> OpenFault {
         match error {
             TryLockError::WouldBlock => OpenFault::Busy,
