@@ -97,6 +97,7 @@ module _ (ready : Ready) (old new : Waiting) (joins : Joins ready old new) (requ
     are : ready.frames.items ≡ frames old.filed.journal.value.framing.seed old.filed.journal.value.appender.place (payloads_of (told_behind old (told_by request state)))
     lawful : AreLawful state.config state.acts (told_behind old (told_by request state))
     payloads : ArePayloads (payloads_of (told_behind old (told_by request state)))
+    one : length (told_behind old (told_by request state)) ≤ 1
     same : (after state (calls.Write request)).config ≡ state.config
     acts : (after state (calls.Write request)).acts ≡ state.acts ++ acts_of (told_behind old (told_by request state))
     represents : Represents (after state (calls.Write request)) (bucket_behind new)
@@ -119,6 +120,7 @@ module _ (ready : Ready) (old new : Waiting) (joins : Joins ready old new) (requ
         are = subst (λ (cs : List Content). ready.frames.items ≡ frames old.filed.journal.value.framing.seed old.filed.journal.value.appender.place (payloads_of (told_behind old cs))) back own.are;
         lawful = subst (λ (cs : List Content). AreLawful state.config state.acts (told_behind old cs)) back ((omega (arith, few), accepted), tt);
         payloads = subst (λ (cs : List Content). ArePayloads (payloads_of (told_behind old cs))) back (own.payload, tt);
+        one = subst (λ (cs : List Content). length (told_behind old cs) ≤ 1) back (omega arith);
         same = same;
         acts = acts ∙ ap (λ (cs : List Content). state.acts ++ acts_of (told_behind old cs)) back;
         represents = represents;
@@ -133,7 +135,7 @@ module _ (ready : Ready) (old new : Waiting) (joins : Joins ready old new) (requ
       let before = acts_before at.base in
       let entries = told_behind old (told_by request state) in
       let lawful = subst (λ (c : Configuration). AreLawful c (before ++ acts_of (kept ++ loose)) entries) (sym at.config) (subst (λ (acts : List Act). AreLawful state.config acts entries) at.acts t.lawful) in
-      let there = joins.added at.base kept loose entries at.keeps (lawful, t.payloads) t.are in (
+      let there = joins.added at.base kept loose entries at.keeps (lawful, t.payloads) t.one t.are in (
         there.0,
         there.1,
         there.2,

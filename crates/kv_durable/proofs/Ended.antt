@@ -44,7 +44,7 @@ module _ {F : Type 0} (has : F → List ℕ → List ℕ → Type 0) (usable : F
   ended base kept loose acts old added new bytes last is frame number keeps on flush same =
       let entries = told_next old (end_of acts) in
       let can = end_follows base kept loose acts old bytes last is frame number in
-      let there = on base kept loose entries keeps can.0 can.1 in
+      let there = on base kept loose entries keeps can.0 (omega arith) can.1 in
       let last_keeps = flush base there.0 there.1 there.3 in
       let seed : new.framing.seed ≡ old.framing.seed = ap (λ f. f.seed) same in
       subst (λ (n : ℕ). has new.appender.file (file_of n base ((kept ++ loose) ++ entries)) []) seed
@@ -64,7 +64,7 @@ module _ {F : Type 0} (has : F → List ℕ → List ℕ → Type 0) (usable : F
   end_loose base kept loose acts old added file bytes last is frame number keeps on flush same =
       let entries = told_next old (end_of acts) in
       let can = end_follows base kept loose acts old bytes last is frame number in
-      let there = on base kept loose entries keeps can.0 can.1 in
+      let there = on base kept loose entries keeps can.0 (omega arith) can.1 in
       let left = flush base there.0 there.1 there.3 in
       let seed : added.framing.seed ≡ old.framing.seed = ap (λ f. f.seed) same in
       let all : (there.0 ++ there.1) ++ [] ≡ kept ++ (loose ++ entries) =

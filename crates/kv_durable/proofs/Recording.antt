@@ -76,6 +76,7 @@ module _ {F : Type 0} (has : F → List ℕ → List ℕ → Type 0) (usable : F
     pub are : bytes ≡ frames old.journal.framing.seed old.journal.appender.place (payloads_of (told_next old.journal (told state)))
     pub lawful : AreLawful state.config state.acts (told_next old.journal (told state))
     pub payloads : ArePayloads (payloads_of (told_next old.journal (told state)))
+    pub one : length (told_next old.journal (told state)) ≤ 1
     pub config : (later state).config ≡ state.config
     pub acts : (later state).acts ≡ state.acts ++ acts_of (told_next old.journal (told state))
     pub represents : Represents (later state) new.bucket
@@ -93,6 +94,7 @@ module _ {F : Type 0} (has : F → List ℕ → List ℕ → Type 0) (usable : F
         are = subst (λ (cs : List Content). bytes ≡ frames old.journal.framing.seed old.journal.appender.place (payloads_of (told_next old.journal cs))) back frame.are;
         lawful = subst (λ (cs : List Content). AreLawful state.config state.acts (told_next old.journal cs)) back ((omega (arith, few_loose old.journal), accepted), tt);
         payloads = subst (λ (cs : List Content). ArePayloads (payloads_of (told_next old.journal cs))) back (frame.payload, tt);
+        one = subst (λ (cs : List Content). length (told_next old.journal cs) ≤ 1) back (omega arith);
         config = config;
         acts = acts ∙ ap (λ (cs : List Content). state.acts ++ acts_of (told_next old.journal cs)) back;
         represents = represents;
@@ -108,13 +110,14 @@ module _ {F : Type 0} (has : F → List ℕ → List ℕ → Type 0) (usable : F
         are = subst (λ (cs : List Content). bytes ≡ frames old.journal.framing.seed old.journal.appender.place (payloads_of (told_next old.journal cs))) back frame.are;
         lawful = subst (λ (cs : List Content). AreLawful state.config state.acts (told_next old.journal cs)) back ((omega (arith, few_loose old.journal), lawful_behind state.config [] state.acts acts lawful), tt);
         payloads = subst (λ (cs : List Content). ArePayloads (payloads_of (told_next old.journal cs))) back (frame.payload, tt);
+        one = subst (λ (cs : List Content). length (told_next old.journal cs) ≤ 1) back (omega arith);
         config = config;
         acts = on ∙ ap (λ (xs : List Act). state.acts ++ xs) (sym (append-nil acts)) ∙ ap (λ (cs : List Content). state.acts ++ acts_of (told_next old.journal cs)) back;
         represents = represents;
       }
 
   pub recorded : (later : State → State) (told : State → List Content) (old new : Durable F) (bytes : List ℕ) → Told later told old new bytes
-      → ((base : Base) (kept loose entries : List Entry) → Keeps has usable base kept loose old.journal → CanFollow base (kept ++ loose) entries
+      → ((base : Base) (kept loose entries : List Entry) → Keeps has usable base kept loose old.journal → CanFollow base (kept ++ loose) entries → length entries ≤ 1
       → bytes ≡ frames old.journal.framing.seed old.journal.appender.place (payloads_of entries) → HasAdded has usable base kept loose entries new.journal)
       → (old.journal.appender.sync ≡ Each → new.journal.appender.loose ≡ 0) → IsRecorded has usable later told old new
   recorded later told old new bytes tells on none = λ state kept loose at.
@@ -122,7 +125,7 @@ module _ {F : Type 0} (has : F → List ℕ → List ℕ → Type 0) (usable : F
       let before = acts_before at.base in
       let entries = told_next old.journal (told state) in
       let lawful = subst (λ (c : Configuration). AreLawful c (before ++ acts_of (kept ++ loose)) entries) (sym at.config) (subst (λ (acts : List Act). AreLawful state.config acts entries) at.acts t.lawful) in
-      let there = on at.base kept loose entries at.keeps (lawful, t.payloads) t.are in (
+      let there = on at.base kept loose entries at.keeps (lawful, t.payloads) t.one t.are in (
         there.0,
         there.1,
         there.2,

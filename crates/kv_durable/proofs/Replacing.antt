@@ -1,5 +1,5 @@
 -- A journal whose file is replaced.
-use Rattle.std.proofs.Common.{◌≡◌, ◌⊎◌, ℕ, ◌^◌, ◌<◌, Bool, true, false, List, [], Result, OnErr, length, refl, sym, ap, ◌∙◌, subst, append-nil, inl, inr}
+use Rattle.std.proofs.Common.{◌≡◌, ◌⊎◌, ℕ, Bool, true, false, List, [], Result, OnErr, length, refl, sym, ap, ◌∙◌, subst, append-nil, inl, inr}
 use Rattle.std.proofs.lemmas.Bool.{true≢false}
 use Rattle.std.proofs.lemmas.Result.{on_err_weaker}
 use Rattle.kv_file.specs.Bytes.{Has}
@@ -27,41 +27,11 @@ by_fault Unchanged here there = here refl
 by_fault Unknown here there = there refl
 
 module _ {F : Type 0} (has : F → List ℕ → List ℕ → Type 0) (usable : F → Bool) where
-  pub replaced : (was base : Base) (kept loose : List Entry) (old new : Journal F) (seed : ℕ) (bytes : List ℕ) → Keeps has usable was kept loose old → base.config ≡ was.config → IsLawfulBase base → ArePayloads (base_payloads base)
-      → bytes ≡ opening seed base → seed < 2 ^ 64 → new.framing.seed ≡ seed → new.config ≡ old.config → ((k l : List ℕ) → Has has usable k l old.appender → Has has usable bytes [] new.appender) → Keeps has usable base [] [] new
-  replaced was base kept loose old new seed bytes keeps config lawful first is fits seeded kept_config on =
-      let whole : bytes ≡ file_of seed base [] = is ∙ sym (append-nil (opening seed base)) in
-      let there = on (file_of old.framing.seed was kept) (frames_behind old.framing.seed was kept loose) keeps.bytes in
-      record {
-        seed_fits = subst (λ (n : ℕ). n < 2 ^ 64) (sym seeded) fits;
-        own = ap (λ c. c.config) kept_config ∙ keeps.own ∙ sym config;
-        first = first;
-        replaced = lawful;
-        lawful = tt;
-        payloads = tt;
-        bytes = subst (λ (n : ℕ). Has has usable (file_of n base []) [] new.appender) (sym seeded) (subst (λ (w : List ℕ). Has has usable w [] new.appender) whole there);
-      }
-
   pub begins : (base : Base) (file : F) (seed place : ℕ) (bytes : List ℕ) (new : Journal F) → bytes ≡ opening seed base → place ≡ length bytes → has file bytes []
       → (has file (file_of seed base []) [] → place ≡ length (file_of seed base []) → Keeps has usable base [] [] new) → Keeps has usable base [] [] new
   begins base file seed place bytes new is long there on =
       let whole : bytes ≡ file_of seed base [] = is ∙ sym (append-nil (opening seed base)) in
       on (subst (λ (w : List ℕ). has file w []) whole there) (long ∙ ap length whole)
-
-  pub not_replaced : (base : Base) (kept loose : List Entry) (old new : Journal F) → Keeps has usable base kept loose old → new.framing ≡ old.framing → new.config ≡ old.config
-      → ((k l : List ℕ) → Has has usable k l old.appender → Has has usable k l new.appender) → Keeps has usable base kept loose new
-  not_replaced base kept loose old new keeps same kept_config on =
-      let seed = old.framing.seed in
-      let seeded : new.framing.seed ≡ seed = ap (λ f. f.seed) same in
-      record {
-        seed_fits = subst (λ (n : ℕ). n < 2 ^ 64) (sym seeded) keeps.seed_fits;
-        own = ap (λ c. c.config) kept_config ∙ keeps.own;
-        first = keeps.first;
-        replaced = keeps.replaced;
-        lawful = keeps.lawful;
-        payloads = keeps.payloads;
-        bytes = subst (λ (n : ℕ). Has has usable (file_of n base kept) (frames_behind n base kept loose) new.appender) (sym seeded) (on (file_of seed base kept) (frames_behind seed base kept loose) keeps.bytes);
-      }
 
   pub same_file : (base : Base) (kept loose : List Entry) (old new : Journal F) → new.framing ≡ old.framing → Keeps has usable base kept loose new → HasEntries has old.framing.seed base kept loose new.appender.file
   same_file base kept loose old new same keeps = subst (λ (n : ℕ). HasEntries has n base kept loose new.appender.file) (ap (λ f. f.seed) same) keeps.bytes.file

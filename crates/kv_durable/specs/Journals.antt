@@ -1,5 +1,5 @@
 -- The entries of a journal, and those that are added to it.
-use Rattle.std.specs.Prelude.{◌≡◌, ℕ, ◌+◌, ◌<◌, ◌^◌, Bool, false, not, ◌||◌, nat_lt, nat_le, if◌then◌else◌, List, [], ◌∷◌, ◌++◌, length}
+use Rattle.std.specs.Prelude.{◌≡◌, ℕ, ◌+◌, ◌<◌, ◌≤◌, ◌^◌, Bool, false, not, ◌||◌, nat_lt, nat_le, if◌then◌else◌, List, [], ◌∷◌, ◌++◌, length}
 use Rattle.kv_file.specs.Adding.{Adds}
 use Rattle.kv_file.specs.Bytes.{Has}
 use Rattle.kv_file.specs.declared.appender.Sync.TheVariants.{Each, Every}
@@ -23,6 +23,9 @@ pub record Keeps {F : Type 0} (has : F → List ℕ → List ℕ → Type 0) (us
   pub lawful : AreLawful base.config (acts_before base) (kept ++ loose)
   pub payloads : ArePayloads (payloads_of (kept ++ loose))
   pub bytes : Has has usable (file_of journal.framing.seed base kept) (frames_behind journal.framing.seed base kept loose) journal.appender
+  -- where that is asked for, fewer entries than so many are loose
+  pub few : (n : ℕ) → journal.appender.sync ≡ Every n → 0 < n →
+      (length loose ≤ journal.appender.waiting) × (journal.appender.waiting < n)
 
 -- nothing more is added to a file that has failed, or that has 2^62 bytes
 abbrev pub is_stopped : {F : Type 0} → (F → Bool) → Journal F → Bool
@@ -68,12 +71,12 @@ pub record IsFrameOf {F : Type 0} (journal : Journal F) (content : Content) (byt
   pub are : bytes ≡ frames journal.framing.seed journal.appender.place (payloads_of (told_next journal (content ∷ [])))
   pub payload : IsPayload (payload_of (record { loose = loose_ahead journal; content = content }))
 
--- Bytes were added to a journal: whatever entries it kept, if the bytes are the frames of entries that can be added behind
--- those, it keeps them too.
+-- Bytes were added to a journal: whatever entries it kept, if the bytes are the frame of one entry that can be added behind
+-- those, or none, it keeps that too.
 abbrev pub AddsFrames : {F : Type 0} → (F → List ℕ → List ℕ → Type 0) → (F → Bool) → List ℕ → (old new : Journal F) → Type 0
 AddsFrames has usable bytes old new = (base : Base) (kept loose entries : List Entry) → Keeps has usable base kept loose old →
-    CanFollow base (kept ++ loose) entries → bytes ≡ frames old.framing.seed old.appender.place (payloads_of entries) →
-    HasAdded has usable base kept loose entries new
+    CanFollow base (kept ++ loose) entries → length entries ≤ 1 →
+    bytes ≡ frames old.framing.seed old.appender.place (payloads_of entries) → HasAdded has usable base kept loose entries new
 
 -- bytes were not added, or in part
 abbrev pub LeavesFrames : {F : Type 0} → (F → List ℕ → List ℕ → Type 0) → (F → Bool) → List ℕ → (old : Journal F) → F → Type 0

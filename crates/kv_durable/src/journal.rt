@@ -123,7 +123,7 @@ impl<F: JournalFile> Journal<F> {
         Ok(frame)
     }
 
-    /// Adds the frames of entries, and brings all onto the disk where that is due.
+    /// Adds the frame of an entry, and brings all onto the disk where that is due.
     pub fn add(&mut self, bytes: &[u8]) -> Result<(), FileFault>
         requires room { self.old.appender.place < 2 ^ 62 }
         requires short { length bytes.now < 2 ^ 33 }

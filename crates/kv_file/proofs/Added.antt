@@ -1,35 +1,14 @@
 -- Bytes that were added, or was not.
-use Rattle.std.proofs.Common.{◌⊎◌, ℕ, Bool, List, [], ◌++◌, take, drop, refl, sym, ap, ◌∙◌, append_assoc, append-nil, inl, inr}
+use Rattle.std.proofs.Common.{◌≡◌, ◌⊎◌, ℕ, Bool, List, [], ◌++◌, take, drop, refl, sym, ap, ◌∙◌, append_assoc, append-nil, inl, inr}
 use Rattle.std.specs.Prelude.{Result, Ok, Err, OnErr}
 use Rattle.std.proofs.lemmas.List.{take-append-drop}
-use Rattle.kv_file.specs.Adding.{Adds, Fails}
+use Rattle.kv_file.specs.Adding.{Fails}
 use Rattle.kv_file.specs.Bytes.{Has}
 use Rattle.kv_file.specs.declared.appender.Appender.{Appender}
 
--- what making room leaves
-abbrev pub HasRoom : {F : Type 0} (has : F → List ℕ → List ℕ → Type 0) (usable : F → Bool) (kept loose : List ℕ) → Appender F → Type 0
-HasRoom has usable kept loose j = Has has usable kept loose j ⊎ Has has usable (kept ++ loose) [] j
-
--- bytes of an appender to which these were added
-abbrev pub HasAdded : {F : Type 0} (has : F → List ℕ → List ℕ → Type 0) (usable : F → Bool) (kept loose bytes : List ℕ) → Appender F → Type 0
-HasAdded has usable kept loose bytes j = (k : List ℕ) × (l : List ℕ) × Adds kept loose bytes k l × Has has usable k l j
-
-pub added : {F : Type 0} (has : F → List ℕ → List ℕ → Type 0) (usable : F → Bool) (kept loose bytes : List ℕ) (first second : Appender F)
-    → HasRoom has usable kept loose first → ((k l : List ℕ) → Has has usable k l first → Has has usable k (l ++ bytes) second) → HasAdded has usable kept loose bytes second
-added has usable kept loose bytes first second room on =
-    elim room [
-      | inl as_before ↦ (kept, loose ++ bytes, inl (refl, refl), on kept loose as_before)
-      | inr all_kept ↦ (kept ++ loose, bytes, inr (inl (refl, refl)), on (kept ++ loose) [] all_kept)
-    ]
-
-pub added_and_kept : {F : Type 0} (has : F → List ℕ → List ℕ → Type 0) (usable : F → Bool) (kept loose bytes : List ℕ) (first second third : Appender F)
-    → HasRoom has usable kept loose first → ((k l : List ℕ) → Has has usable k l first → Has has usable k (l ++ bytes) second)
-    → ((k l : List ℕ) → Has has usable k l second → Has has usable (k ++ l) [] third) → HasAdded has usable kept loose bytes third
-added_and_kept has usable kept loose bytes first second third room on flush =
-    elim room [
-      | inl as_before ↦ (kept ++ (loose ++ bytes), [], inr (inr (sym (append_assoc kept loose bytes), refl)), flush kept (loose ++ bytes) (on kept loose as_before))
-      | inr all_kept ↦ ((kept ++ loose) ++ bytes, [], inr (inr (refl, refl)), flush (kept ++ loose) bytes (on (kept ++ loose) [] all_kept))
-    ]
+-- what making room leaves, and what is counted then
+abbrev pub HasRoom : {F : Type 0} (has : F → List ℕ → List ℕ → Type 0) (usable : F → Bool) (before : ℕ) (kept loose : List ℕ) → Appender F → Type 0
+HasRoom has usable before kept loose j = (Has has usable kept loose j × (j.waiting ≡ before)) ⊎ (Has has usable (kept ++ loose) [] j × (j.waiting ≡ 0))
 
 -- what is known of the file where it was not
 abbrev pub HasFailed : {F : Type 0} (has : F → List ℕ → List ℕ → Type 0) (kept loose bytes : List ℕ) → F → Type 0
@@ -66,12 +45,12 @@ half_alone n kept loose bytes = record {
   );
 }
 
-pub half_added : {F : Type 0} (has : F → List ℕ → List ℕ → Type 0) (usable : F → Bool) (kept loose bytes : List ℕ) (first : Appender F) (file : F)
-    → HasRoom has usable kept loose first → ((k l : List ℕ) → Has has usable k l first → (n : ℕ) × has file k (l ++ take n bytes)) → HasFailed has kept loose bytes file
-half_added has usable kept loose bytes first file room on =
+pub half_added : {F : Type 0} (has : F → List ℕ → List ℕ → Type 0) (usable : F → Bool) (before : ℕ) (kept loose bytes : List ℕ) (first : Appender F) (file : F)
+    → HasRoom has usable before kept loose first → ((k l : List ℕ) → Has has usable k l first → (n : ℕ) × has file k (l ++ take n bytes)) → HasFailed has kept loose bytes file
+half_added has usable before kept loose bytes first file room on =
     elim room [
-      | inl as_before ↦ let h = on kept loose as_before in (kept, loose ++ take h.0 bytes, half h.0 kept loose bytes, h.1)
-      | inr all_kept ↦ let h = on (kept ++ loose) [] all_kept in (kept ++ loose, take h.0 bytes, half_alone h.0 kept loose bytes, h.1)
+      | inl as_before ↦ let h = on kept loose as_before.0 in (kept, loose ++ take h.0 bytes, half h.0 kept loose bytes, h.1)
+      | inr all_kept ↦ let h = on (kept ++ loose) [] all_kept.0 in (kept ++ loose, take h.0 bytes, half_alone h.0 kept loose bytes, h.1)
     ]
 
 whole : (kept loose bytes : List ℕ) → Fails kept loose bytes kept (loose ++ bytes)
@@ -88,13 +67,13 @@ whole_alone kept loose bytes = record {
   no_more = ([], append-nil ((kept ++ loose) ++ bytes));
 }
 
-pub not_kept : {F : Type 0} (has : F → List ℕ → List ℕ → Type 0) (usable : F → Bool) (kept loose bytes : List ℕ) (first second : Appender F) (file : F)
-    → HasRoom has usable kept loose first → ((k l : List ℕ) → Has has usable k l first → Has has usable k (l ++ bytes) second)
+pub not_kept : {F : Type 0} (has : F → List ℕ → List ℕ → Type 0) (usable : F → Bool) (before : ℕ) (kept loose bytes : List ℕ) (first second : Appender F) (file : F)
+    → HasRoom has usable before kept loose first → ((k l : List ℕ) → Has has usable k l first → Has has usable k (l ++ bytes) second)
     → ((k l : List ℕ) → Has has usable k l second → has file k l) → HasFailed has kept loose bytes file
-not_kept has usable kept loose bytes first second file room on flush =
+not_kept has usable before kept loose bytes first second file room on flush =
     elim room [
-      | inl as_before ↦ (kept, loose ++ bytes, whole kept loose bytes, flush kept (loose ++ bytes) (on kept loose as_before))
-      | inr all_kept ↦ (kept ++ loose, bytes, whole_alone kept loose bytes, flush (kept ++ loose) bytes (on (kept ++ loose) [] all_kept))
+      | inl as_before ↦ (kept, loose ++ bytes, whole kept loose bytes, flush kept (loose ++ bytes) (on kept loose as_before.0))
+      | inr all_kept ↦ (kept ++ loose, bytes, whole_alone kept loose bytes, flush (kept ++ loose) bytes (on (kept ++ loose) [] all_kept.0))
     ]
 
 -- ---- what holds where a call has failed

@@ -1,7 +1,7 @@
 //! What adds to a file, and brings it onto the disk when that is due.
 
-ghost use Rattle.std.specs.Prelude.{◌≡◌, ◌⊎◌, ◌<◌, ◌≤◌, ◌^◌, ◌++◌, ◌&&◌, [], ℕ, true, false, is_ok, if◌then◌else◌, nat_lt, List, length, take, IsErrOf, OnErr, OnOk};
-ghost use Rattle.kv_file.specs.Adding.{Adds, Fails};
+ghost use Rattle.std.specs.Prelude.{◌≡◌, ◌⊎◌, ◌<◌, ◌≤◌, ◌+◌, ◌^◌, ◌++◌, ◌&&◌, [], ℕ, true, false, is_ok, if◌then◌else◌, nat_lt, List, length, take, IsErrOf, OnErr, OnOk};
+ghost use Rattle.kv_file.specs.Adding.{Adds, AddsOne, Fails};
 ghost use Rattle.kv_file.specs.Bytes.{Has};
 ghost use Rattle.kv_file.specs.declared.appender.Sync.TheVariants.{Each, Every};
 ghost use Rattle.kv_file.specs.declared.replace.ReplaceFault.TheVariants.{Unchanged, Unknown};
@@ -42,6 +42,7 @@ impl<F: JournalFile> Appender<F> {
             Has F.has F.usable kept [] result }
         ensures sync { result.sync ≡ sync }
         ensures file { result.file ≡ file }
+        ensures none { result.waiting ≡ 0 }
     {
         Appender {
             file,
@@ -91,6 +92,7 @@ impl<F: JournalFile> Appender<F> {
     fn is_due(&self) -> bool
         ensures each { self.now.sync ≡ Each → result ≡ true }
         ensures every { (n : ℕ) → self.now.sync ≡ Every n → n ≤ self.now.waiting → result ≡ true }
+        ensures fits { (n : ℕ) → self.now.sync ≡ Every n → n < 2 ^ 64 }
     {
         match self.sync {
             Sync::Each => true,
@@ -133,7 +135,8 @@ impl<F: JournalFile> Appender<F> {
     // Brings all onto the disk where more is loose than may be.
     fn make_room(&mut self) -> Result<(), FileFault>
         ensures ok { OnOk result ((kept loose : List ℕ) → Has F.has F.usable kept loose self.old →
-            Has F.has F.usable kept loose self.new ⊎ Has F.has F.usable (kept ++ loose) [] self.new) }
+            (Has F.has F.usable kept loose self.new × (self.new.waiting ≡ self.old.waiting))
+            ⊎ (Has F.has F.usable (kept ++ loose) [] self.new × (self.new.waiting ≡ 0))) }
         ensures few { OnOk result (self.new.loose ≤ 1073741824) }
         ensures err { OnErr result ((kept loose : List ℕ) → Has F.has F.usable kept loose self.old →
             F.has self.new.file kept loose) }
@@ -159,6 +162,7 @@ impl<F: JournalFile> Appender<F> {
             Has F.has F.usable kept (loose ++ bytes.now) self.new) }
         ensures err { OnErr result ((kept loose : List ℕ) → Has F.has F.usable kept loose self.old →
             (n : ℕ) × F.has self.new.file kept (loose ++ take n bytes.now)) }
+        ensures count { OnOk result (self.old.waiting < u64.MAX → self.new.waiting ≡ self.old.waiting + 1) }
         ensures same { self.new.sync ≡ self.old.sync }
         ensures usable { F.usable self.new.file ≡ (F.usable self.old.file && is_ok result) }
         ensures faults { F.faults self.old.file ≤ F.faults self.new.file }
@@ -178,7 +182,9 @@ impl<F: JournalFile> Appender<F> {
         requires room { self.old.place < 2 ^ 62 }
         requires short { length bytes.now < 2 ^ 33 }
         ensures ok { OnOk result ((kept loose : List ℕ) → Has F.has F.usable kept loose self.old →
-            (k : List ℕ) × (l : List ℕ) × Adds kept loose bytes.now k l × Has F.has F.usable k l self.new) }
+            (k : List ℕ) × (l : List ℕ) × Adds kept loose bytes.now k l × Has F.has F.usable k l self.new
+            × ((n : ℕ) → self.old.sync ≡ Every n → self.old.waiting < n →
+            AddsOne self.old.waiting self.new.waiting kept loose bytes.now k l)) }
         ensures each { OnOk result (self.old.sync ≡ Each → self.new.loose ≡ 0) }
         ensures every { OnOk result ((n : ℕ) → self.old.sync ≡ Every n → 0 < n → self.new.waiting < n) }
         ensures err { OnErr result ((kept loose : List ℕ) → Has F.has F.usable kept loose self.old →
@@ -211,6 +217,7 @@ impl<F: JournalFile> Appender<F> {
         ensures stays { IsErrOf result Unchanged → F.usable self.new.file ≡ F.usable self.old.file }
         ensures stops { IsErrOf result Unknown → F.usable self.new.file ≡ false }
         ensures place { OnErr result (self.new.place ≡ self.old.place) }
+        ensures count { OnErr result (self.new.waiting ≡ self.old.waiting) }
         ensures same { self.new.sync ≡ self.old.sync }
         ensures faults { F.faults self.old.file ≤ F.faults self.new.file }
         ensures failed { OnErr result (F.usable self.old.file ≡ true →

@@ -9,11 +9,11 @@ returns-in_err-make_room-clause-err g c =
 pub returns-in_err-append-clause-err : goal.returns-in_err-append-clause-err
 returns-in_err-append-clause-err g c =
     when_err c.from_residual-in_err-append.result
-    (λ kept loose h. half_added g.F.JournalFile.has g.F.JournalFile.usable kept loose c.args.bytes.now c.make_room.new.self c.append.new.self.file (c.in_ok-make_room.ensures.ok kept loose h)
+    (λ kept loose h. half_added g.F.JournalFile.has g.F.JournalFile.usable c.args.self.now.waiting kept loose c.args.bytes.now c.make_room.new.self c.append.new.self.file (c.in_ok-make_room.ensures.ok kept loose h)
     c.in_err-append.ensures.err)
 
 pub returns-then-is_due-clause-err : goal.returns-then-is_due-clause-err
 returns-then-is_due-clause-err g c =
     so_on_err c.flush.result c.flush.ensures.err
-    (λ err kept loose h. not_kept g.F.JournalFile.has g.F.JournalFile.usable kept loose c.args.bytes.now c.make_room.new.self c.append.new.self c.flush.new.self.file
+    (λ err kept loose h. not_kept g.F.JournalFile.has g.F.JournalFile.usable c.args.self.now.waiting kept loose c.args.bytes.now c.make_room.new.self c.append.new.self c.flush.new.self.file
     (c.in_ok-make_room.ensures.ok kept loose h) c.in_ok-append.ensures.ok err)
