@@ -5,6 +5,7 @@
 ghost use Rattle.std.specs.Prelude.{◌≡◌, ◌⊎◌, ◌<◌, ◌≤◌, ◌^◌, ◌++◌, ◌∷◌, [], ℕ, Bool, List, Ok, false, length, map, true};
 ghost use Rattle.std.specs.List.Sorted.{IsStrictlyIncreasing};
 ghost use Rattle.kv_file.specs.File.{MayLeave};
+ghost use Rattle.kv_file.specs.declared.appender.Sync.TheVariants.{Every};
 ghost use Rattle.kv_frames.specs.Frames.{ArePayloads};
 ghost use Rattle.kv_keys.specs.Matching.{any_matches};
 ghost use Rattle.kv_model.specs.Acceptance.{IsLawful};
@@ -157,6 +158,13 @@ pub fn a_crash_while_a_file_is_made<F: JournalFile>()
         ShowsDamage other (length (file_of other base entries)) rest) → ⊥ }
     ensures not_of_another { (config : Configuration) (seed other : ℕ) (payload rest : List ℕ) → IsLegal config → seed < 2 ^ 64 →
         BeginsWith (beginning seed config) other payload rest → payload ≡ configuration_payload config }
+{}
+
+/// Under `Sync::Every(n)` fewer than n entries are loose, so a crash takes fewer than n answered acts back; a batch is one entry.
+pub fn few_are_loose<F: JournalFile>()
+    ensures { (state : State) (kept loose : List Entry) (durable : Durable F) (n : ℕ) →
+        IsAt F.has F.usable state kept loose durable → durable.journal.appender.sync ≡ Every n → 0 < n →
+        length loose < n }
 {}
 
 /// Each call that is answered goes on: one that was recorded, as a write, a batch, a seal and a compaction; a sync; a checkpoint,
