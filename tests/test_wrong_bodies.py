@@ -36,8 +36,8 @@ def work_of(crate: str) -> int:
 def outcome_of(crate: str) -> Outcome:
     """What came of the wrong bodies of a crate, and of one that is none in that which is proved soonest."""
     start = time.monotonic()
-    with tempfile.TemporaryDirectory() as kept:
-        tried, bodies = Tried(crate, kept), wrong_bodies.bodies_of(crate)
+    with tempfile.TemporaryDirectory() as folder:
+        tried, bodies = Tried(crate, wrong_bodies.kept_for(crate, folder)), wrong_bodies.bodies_of(crate)
         lost = tried.not_refused(bodies)
         if crate == SAME.crate:
             lost += tried.not_refused([SAME])

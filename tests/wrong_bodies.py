@@ -144,6 +144,17 @@ class Told(NamedTuple):
         return said.startswith(("not proved", "no proof: expected")) and (fails or "; it calls " not in said)
 
 
+def kept_for(crate: str, folder: str) -> str:
+    """A place in this folder for what checks of the crate keep: with what a check of the whole crate left, if one did. Nothing that is
+    refused rests on that, and the checks take a third of the time."""
+    left, kept = os.path.join(folder_of(crate), "out", "incremental"), os.path.join(folder, "kept")
+    if os.path.isdir(left):
+        shutil.copytree(left, kept)
+    else:
+        os.mkdir(kept)
+    return kept
+
+
 class Tried:
     """A crate whose wrong bodies are tried one batch after another, each over what the earlier ones kept of the rest."""
 

@@ -12,14 +12,14 @@ use Rattle.kv_c.specs.contracts.feed.Feed as Feed
 use Rattle.kv_c.specs.contracts.filed.Filed as Filed
 use Rattle.kv_c.specs.contracts.filed.Syncs as Syncs
 use Rattle.kv_c.specs.contracts.made.Made as Made
-use Rattle.kv_c.specs.contracts.ringed.Next as Next
+use Rattle.kv_c.specs.contracts.ringed.NextVersion as NextVersion
 use Rattle.kv_c.specs.contracts.ringed.Ringed as Ringed
 use Rattle.kv_watch.proofs.Sent.{watch_send}
 
 bucket_send : IsSend Bucket.the_row
 bucket_send = let v = version_send in let w = watch_send in search (sendable, crosses) depth 20
 
-next_send : IsSend Next.the_row
+next_send : IsSend NextVersion.the_row
 next_send = let v = version_send in let r = ring_send in search (sendable, crosses) depth 20
 
 ringed_send : IsSend Ringed.the_row

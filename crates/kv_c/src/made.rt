@@ -6,7 +6,7 @@ ghost use Rattle.kv_model.specs.declared.call.Call.{Call as ACall};
 
 use crate::filed::{Filed, Syncs};
 use crate::more::ready_more;
-use crate::ringed::{Next, Ringed};
+use crate::ringed::{NextVersion, Ringed};
 use kv_durable::DurableError;
 use kv_single::{Request, Version};
 use std::alloc::{AllocError, Global};
@@ -18,7 +18,7 @@ const MOST_WAITING: usize = 16_777_216;
 /// What a call leads to, the frames that tell it, and the number that it answers.
 #[derive(Drop)]
 pub struct Ready {
-    pub next: Next,
+    pub next: NextVersion,
     pub frames: Vec<u8>,
     pub told: u64,
 }
@@ -66,7 +66,7 @@ fn copy_front(room: &mut [u8], bytes: &[u8]) -> usize
 pub struct Made {
     bucket: Ringed,
     // What the call leads to, if it leads to anything else.
-    next: Option<Next>,
+    next: Option<NextVersion>,
     // The journal with the frames of the call.
     filed: Filed,
     // The file whose place that one takes, where the call is a checkpoint.

@@ -18,7 +18,7 @@ ghost use Rattle.kv_single.specs.Held.{Represents};
 use crate::filed::Filed;
 use crate::made::Ready;
 use crate::ready::MOST_VALUE;
-use crate::ringed::Next;
+use crate::ringed::NextVersion;
 use kv_durable::DurableError;
 use kv_frames::Framing;
 use kv_journal::encode_request;
@@ -96,7 +96,7 @@ pub(crate) fn ready_more(
     let frames = frame_behind(bucket.alloc(), filed, waiting, request)?;
     let told = next.revision();
     Ok(Ready {
-        next: Next::apart(next),
+        next: NextVersion::apart(next),
         frames,
         told,
     })

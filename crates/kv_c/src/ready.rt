@@ -24,7 +24,7 @@ ghost use Rattle.kv_single.specs.Stepping.{IsStep};
 
 use crate::filed::Filed;
 use crate::made::Ready;
-use crate::ringed::{Next, Ringed};
+use crate::ringed::{NextVersion, Ringed};
 use kv_durable::{BatchError, DurableError};
 use kv_single::{BatchRefused, Bucket, KvError, Request};
 
@@ -32,7 +32,7 @@ use kv_single::{BatchRefused, Bucket, KvError, Request};
 pub(crate) const MOST_VALUE: usize = 1_048_576;
 
 // The version with one write more. What no bucket takes is refused first, as the rules do.
-fn next_of(bucket: &mut Ringed, request: &Request) -> Result<Next, KvError>
+fn next_of(bucket: &mut Ringed, request: &Request) -> Result<NextVersion, KvError>
     ensures config { IfOk result (λ next. next.config ≡ bucket.old.version.config) }
     ensures ok { IfOk result (λ next. Accepts bucket.old request.now next) }
     ensures short { OnOk result (length (value_of (asked request.now)) ≤ 1048576) }
@@ -101,7 +101,7 @@ pub(crate) fn ready_batch(
     let (next, told) = bucket.version().apply_all(alloc, first, rest)?;
     match filed.journal.frame_of_batch(alloc, requests) {
         Ok(frames) => Ok(Ready {
-            next: Next::apart(next),
+            next: NextVersion::apart(next),
             frames,
             told,
         }),
@@ -127,7 +127,7 @@ pub(crate) fn ready_seal(bucket: &Bucket, filed: &Filed) -> Result<Ready, Durabl
     let next = bucket.version().seal(bucket.alloc())?;
     let frames = filed.journal.frame_of_seal(bucket.alloc())?;
     Ok(Ready {
-        next: Next::apart(next),
+        next: NextVersion::apart(next),
         frames,
         told: 0,
     })
@@ -156,7 +156,7 @@ pub(crate) fn ready_compaction(
     let next = bucket.version().compact(bucket.alloc(), floor)?;
     let frames = filed.journal.frame_of_compaction(bucket.alloc(), floor)?;
     Ok(Ready {
-        next: Next::apart(next),
+        next: NextVersion::apart(next),
         frames,
         told: 0,
     })

@@ -21,14 +21,14 @@ use kv_store::Ring;
 use std::marker::Model;
 
 /// A version that is made, and not put in place yet. Contracts see what it stores.
-pub struct Next {
+pub struct NextVersion {
     version: Version,
     // It makes the version behind that one.
     ring: Option<Ring>,
 }
 
 // Field by field: a derived drop makes each proof longer that owns one.
-impl Drop for Next {
+impl Drop for NextVersion {
     fn drop(self) {
         let Self {
             version: _,
@@ -37,7 +37,7 @@ impl Drop for Next {
     }
 }
 
-impl Model for Next {
+impl Model for NextVersion {
     ghost use Rattle.std.specs.Prelude.{IfSome};
     ghost use Rattle.kv_store.specs.Rings.{StandsAlike};
     ghost use Rattle.kv_store.specs.Stored.{Stored};
@@ -49,23 +49,23 @@ impl Model for Next {
     ghost invariant = { λ n. IfSome n.ring (StandsAlike n.version) };
 }
 
-impl Next {
+impl NextVersion {
     /// A version that was made without a ring.
-    pub(crate) fn apart(version: Version) -> Next
+    pub(crate) fn apart(version: Version) -> NextVersion
         ensures { result ≡ version }
     {
-        Next {
+        NextVersion {
             version,
             ring: None,
         }
     }
 
     // The version of a ring.
-    fn of(ring: Ring) -> Result<Next, KvError>
+    fn of(ring: Ring) -> Result<NextVersion, KvError>
         ensures ok { IfOk result (λ next. next ≡ ring) }
         ensures err { IfErr result (λ e. e ≡ OutOfMemory) }
     {
-        Ok(Next {
+        Ok(NextVersion {
             version: ring.version().snapshot()?,
             ring: Some(ring),
         })
@@ -76,7 +76,7 @@ impl Next {
         ensures version { result.0 ≡ self }
         ensures ring { IfSome result.1 (StandsAlike self) }
     {
-        let Next { version, ring } = self;
+        let NextVersion { version, ring } = self;
         (version, ring)
     }
 
@@ -130,7 +130,7 @@ impl Ringed {
 
     /// The version with one write more, made apart. Where none before it was made so, nodes are copied; else only where somebody
     /// else has the version before.
-    pub(crate) fn next(&mut self, request: &Request) -> Result<Next, KvError>
+    pub(crate) fn next(&mut self, request: &Request) -> Result<NextVersion, KvError>
         ensures config { IfOk result (λ next. next.config ≡ self.old.version.config) }
         ensures ok { IfOk result (λ next. Accepts self.old request.now next) }
         ensures refused { IfErr result (λ e. (state : State) → Represents state self.old →
@@ -140,10 +140,10 @@ impl Ringed {
         let alloc = self.bucket.alloc();
         let Some(mut ring) = self.ring.take() else {
             let version = self.bucket.version().apply(alloc, request)?;
-            return Next::of(Ring::pair(version));
+            return NextVersion::of(Ring::pair(version));
         };
         match ring.write(alloc, request) {
-            Ok(()) => Next::of(ring),
+            Ok(()) => NextVersion::of(ring),
             Err(refusal) => {
                 self.ring = Some(ring);
                 Err(refusal)
@@ -152,7 +152,7 @@ impl Ringed {
     }
 
     /// Puts a version in place that some calls in a row lead to.
-    pub(crate) fn go_on_through(&mut self, next: Next)
+    pub(crate) fn go_on_through(&mut self, next: NextVersion)
         requires steps { (calls : List ACall) × LeadThere calls self.old (record self.old { version = next }) }
         ensures { self.new ≡ record self.old { version = next } }
     {
