@@ -1,24 +1,21 @@
 //! Tests of durable buckets whose file is replaced by a checkpoint.
 
-use crate::durables::{Bucket, STEPS, empty, is_same, opened, reopened, step};
+use crate::acts::{NEXT_SEED, checkpoint};
+use crate::durables::{
+    Bucket, STEPS, failing_after, first_steps, is_fault, is_same, opened, reopened, step,
+};
 use crate::equal::equal;
-use kv_durable::{DurableError, Opened, Sync};
-use kv_keys::KvError;
+use kv_durable::{DurableError, Sync};
 use kv_test_tools::twice;
 use std::alloc::Global;
 use std::process::Abort;
 use std::test::Fail;
 
-pub(crate) const NEXT_SEED: u64 = 0xFEDC_BA98_7654_3210;
-
 // A bucket behind so many steps, on a file of which so many calls go well: two make it, and each step is two.
 fn behind(alloc: Global, steps: usize, calls: u64) -> Result<Bucket, DurableError> {
-    let mut file = empty(alloc);
-    file.fail_after(calls);
+    let file = failing_after(alloc, calls);
     let mut bucket = opened(alloc, file, Sync::Each)?.durable;
-    for number in 0..steps {
-        step(alloc, &mut bucket, number)?;
-    }
+    first_steps(alloc, &mut bucket, steps)?;
     Ok(bucket)
 }
 
@@ -33,31 +30,38 @@ pub(crate) fn same_again(
     bucket: &Bucket,
     has_checkpoint: bool,
 ) -> Result<Bucket, DurableError> {
-    let Opened {
-        durable,
-        dropped,
-        checkpointed,
-        ..
-    } = reopened(alloc, bucket.journal().file().kept())?;
-    assert!(rt; checkpointed == has_checkpoint);
-    equal(rt, dropped, 0);
-    are_same(rt, bucket, &durable);
-    Ok(durable)
+    let second = reopened(alloc, bucket.journal().file().kept())?;
+    equal(rt, second.checkpointed, has_checkpoint);
+    equal(rt, second.dropped, 0);
+    are_same(rt, bucket, &second.durable);
+    Ok(second.durable)
+}
+
+// Both make the steps that are left, and stay the same.
+fn both_go_on(
+    rt: &impl Abort,
+    alloc: Global,
+    first: &mut Bucket,
+    second: &mut Bucket,
+    steps: usize,
+) -> Result<(), DurableError> {
+    for number in steps..STEPS {
+        step(alloc, first, number)?;
+        step(alloc, second, number)?;
+        are_same(rt, first, second);
+    }
+    Ok(())
 }
 
 // A bucket behind so many steps is opened again from its checkpoint, and both make the others: revisions go on, a floor is
 // kept, and so is a seal.
 fn comes_back(rt: &impl Abort, alloc: Global, steps: usize) -> Result<(), DurableError> {
     let mut bucket = behind(alloc, steps, u64::MAX)?;
-    bucket.checkpoint(&(), NEXT_SEED)?;
+    checkpoint(&mut bucket)?;
     let mut second = same_again(rt, alloc, &bucket, true)?;
     equal(rt, second.journal().seed(), NEXT_SEED);
     equal(rt, second.journal().place(), bucket.journal().place());
-    for number in steps..STEPS {
-        step(alloc, &mut bucket, number)?;
-        step(alloc, &mut second, number)?;
-        are_same(rt, &bucket, &second);
-    }
+    both_go_on(rt, alloc, &mut bucket, &mut second, steps)?;
     same_again(rt, alloc, &bucket, true)?;
     Ok(())
 }
@@ -67,6 +71,21 @@ fn a_checkpoint_is_opened_as_the_same_bucket(rt: HostRuntime) -> Result<(), Fail
     for steps in 0..STEPS + 1 {
         twice!(comes_back(&rt, rt.alloc(), steps))?;
     }
+    Ok(())
+}
+
+// A bucket is as before a checkpoint that failed, whose file it has or not.
+fn stays(
+    rt: &impl Abort,
+    alloc: Global,
+    before: &Bucket,
+    bucket: &Bucket,
+    has_checkpoint: bool,
+) -> Result<(), DurableError> {
+    equal(rt, bucket.journal().is_stopped(), has_checkpoint);
+    equal(rt, bucket.journal().seed(), before.journal().seed());
+    are_same(rt, before, bucket);
+    same_again(rt, alloc, bucket, has_checkpoint)?;
     Ok(())
 }
 
@@ -81,16 +100,8 @@ fn is_cut_off(
     let before_it = (steps as u64).saturating_mul(2).saturating_add(2);
     let mut bucket = behind(alloc, steps, before_it.saturating_add(calls))?;
     let before = behind(alloc, steps, u64::MAX)?;
-    let told = bucket.checkpoint(&(), NEXT_SEED);
-    if told == Err(DurableError::Refused(KvError::OutOfMemory)) {
-        return told;
-    }
-    assert!(rt; told == Err(DurableError::FileFault));
-    assert!(rt; bucket.journal().is_stopped() == (calls == 1));
-    equal(rt, bucket.journal().seed(), before.journal().seed());
-    are_same(rt, &before, &bucket);
-    same_again(rt, alloc, &bucket, calls == 1)?;
-    Ok(())
+    is_fault(rt, checkpoint(&mut bucket))?;
+    stays(rt, alloc, &before, &bucket, calls == 1)
 }
 
 #[test]

@@ -34,6 +34,25 @@ fn restored(
     }
 }
 
+fn checkpoint_of(alloc: Global, framing: &Framing, version: &Version) -> Result<Vec<u8>, KvError> {
+    let mut bytes = Vec::new(alloc);
+    push_checkpoint(alloc, &mut bytes, framing, version)?;
+    Ok(bytes)
+}
+
+fn each_beginning_is_damaged(
+    rt: &impl Abort,
+    alloc: Global,
+    config: &Config,
+    framing: &Framing,
+    bytes: &[u8],
+) -> Result<(), KvError> {
+    for n in 0..bytes.len() {
+        assert!(rt; restored(alloc, config, framing, &bytes[..n])?.is_none());
+    }
+    Ok(())
+}
+
 // The checkpoint of a version gives the version again, and a beginning of it is damaged.
 fn comes_back(
     rt: &impl Abort,
@@ -42,11 +61,8 @@ fn comes_back(
     version: &Version,
 ) -> Result<(), DurableError> {
     let framing = Framing::new(7);
-    let mut bytes = Vec::new(alloc);
-    push_checkpoint(alloc, &mut bytes, &framing, version)?;
-    for n in 0..bytes.len() {
-        assert!(rt; restored(alloc, config, &framing, &bytes[..n])?.is_none());
-    }
+    let bytes = checkpoint_of(alloc, &framing, version)?;
+    each_beginning_is_damaged(rt, alloc, config, &framing, &bytes)?;
     match restored(alloc, config, &framing, &bytes)? {
         Some(restored) => {
             assert!(rt; is_same(version, &restored.version));

@@ -1,11 +1,9 @@
 //! Each short course of acts on two keys, under narrow limits: the checkpoint behind it is opened as the same bucket.
 
-use crate::checkpointed::NEXT_SEED;
-use crate::durables::{Bucket, SEED, config, is_same};
-use kv_durable::{Durable, DurableError, Opened, Sync};
-use kv_file::MemoryFile;
+use crate::acts::{checkpoint, compact_back, delete_in, purge_in, put_in};
+use crate::durables::{Bucket, config, is_same, opened_with};
+use kv_durable::DurableError;
 use kv_model::Config;
-use kv_test_tools::{delete, purge, put};
 use std::alloc::Global;
 use std::process::Abort;
 use std::test::Fail;
@@ -15,33 +13,25 @@ const CHOICES: u64 = 8;
 
 const LONGEST: u32 = 4;
 
-fn opened_with(
-    alloc: Global,
-    config: &Config,
-    bytes: &[u8],
-) -> Result<Opened<MemoryFile>, DurableError> {
-    let file = MemoryFile::new(alloc, Vec::from_slice(alloc, bytes)?);
-    match Durable::open(alloc, config, file, &(), SEED, Sync::Each) {
-        Ok(opened) => Ok(opened),
-        Err(refused) => Err(refused.error),
+// Makes the act of this number: a write of one of the keys, or a compaction to one of the last revisions.
+fn act(alloc: Global, bucket: &mut Bucket, number: u64) -> Result<(), DurableError> {
+    match number {
+        0 => put_in(alloc, bucket, "a", "1"),
+        1 => put_in(alloc, bucket, "b", "1"),
+        2 => delete_in(alloc, bucket, "a", None),
+        3 => delete_in(alloc, bucket, "b", None),
+        4 => purge_in(alloc, bucket, "a"),
+        _ => compact_back(bucket, number - 5),
     }
 }
 
-// Makes the act of this number: a write of one of the keys, or a compaction to one of the last revisions.
-fn act(alloc: Global, bucket: &mut Bucket, number: u64) -> Result<(), DurableError> {
-    let request = match number {
-        0 => put(alloc, "a", "1")?,
-        1 => put(alloc, "b", "1")?,
-        2 => delete(alloc, "a", None)?,
-        3 => delete(alloc, "b", None)?,
-        4 => purge(alloc, "a", None)?,
-        _ => {
-            let last = bucket.bucket().version().revision();
-            return bucket.compact(last.saturating_sub(number - 5));
-        }
-    };
-    bucket.write(&request)?;
-    Ok(())
+// Whether the rules allow the act, which is made then.
+fn may_act(alloc: Global, bucket: &mut Bucket, number: u64) -> Result<bool, DurableError> {
+    match act(alloc, bucket, number) {
+        Ok(()) => Ok(true),
+        Err(DurableError::Refused(_)) => Ok(false),
+        Err(error) => Err(error),
+    }
 }
 
 // The bucket behind a course, whose acts are the digits of its number, and none where one of them is refused.
@@ -54,11 +44,10 @@ fn behind(
     let mut bucket = opened_with(alloc, config, &[])?.durable;
     let mut left = course;
     for _ in 0..acts {
-        match act(alloc, &mut bucket, left % CHOICES) {
-            Ok(()) => left /= CHOICES,
-            Err(DurableError::Refused(_)) => return Ok(None),
-            Err(error) => return Err(error),
+        if !may_act(alloc, &mut bucket, left % CHOICES)? {
+            return Ok(None);
         }
+        left /= CHOICES;
     }
     Ok(Some(bucket))
 }
@@ -73,11 +62,26 @@ fn is_opened(
     let Some(mut bucket) = behind(alloc, config, course, acts)? else {
         return Ok(None);
     };
-    bucket.checkpoint(&(), NEXT_SEED)?;
+    checkpoint(&mut bucket)?;
     let bytes = bucket.journal().file().kept();
     let second = opened_with(alloc, config, bytes)?;
     let same = is_same(bucket.bucket().version(), second.durable.bucket().version());
     Ok(Some(second.checkpointed && same))
+}
+
+// Whether there is such a course, which is opened then.
+fn is_there(
+    rt: &impl Abort,
+    alloc: Global,
+    config: &Config,
+    course: u64,
+    acts: u32,
+) -> Result<bool, DurableError> {
+    let Some(opened) = is_opened(alloc, config, course, acts)? else {
+        return Ok(false);
+    };
+    assert!(rt; opened, "the course {course} of {acts} acts");
+    Ok(true)
 }
 
 // How many courses there are of so many acts, each of which is opened.
@@ -89,8 +93,7 @@ fn all_are_opened(
 ) -> Result<u64, DurableError> {
     let mut courses = 0u64;
     for course in 0..CHOICES.saturating_pow(acts) {
-        if let Some(opened) = is_opened(alloc, config, course, acts)? {
-            assert!(rt; opened, "the course {course} of {acts} acts");
+        if is_there(rt, alloc, config, course, acts)? {
             courses = courses.saturating_add(1);
         }
     }

@@ -1,12 +1,13 @@
 //! Tests of durable buckets over a file in memory.
 
+use crate::acts::{compact, delete_in, purge_in, put_in, seal, sync, write, write_batch};
 use crate::equal::equal;
-use kv_durable::{BatchError, Durable, DurableError, Opened, Sync};
+use kv_durable::{BatchError, Durable, DurableError, NotDone, Opened, Sync};
 use kv_file::{JournalFile, MemoryFile, Torn};
 use kv_keys::KvError;
 use kv_model::{Config, Request};
 use kv_store::Version;
-use kv_test_tools::{delete, is_same_at, purge, put, twice};
+use kv_test_tools::{is_same_at, put, twice};
 use std::alloc::{AllocError, Global};
 use std::process::Abort;
 use std::test::Fail;
@@ -26,20 +27,42 @@ pub(crate) fn config(alloc: Global) -> Result<Config, KvError> {
     Ok(config)
 }
 
+// Opens a file, or hands it back.
+fn open(
+    alloc: Global,
+    config: &Config,
+    file: MemoryFile,
+    sync: Sync,
+) -> Result<Opened<MemoryFile>, NotDone<MemoryFile>> {
+    Durable::open(alloc, config, file, &(), SEED, sync)
+}
+
 pub(crate) fn opened(
     alloc: Global,
     file: MemoryFile,
     sync: Sync,
 ) -> Result<Opened<MemoryFile>, DurableError> {
-    match Durable::open(alloc, &config(alloc)?, file, &(), SEED, sync) {
+    match open(alloc, &config(alloc)?, file, sync) {
+        Ok(opened) => Ok(opened),
+        Err(refused) => Err(refused.error),
+    }
+}
+
+// Opens these bytes as the file of a bucket that has this configuration.
+pub(crate) fn opened_with(
+    alloc: Global,
+    config: &Config,
+    bytes: &[u8],
+) -> Result<Opened<MemoryFile>, DurableError> {
+    let file = MemoryFile::new(alloc, Vec::from_slice(alloc, bytes)?);
+    match open(alloc, config, file, Sync::Each) {
         Ok(opened) => Ok(opened),
         Err(refused) => Err(refused.error),
     }
 }
 
 pub(crate) fn reopened(alloc: Global, bytes: &[u8]) -> Result<Opened<MemoryFile>, DurableError> {
-    let bytes = Vec::from_slice(alloc, bytes)?;
-    opened(alloc, MemoryFile::new(alloc, bytes), Sync::Each)
+    opened_with(alloc, &config(alloc)?, bytes)
 }
 
 pub(crate) fn create(alloc: Global, key: &str, value: &str) -> Result<Request, KvError> {
@@ -47,6 +70,15 @@ pub(crate) fn create(alloc: Global, key: &str, value: &str) -> Result<Request, K
         Request::Put { key, value } => Ok(Request::Create { key, value }),
         request => Ok(request),
     }
+}
+
+fn create_in(
+    alloc: Global,
+    bucket: &mut Bucket,
+    key: &str,
+    value: &str,
+) -> Result<(), DurableError> {
+    write(bucket, &create(alloc, key, value)?)
 }
 
 // Why a batch was not done, without its place.
@@ -58,33 +90,37 @@ pub(crate) fn without_place(error: BatchError) -> DurableError {
 }
 
 // Two puts in one step.
-fn put_both(alloc: Global, bucket: &mut Bucket) -> Result<u64, DurableError> {
+fn put_both(alloc: Global, bucket: &mut Bucket) -> Result<(), DurableError> {
     let both = [
         put(alloc, "app.port", "443")?,
         create(alloc, "app.user", "kv")?,
     ];
-    bucket.write_all(&both).map_err(without_place)
+    write_batch(bucket, &both)
 }
 
 // Makes the step of this number.
 pub(crate) fn step(alloc: Global, bucket: &mut Bucket, number: usize) -> Result<(), DurableError> {
     match number {
-        0 => bucket.write(&put(alloc, "app.port", "80")?)?,
-        1 => bucket.write(&create(alloc, "app.host", "kv")?)?,
-        2 => bucket.write(&delete(alloc, "app.port", Some(1))?)?,
-        3 => bucket.write(&purge(alloc, "app.host", None)?)?,
-        4 => bucket.write(&put(alloc, "app.port", "")?)?,
-        5 => {
-            bucket.compact(3)?;
-            3
-        }
-        6 => bucket.write(&put(alloc, "app.name", "durable")?)?,
-        BATCH => put_both(alloc, bucket)?,
-        _ => {
-            bucket.seal()?;
-            0
-        }
-    };
+        0 => put_in(alloc, bucket, "app.port", "80"),
+        1 => create_in(alloc, bucket, "app.host", "kv"),
+        2 => delete_in(alloc, bucket, "app.port", Some(1)),
+        3 => purge_in(alloc, bucket, "app.host"),
+        4 => put_in(alloc, bucket, "app.port", ""),
+        5 => compact(bucket, 3),
+        6 => put_in(alloc, bucket, "app.name", "durable"),
+        BATCH => put_both(alloc, bucket),
+        _ => seal(bucket),
+    }
+}
+
+pub(crate) fn first_steps(
+    alloc: Global,
+    bucket: &mut Bucket,
+    steps: usize,
+) -> Result<(), DurableError> {
+    for number in 0..steps {
+        step(alloc, bucket, number)?;
+    }
     Ok(())
 }
 
@@ -104,6 +140,21 @@ pub(crate) fn empty(alloc: Global) -> MemoryFile {
     MemoryFile::new(alloc, Vec::new(alloc))
 }
 
+// An empty file of which so many calls go well.
+pub(crate) fn failing_after(alloc: Global, calls: u64) -> MemoryFile {
+    let mut file = empty(alloc);
+    file.fail_after(calls);
+    file
+}
+
+// The file of a bucket that is let go, whether all of it comes onto the disk or not.
+fn let_go(bucket: Bucket) -> MemoryFile {
+    match bucket.close() {
+        Ok(file) => file,
+        Err(refused) => refused.file,
+    }
+}
+
 fn push<T: Drop>(items: &mut Vec<T>, item: T) -> Result<(), AllocError> {
     items.push(item)?;
     Ok(())
@@ -117,23 +168,29 @@ struct Course {
     ends: Vec<usize>,
 }
 
+// Notes the version that a bucket has now, and where its bytes end.
+fn note(course: &mut Course, bucket: &Bucket) -> Result<(), DurableError> {
+    push(&mut course.versions, bucket.bucket().version().snapshot()?)?;
+    push(&mut course.ends, bucket.journal().place() as usize)?;
+    Ok(())
+}
+
 fn make_course(alloc: Global) -> Result<Course, DurableError> {
     let mut bucket = opened(alloc, empty(alloc), Sync::Each)?.durable;
-    let mut versions = Vec::new(alloc);
-    let mut ends = Vec::new(alloc);
-    push(&mut versions, bucket.bucket().version().snapshot()?)?;
-    push(&mut ends, bucket.journal().place() as usize)?;
+    let mut course = Course {
+        bytes: Vec::new(alloc),
+        versions: Vec::new(alloc),
+        ends: Vec::new(alloc),
+    };
+    note(&mut course, &bucket)?;
     for number in 0..STEPS {
         step(alloc, &mut bucket, number)?;
-        push(&mut versions, bucket.bucket().version().snapshot()?)?;
-        push(&mut ends, bucket.journal().place() as usize)?;
+        note(&mut course, &bucket)?;
     }
-    let bytes = Vec::from_slice(alloc, bucket.journal().file().kept())?;
-    Ok(Course {
-        bytes,
-        versions,
-        ends,
-    })
+    course
+        .bytes
+        .extend_from_slice(bucket.journal().file().kept())?;
+    Ok(course)
 }
 
 // How many steps are whole in so many bytes, and where the last of them ends.
@@ -155,16 +212,18 @@ fn is_behind(course: &Course, number: usize, version: &Version) -> bool {
     }
 }
 
+fn closed(bucket: Bucket) -> Result<MemoryFile, DurableError> {
+    match bucket.close() {
+        Ok(file) => Ok(file),
+        Err(refused) => Err(refused.error),
+    }
+}
+
 fn all_is_there_again_once(rt: &impl Abort, alloc: Global) -> Result<(), DurableError> {
     let mut bucket = opened(alloc, empty(alloc), Sync::Every(3))?.durable;
-    for number in 0..STEPS {
-        step(alloc, &mut bucket, number)?;
-    }
+    first_steps(alloc, &mut bucket, STEPS)?;
     let version = bucket.bucket().version().snapshot()?;
-    let file = match bucket.close() {
-        Ok(file) => file,
-        Err(refused) => return Err(refused.error),
-    };
+    let file = closed(bucket)?;
     let again = reopened(alloc, file.kept())?;
     equal(rt, again.dropped, 0);
     assert!(rt; is_same(&version, again.durable.bucket().version()));
@@ -176,23 +235,29 @@ fn all_is_there_again(rt: HostRuntime) -> Result<(), Fail> {
     Ok(twice!(all_is_there_again_once(&rt, rt.alloc()))?)
 }
 
+// The first bytes of a file are opened as the steps that are whole in them.
+fn is_its_whole_acts(rt: &impl Abort, course: &Course, n: usize, again: &Opened<MemoryFile>) {
+    match whole_in(course, n) {
+        Some((number, end)) => {
+            equal(rt, again.dropped, n.saturating_sub(end) as u64);
+            assert!(rt; is_behind(course, number, again.durable.bucket().version()));
+        }
+        None => assert!(rt; n == 0 && again.dropped == 0),
+    }
+}
+
 // What is read of the first bytes of a file.
 fn is_read(rt: &impl Abort, alloc: Global, course: &Course, n: usize) -> Result<(), DurableError> {
     let Some(bytes) = course.bytes.get(..n) else {
         return Ok(());
     };
-    match (whole_in(course, n), reopened(alloc, bytes)) {
-        (Some((number, end)), Ok(again)) => {
-            equal(rt, again.dropped, n.saturating_sub(end) as u64);
-            assert!(rt; is_behind(course, number, again.durable.bucket().version()));
+    match reopened(alloc, bytes) {
+        Ok(again) => {
+            is_its_whole_acts(rt, course, n, &again);
             Ok(())
         }
-        (None, Err(DurableError::FileDamaged { at: 0 })) => Ok(()),
-        (_, Err(error)) => Err(error),
-        (None, Ok(again)) => {
-            assert!(rt; n == 0 && again.dropped == 0);
-            Ok(())
-        }
+        Err(DurableError::FileDamaged { at: 0 }) if whole_in(course, n).is_none() => Ok(()),
+        Err(error) => Err(error),
     }
 }
 
@@ -253,13 +318,19 @@ fn a_turned_bit_is_told(rt: HostRuntime) -> Result<(), Fail> {
     Ok(twice!(a_turned_bit_is_told_once(&rt, rt.alloc()))?)
 }
 
+// These bytes, and another one a hundred times behind them.
+fn followed_by(alloc: Global, bytes: &[u8], byte: u8) -> Result<Vec<u8>, AllocError> {
+    let mut out = Vec::from_slice(alloc, bytes)?;
+    for _ in 0..100 {
+        push(&mut out, byte)?;
+    }
+    Ok(out)
+}
+
 fn what_stands_behind_is_dropped_once(rt: &impl Abort, alloc: Global) -> Result<(), DurableError> {
     let course = make_course(alloc)?;
     for byte in [0u8, 1, 85, 255] {
-        let mut bytes = Vec::from_slice(alloc, &course.bytes)?;
-        for _ in 0..100 {
-            push(&mut bytes, byte)?;
-        }
+        let bytes = followed_by(alloc, &course.bytes, byte)?;
         let again = reopened(alloc, &bytes)?;
         equal(rt, again.dropped, 100);
         assert!(rt; is_behind(&course, STEPS, again.durable.bucket().version()));
@@ -277,30 +348,49 @@ fn what_stands_behind_is_dropped(rt: HostRuntime) -> Result<(), Fail> {
     Ok(twice!(what_stands_behind_is_dropped_once(&rt, rt.alloc()))?)
 }
 
+// Makes each step, and tells how many of them were answered.
+fn answered_steps(alloc: Global, bucket: &mut Bucket) -> Result<usize, DurableError> {
+    let mut answered: usize = 0;
+    for number in 0..STEPS {
+        match step(alloc, bucket, number) {
+            Ok(()) => answered = answered.saturating_add(1),
+            Err(DurableError::FileFault) => {}
+            Err(error) => return Err(error),
+        }
+    }
+    Ok(answered)
+}
+
 // A bucket of a file that fails behind so many calls, and how many of its steps were answered.
 fn until_it_fails(
     alloc: Global,
     calls: u64,
     sync: Sync,
 ) -> Result<(MemoryFile, usize), DurableError> {
-    let mut file = empty(alloc);
-    file.fail_after(calls);
-    let mut bucket = match Durable::open(alloc, &config(alloc)?, file, &(), SEED, sync) {
+    let file = failing_after(alloc, calls);
+    let mut bucket = match open(alloc, &config(alloc)?, file, sync) {
         Ok(opened) => opened.durable,
         Err(refused) => return Ok((refused.file, 0)),
     };
-    let mut answered: usize = 0;
-    for number in 0..STEPS {
-        match step(alloc, &mut bucket, number) {
-            Ok(()) => answered = answered.saturating_add(1),
-            Err(DurableError::FileFault) => {}
-            Err(error) => return Err(error),
-        }
-    }
-    match bucket.close() {
-        Ok(file) => Ok((file, answered)),
-        Err(refused) => Ok((refused.file, answered)),
-    }
+    let answered = answered_steps(alloc, &mut bucket)?;
+    Ok((let_go(bucket), answered))
+}
+
+// What was answered is there in these bytes, and at most one step more.
+fn has_answered(
+    rt: &impl Abort,
+    alloc: Global,
+    course: &Course,
+    bytes: &[u8],
+    answered: usize,
+) -> Result<(), DurableError> {
+    let again = reopened(alloc, bytes)?;
+    let version = again.durable.bucket().version();
+    assert!(rt;
+        is_behind(course, answered, version)
+            || is_behind(course, answered.saturating_add(1), version)
+    );
+    Ok(())
 }
 
 // What was answered is there, whatever the crash left of the rest.
@@ -314,12 +404,7 @@ fn comes_back(
 ) -> Result<(), DurableError> {
     for left in 0..file.loose().len() + 1 {
         let bytes = file.crashed(alloc, left, torn)?;
-        let again = reopened(alloc, &bytes)?;
-        let version = again.durable.bucket().version();
-        assert!(rt;
-            is_behind(course, answered, version)
-                || is_behind(course, answered.saturating_add(1), version)
-        );
+        has_answered(rt, alloc, course, &bytes, answered)?;
     }
     Ok(())
 }
@@ -353,18 +438,24 @@ pub(crate) fn is_fault(
     Ok(())
 }
 
+fn each_act_is_fault(
+    rt: &impl Abort,
+    alloc: Global,
+    bucket: &mut Bucket,
+) -> Result<(), DurableError> {
+    is_fault(rt, step(alloc, bucket, 0))?;
+    is_fault(rt, seal(bucket))?;
+    is_fault(rt, compact(bucket, 1))?;
+    is_fault(rt, sync(bucket))
+}
+
 fn a_fault_stops_once(rt: &impl Abort, alloc: Global) -> Result<(), DurableError> {
-    let mut file = empty(alloc);
-    file.fail_after(3);
-    let mut bucket = opened(alloc, file, Sync::Each)?.durable;
+    let mut bucket = opened(alloc, failing_after(alloc, 3), Sync::Each)?.durable;
     is_fault(rt, step(alloc, &mut bucket, 0))?;
     equal(rt, bucket.bucket().version().revision(), 0);
     let loose = bucket.journal().file().loose().len();
     assert!(rt; bucket.journal().is_stopped());
-    is_fault(rt, step(alloc, &mut bucket, 0))?;
-    is_fault(rt, bucket.seal())?;
-    is_fault(rt, bucket.compact(1))?;
-    is_fault(rt, bucket.sync())?;
+    each_act_is_fault(rt, alloc, &mut bucket)?;
     equal(rt, bucket.journal().file().loose().len(), loose);
     equal(rt, bucket.bucket().version().revision(), 0);
     Ok(())
@@ -379,16 +470,16 @@ fn what_is_refused_is_not_there_once(rt: &impl Abort, alloc: Global) -> Result<(
     let mut bucket = opened(alloc, empty(alloc), Sync::Asked)?.durable;
     step(alloc, &mut bucket, 0)?;
     let place = bucket.journal().place();
-    let exists = bucket.write(&create(alloc, "app.port", "1")?);
+    let exists = write(&mut bucket, &create(alloc, "app.port", "1")?);
     equal(rt, exists, Err(DurableError::Refused(KvError::KeyExists)));
     equal(
         rt,
-        bucket.compact(2),
+        compact(&mut bucket, 2),
         Err(DurableError::Refused(KvError::BadFloor)),
     );
     equal(rt, bucket.journal().place(), place);
     assert!(rt; !bucket.journal().file().loose().is_empty());
-    bucket.sync()?;
+    sync(&mut bucket)?;
     assert!(rt; bucket.journal().file().loose().is_empty());
     Ok(())
 }
@@ -403,7 +494,7 @@ fn another_bucket_is_told_once(rt: &impl Abort, alloc: Global) -> Result<(), Dur
     let mut config = config(alloc)?;
     config.history = 3;
     let file = MemoryFile::new(alloc, Vec::from_slice(alloc, &course.bytes)?);
-    match Durable::open(alloc, &config, file, &(), SEED, Sync::Each) {
+    match open(alloc, &config, file, Sync::Each) {
         Ok(_) => assert!(rt; false),
         Err(refused) => {
             let is_memory = refused.error == DurableError::Refused(KvError::OutOfMemory);

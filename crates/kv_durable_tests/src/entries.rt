@@ -30,24 +30,42 @@ fn sample(alloc: Global) -> Result<Vec<u8>, AllocError> {
     Ok(out)
 }
 
-fn payload_of(alloc: Global, loose: u32, request: &Request) -> Result<Vec<u8>, KvError> {
+// The payload of a write, if there was memory for its request.
+fn payload_of(
+    alloc: Global,
+    loose: u32,
+    request: Result<Request, KvError>,
+) -> Result<Vec<u8>, KvError> {
+    let request = request?;
     if request.value().len() > 100 {
         return Err(KvError::ValueTooLarge);
     }
-    Ok(encode_request(alloc, loose, request)?)
+    Ok(encode_request(alloc, loose, &request)?)
+}
+
+fn compaction(alloc: Global, loose: u32, floor: u64) -> Result<Vec<u8>, KvError> {
+    Ok(encode_compaction(alloc, loose, floor)?)
+}
+
+fn seal(alloc: Global, loose: u32) -> Result<Vec<u8>, KvError> {
+    Ok(encode_seal(alloc, loose)?)
+}
+
+fn closed(alloc: Global, loose: u32, last: u64) -> Result<Vec<u8>, KvError> {
+    Ok(encode_closed(alloc, loose, last)?)
 }
 
 // The payload of the entry of this number in the sample.
 fn entry(alloc: Global, number: usize) -> Result<Vec<u8>, KvError> {
     match number {
-        1 => payload_of(alloc, 0, &put(alloc, "app.port", "80")?),
-        2 => payload_of(alloc, 24, &put(alloc, "app.host", "kv")?),
-        3 => payload_of(alloc, 48, &delete(alloc, "app.port", None)?),
-        4 => payload_of(alloc, 0, &purge(alloc, "app.host", None)?),
-        5 => payload_of(alloc, 0, &put(alloc, "app.port", "")?),
-        6 => Ok(encode_compaction(alloc, 22, 3)?),
-        7 => Ok(encode_seal(alloc, 43)?),
-        _ => Ok(encode_closed(alloc, 0, 5)?),
+        1 => payload_of(alloc, 0, put(alloc, "app.port", "80")),
+        2 => payload_of(alloc, 24, put(alloc, "app.host", "kv")),
+        3 => payload_of(alloc, 48, delete(alloc, "app.port", None)),
+        4 => payload_of(alloc, 0, purge(alloc, "app.host", None)),
+        5 => payload_of(alloc, 0, put(alloc, "app.port", "")),
+        6 => compaction(alloc, 22, 3),
+        7 => seal(alloc, 43),
+        _ => closed(alloc, 0, 5),
     }
 }
 
@@ -60,12 +78,18 @@ fn push(framing: &Framing, out: &mut Vec<u8>, payload: &[u8]) -> Result<(), KvEr
     Ok(())
 }
 
-fn the_sample_is_written_once(rt: &impl Abort, alloc: Global) -> Result<(), KvError> {
-    let framing = Framing::new(SEED);
+// What the sample begins with.
+fn beginning(alloc: Global, framing: &Framing) -> Result<Vec<u8>, KvError> {
     let config = config(alloc)?;
     config.check()?;
     let mut out = Vec::new(alloc);
-    push_beginning(alloc, &mut out, &framing, &config)?;
+    push_beginning(alloc, &mut out, framing, &config)?;
+    Ok(out)
+}
+
+fn the_sample_is_written_once(rt: &impl Abort, alloc: Global) -> Result<(), KvError> {
+    let framing = Framing::new(SEED);
+    let mut out = beginning(alloc, &framing)?;
     for number in 1..9 {
         push(&framing, &mut out, &entry(alloc, number)?)?;
     }
@@ -235,12 +259,9 @@ fn an_entry_of_no_lawful_act_is_refused_with_its_place_once(
     alloc: Global,
 ) -> Result<(), KvError> {
     let framing = Framing::new(SEED);
-    let config = config(alloc)?;
-    config.check()?;
-    let mut bytes = Vec::new(alloc);
-    push_beginning(alloc, &mut bytes, &framing, &config)?;
+    let mut bytes = beginning(alloc, &framing)?;
     push(&framing, &mut bytes, &entry(alloc, 1)?)?;
-    push(&framing, &mut bytes, &encode_compaction(alloc, 24, 2)?)?;
+    push(&framing, &mut bytes, &compaction(alloc, 24, 2)?)?;
     match replayed(alloc, &bytes)? {
         Err(ReplayError::OutOfMemory) => Err(KvError::OutOfMemory),
         other => {

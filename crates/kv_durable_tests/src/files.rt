@@ -1,6 +1,6 @@
 //! Tests of files that only grow.
 
-use crate::durables::empty;
+use crate::durables::{empty, failing_after};
 use crate::equal::equal;
 use kv_file::{Appender, JournalFile, MemoryFile, Sync, Torn};
 use kv_keys::KvError;
@@ -39,9 +39,7 @@ fn bytes_are_synced_when_that_is_due(rt: HostRuntime) {
 
 // A file whose calls fail from this one on.
 fn failing(alloc: Global, calls: u64) -> Appender<MemoryFile> {
-    let mut file = empty(alloc);
-    file.fail_after(calls);
-    Appender::new(file, 0, Sync::Each)
+    Appender::new(failing_after(alloc, calls), 0, Sync::Each)
 }
 
 #[test]
@@ -60,26 +58,27 @@ fn what_failed_once_is_not_usable_again(rt: HostRuntime) {
     }
 }
 
+// What a crash leaves of a file, where so many of its loose bytes are left.
+fn leaves(
+    rt: &impl Abort,
+    alloc: Global,
+    file: &MemoryFile,
+    loose: usize,
+    torn: Torn,
+    wanted: &[u8],
+) -> Result<(), KvError> {
+    equal(rt, file.crashed(alloc, loose, torn)?.as_slice(), wanted);
+    Ok(())
+}
+
 fn a_crash_leaves_what_was_synced_once(rt: &impl Abort, alloc: Global) -> Result<(), KvError> {
     let mut file = MemoryFile::new(alloc, Vec::from_slice(alloc, b"kept")?);
     if file.append(b"loose").is_err() {
         return Ok(());
     }
-    equal(
-        rt,
-        file.crashed(alloc, 0, Torn::Whole)?.as_slice(),
-        b"kept".as_slice(),
-    );
-    equal(
-        rt,
-        file.crashed(alloc, 3, Torn::Whole)?.as_slice(),
-        b"keptloo".as_slice(),
-    );
-    equal(
-        rt,
-        file.crashed(alloc, 9, Torn::Zeros)?.as_slice(),
-        b"kept\0\0\0\0\0".as_slice(),
-    );
+    leaves(rt, alloc, &file, 0, Torn::Whole, b"kept")?;
+    leaves(rt, alloc, &file, 3, Torn::Whole, b"keptloo")?;
+    leaves(rt, alloc, &file, 9, Torn::Zeros, b"kept\0\0\0\0\0")?;
     if let Ok(bytes) = file.read(alloc) {
         equal(rt, bytes.as_slice(), b"keptloose".as_slice());
     }

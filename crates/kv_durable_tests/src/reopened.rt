@@ -1,12 +1,12 @@
 //! Tests of openings of checkpoints that stand behind many acts, under several histories.
 
-use crate::checkpointed::NEXT_SEED;
-use crate::durables::{Bucket, SEED, STEPS, config, empty, opened, step};
+use crate::acts::{checkpoint, compact_back, delete_in, purge_in, put_in, put_often, seal};
+use crate::durables::{self, Bucket, STEPS, config, empty, first_steps, opened, step};
 use crate::equal::equal;
-use kv_durable::{Durable, DurableError, Opened, Sync};
+use kv_durable::{DurableError, Opened, Sync};
 use kv_file::MemoryFile;
 use kv_store::Version;
-use kv_test_tools::{delete, is_same_at, purge, put, twice};
+use kv_test_tools::{is_same_at, twice};
 use std::alloc::Global;
 use std::process::Abort;
 use std::test::Fail;
@@ -21,11 +21,7 @@ fn opened_with(
 ) -> Result<Opened<MemoryFile>, DurableError> {
     let mut config = config(alloc)?;
     config.history = history;
-    let file = MemoryFile::new(alloc, Vec::from_slice(alloc, bytes)?);
-    match Durable::open(alloc, &config, file, &(), SEED, Sync::Each) {
-        Ok(opened) => Ok(opened),
-        Err(refused) => Err(refused.error),
-    }
+    durables::opened_with(alloc, &config, bytes)
 }
 
 fn is_same(first: &Version, second: &Version) -> bool {
@@ -53,6 +49,18 @@ fn again(
     Ok(second)
 }
 
+// The same, of a file that begins with a checkpoint.
+fn is_checkpointed(
+    rt: &impl Abort,
+    alloc: Global,
+    history: u64,
+    bucket: &Bucket,
+) -> Result<(), DurableError> {
+    let second = again(rt, alloc, history, bucket)?;
+    assert!(rt; second.checkpointed);
+    Ok(())
+}
+
 // The checkpoint of a bucket is opened as the same bucket.
 fn is_opened(
     rt: &impl Abort,
@@ -60,26 +68,21 @@ fn is_opened(
     history: u64,
     bucket: &mut Bucket,
 ) -> Result<(), DurableError> {
-    bucket.checkpoint(&(), NEXT_SEED)?;
-    let second = again(rt, alloc, history, bucket)?;
-    assert!(rt; second.checkpointed);
-    Ok(())
+    checkpoint(bucket)?;
+    is_checkpointed(rt, alloc, history, bucket)
 }
 
 // Puts, deletes and purges of three keys, and now and then a compaction to a few revisions back.
 fn turn(alloc: Global, bucket: &mut Bucket, number: u64) -> Result<(), DurableError> {
     let key = KEYS[(number % 3) as usize];
     if number % 10 == 9 {
-        let floor = bucket.bucket().version().revision().saturating_sub(4);
-        return bucket.compact(floor);
+        return compact_back(bucket, 4);
     }
-    let request = match number % 7 {
-        3 => delete(alloc, key, None)?,
-        5 => purge(alloc, key, None)?,
-        _ => put(alloc, key, "80")?,
-    };
-    bucket.write(&request)?;
-    Ok(())
+    match number % 7 {
+        3 => delete_in(alloc, bucket, key, None),
+        5 => purge_in(alloc, bucket, key),
+        _ => put_in(alloc, bucket, key, "80"),
+    }
 }
 
 // Each checkpoint of a course is opened, also where the file began with one, and where writes have ended.
@@ -89,7 +92,7 @@ fn a_course_is_opened(rt: &impl Abort, alloc: Global, history: u64) -> Result<()
         turn(alloc, &mut bucket, number)?;
         is_opened(rt, alloc, history, &mut bucket)?;
     }
-    bucket.seal()?;
+    seal(&mut bucket)?;
     is_opened(rt, alloc, history, &mut bucket)
 }
 
@@ -101,18 +104,21 @@ fn each_checkpoint_of_a_course_is_opened(rt: HostRuntime) -> Result<(), Fail> {
     Ok(())
 }
 
-// A bucket that stores little of many writes, before the compaction and behind it.
-fn a_gap_is_opened(rt: &impl Abort, alloc: Global, writes: u64) -> Result<(), DurableError> {
+// A bucket that stores little of many writes.
+fn with_gap(alloc: Global, writes: u64) -> Result<Bucket, DurableError> {
     let mut bucket = opened_with(alloc, 1, &[])?.durable;
-    bucket.write(&put(alloc, "app.host", "kv")?)?;
-    bucket.write(&purge(alloc, "app.name", None)?)?;
-    for _ in 0..writes {
-        bucket.write(&put(alloc, "app.port", "80")?)?;
-    }
-    let floor = bucket.bucket().version().revision();
-    bucket.compact(floor)?;
+    put_in(alloc, &mut bucket, "app.host", "kv")?;
+    purge_in(alloc, &mut bucket, "app.name")?;
+    put_often(alloc, &mut bucket, writes)?;
+    compact_back(&mut bucket, 0)?;
+    Ok(bucket)
+}
+
+// It is opened, and so is the bucket behind one write more.
+fn a_gap_is_opened(rt: &impl Abort, alloc: Global, writes: u64) -> Result<(), DurableError> {
+    let mut bucket = with_gap(alloc, writes)?;
     is_opened(rt, alloc, 1, &mut bucket)?;
-    bucket.write(&put(alloc, "app.name", "durable")?)?;
+    put_in(alloc, &mut bucket, "app.name", "durable")?;
     is_opened(rt, alloc, 1, &mut bucket)
 }
 
@@ -127,14 +133,11 @@ fn a_checkpoint_of_what_is_left_of_many_writes_is_opened(rt: HostRuntime) -> Res
 // Entries behind a checkpoint are read as they are without one.
 fn entries_go_on(rt: &impl Abort, alloc: Global, steps: usize) -> Result<(), DurableError> {
     let mut bucket = opened(alloc, empty(alloc), Sync::Each)?.durable;
-    for number in 0..steps {
-        step(alloc, &mut bucket, number)?;
-    }
-    bucket.checkpoint(&(), NEXT_SEED)?;
+    first_steps(alloc, &mut bucket, steps)?;
+    checkpoint(&mut bucket)?;
     for number in steps..STEPS {
         step(alloc, &mut bucket, number)?;
-        let second = again(rt, alloc, 2, &bucket)?;
-        assert!(rt; second.checkpointed);
+        is_checkpointed(rt, alloc, 2, &bucket)?;
     }
     Ok(())
 }

@@ -15,17 +15,23 @@ const ENDS: &[(u64, Result<(), ReplaceFault>, &[u8], &[u8])] = &[
     (2, Ok(()), b"new", b""),
 ];
 
+// A file that has bytes on the disk, and others loose.
+fn with_loose(alloc: Global) -> Result<MemoryFile, KvError> {
+    let mut file = MemoryFile::new(alloc, Vec::from_slice(alloc, b"kept")?);
+    if file.append(b"loose").is_err() {
+        return Err(KvError::OutOfMemory);
+    }
+    Ok(file)
+}
+
 fn is_replaced_or_stays(
     rt: &impl Abort,
     alloc: Global,
     end: &(u64, Result<(), ReplaceFault>, &[u8], &[u8]),
 ) -> Result<(), KvError> {
     let (calls, told, kept, loose) = end;
-    let mut file = MemoryFile::new(alloc, Vec::from_slice(alloc, b"kept")?);
+    let mut file = with_loose(alloc)?;
     let new = Vec::from_slice(alloc, b"new")?;
-    if file.append(b"loose").is_err() {
-        return Err(KvError::OutOfMemory);
-    }
     file.fail_after(*calls);
     assert!(rt; file.replace(&(), new) == *told);
     equal(rt, file.kept(), *kept);

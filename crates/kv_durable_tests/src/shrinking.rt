@@ -1,10 +1,11 @@
 //! Tests of compactions that replace a large file.
 
-use crate::checkpointed::{NEXT_SEED, are_same, same_again};
-use crate::durables::{Bucket, empty, opened};
+use crate::acts::{NEXT_SEED, checkpoint, compact, put_in, put_often};
+use crate::checkpointed::{are_same, same_again};
+use crate::durables::{Bucket, failing_after, opened};
 use crate::equal::equal;
 use kv_durable::{DurableError, Shrunk, Sync};
-use kv_test_tools::{put, twice};
+use kv_test_tools::twice;
 use std::alloc::Global;
 use std::process::Abort;
 use std::test::Fail;
@@ -13,12 +14,9 @@ use std::test::Fail;
 // write is two.
 fn overwritten(alloc: Global, writes: u64, calls: u64) -> Result<Bucket, DurableError> {
     let before = writes.saturating_mul(2).saturating_add(2);
-    let mut file = empty(alloc);
-    file.fail_after(before.saturating_add(calls));
+    let file = failing_after(alloc, before.saturating_add(calls));
     let mut bucket = opened(alloc, file, Sync::Each)?.durable;
-    for _ in 0..writes {
-        bucket.write(&put(alloc, "app.port", "80")?)?;
-    }
+    put_often(alloc, &mut bucket, writes)?;
     Ok(bucket)
 }
 
@@ -29,7 +27,7 @@ fn shrunk(bucket: &mut Bucket, floor: u64) -> Result<Shrunk, DurableError> {
 // The same, where the compaction was made by itself.
 fn compacted(alloc: Global, writes: u64) -> Result<Bucket, DurableError> {
     let mut bucket = overwritten(alloc, writes, u64::MAX)?;
-    bucket.compact(writes)?;
+    compact(&mut bucket, writes)?;
     Ok(bucket)
 }
 
@@ -37,11 +35,43 @@ fn compacted(alloc: Global, writes: u64) -> Result<Bucket, DurableError> {
 fn wanted(alloc: Global, writes: u64) -> Result<Shrunk, DurableError> {
     let mut bucket = compacted(alloc, writes)?;
     let large = bucket.journal().place();
-    bucket.checkpoint(&(), NEXT_SEED)?;
+    checkpoint(&mut bucket)?;
     if large > bucket.journal().place().saturating_mul(2) {
         return Ok(Shrunk::Replaced);
     }
     Ok(Shrunk::Left)
+}
+
+// What the file is opened as goes on as the bucket does, and so does what it is opened as behind that.
+fn goes_on(
+    rt: &impl Abort,
+    alloc: Global,
+    bucket: &mut Bucket,
+    is_new: bool,
+) -> Result<(), DurableError> {
+    let mut second = same_again(rt, alloc, bucket, is_new)?;
+    equal(rt, bucket.journal().seed() == NEXT_SEED, is_new);
+    for value in ["443", ""] {
+        put_in(alloc, bucket, "app.host", value)?;
+        put_in(alloc, &mut second, "app.host", value)?;
+        are_same(rt, bucket, &second);
+    }
+    same_again(rt, alloc, bucket, is_new)?;
+    Ok(())
+}
+
+// Where no checkpoint failed, that came of the file which the rule has.
+fn is_wanted(
+    rt: &impl Abort,
+    alloc: Global,
+    writes: u64,
+    told: Shrunk,
+) -> Result<Shrunk, DurableError> {
+    if let Shrunk::Failed(error) = told {
+        return Err(error);
+    }
+    equal(rt, told, wanted(alloc, writes)?);
+    Ok(told)
 }
 
 // The compaction is in the file, whatever came of that; and where no checkpoint failed the file is large or small as the rule
@@ -54,21 +84,9 @@ fn is_replaced_where_large(
     let alone = compacted(alloc, writes)?;
     let mut bucket = overwritten(alloc, writes, u64::MAX)?;
     let told = shrunk(&mut bucket, writes)?;
-    let is_new = told == Shrunk::Replaced;
     are_same(rt, &alone, &bucket);
-    let mut second = same_again(rt, alloc, &bucket, is_new)?;
-    equal(rt, bucket.journal().seed() == NEXT_SEED, is_new);
-    for value in ["443", ""] {
-        bucket.write(&put(alloc, "app.host", value)?)?;
-        second.write(&put(alloc, "app.host", value)?)?;
-        are_same(rt, &bucket, &second);
-    }
-    same_again(rt, alloc, &bucket, is_new)?;
-    if let Shrunk::Failed(error) = told {
-        return Err(error);
-    }
-    equal(rt, told, wanted(alloc, writes)?);
-    Ok(told)
+    goes_on(rt, alloc, &mut bucket, told == Shrunk::Replaced)?;
+    is_wanted(rt, alloc, writes, told)
 }
 
 fn large_ones_are_replaced(rt: &impl Abort, alloc: Global) -> Result<(), DurableError> {
@@ -89,28 +107,59 @@ fn a_compaction_replaces_the_file_where_it_is_large(rt: HostRuntime) -> Result<(
     Ok(twice!(large_ones_are_replaced(&rt, rt.alloc()))?)
 }
 
-// How a compaction ends of which only so many calls of the file go well: the first two add it to the file, and the others
-// replace that. The bucket is that before it or that behind it, and so is the file.
-fn is_cut_off(rt: &impl Abort, alloc: Global, calls: u64) -> Result<(), DurableError> {
-    let before = overwritten(alloc, 20, u64::MAX)?;
-    let behind = compacted(alloc, 20)?;
-    let mut bucket = overwritten(alloc, 20, calls)?;
-    match shrunk(&mut bucket, 20) {
-        Err(DurableError::FileFault) if calls < 2 => are_same(rt, &before, &bucket),
-        Ok(Shrunk::Failed(DurableError::FileFault)) => {
-            assert!(rt; calls == 2 || calls == 3);
-            are_same(rt, &behind, &bucket);
-            same_again(rt, alloc, &bucket, calls == 3)?;
-        }
-        Ok(Shrunk::Replaced) => {
-            assert!(rt; calls == 4);
-            same_again(rt, alloc, &bucket, true)?;
-        }
+// A compaction whose checkpoint failed is in the bucket and in the file, which is the old one or the new one.
+fn stays(
+    rt: &impl Abort,
+    alloc: Global,
+    behind: &Bucket,
+    bucket: &Bucket,
+    calls: u64,
+) -> Result<(), DurableError> {
+    assert!(rt; calls == 2 || calls == 3);
+    are_same(rt, behind, bucket);
+    same_again(rt, alloc, bucket, calls == 3)?;
+    Ok(())
+}
+
+fn is_replaced(
+    rt: &impl Abort,
+    alloc: Global,
+    bucket: &Bucket,
+    calls: u64,
+) -> Result<(), DurableError> {
+    assert!(rt; calls == 4);
+    same_again(rt, alloc, bucket, true)?;
+    Ok(())
+}
+
+// The bucket is that before the compaction or that behind it, by what was told of it, and so is the file.
+fn is_before_or_behind(
+    rt: &impl Abort,
+    alloc: Global,
+    (before, behind): (&Bucket, &Bucket),
+    bucket: &Bucket,
+    calls: u64,
+    told: Result<Shrunk, DurableError>,
+) -> Result<(), DurableError> {
+    match told {
+        Err(DurableError::FileFault) if calls < 2 => are_same(rt, before, bucket),
+        Ok(Shrunk::Failed(DurableError::FileFault)) => stays(rt, alloc, behind, bucket, calls)?,
+        Ok(Shrunk::Replaced) => is_replaced(rt, alloc, bucket, calls)?,
         Ok(Shrunk::Left) => assert!(rt; false),
         Ok(Shrunk::Failed(error)) | Err(error) => return Err(error),
     }
     assert!(rt; bucket.journal().is_stopped() == (calls != 2 && calls != 4));
     Ok(())
+}
+
+// How a compaction ends of which only so many calls of the file go well: the first two add it to the file, and the others
+// replace that.
+fn is_cut_off(rt: &impl Abort, alloc: Global, calls: u64) -> Result<(), DurableError> {
+    let before = overwritten(alloc, 20, u64::MAX)?;
+    let behind = compacted(alloc, 20)?;
+    let mut bucket = overwritten(alloc, 20, calls)?;
+    let told = shrunk(&mut bucket, 20);
+    is_before_or_behind(rt, alloc, (&before, &behind), &bucket, calls, told)
 }
 
 #[test]

@@ -1,10 +1,11 @@
 //! Tests of durable buckets over files of the system.
 
+use crate::acts::put_in;
 use crate::equal::equal;
 use kv_durable::{Durable, DurableError, OpenFault, Opened, Sync, SystemFile};
 use kv_file::{JournalFile, ReplaceFault, ReplaceableFile, SystemPlace};
 use kv_model::Config;
-use kv_test_tools::{put, twice};
+use kv_test_tools::twice;
 use std::alloc::Global;
 use std::hash::{BuildHasher, RandomState};
 use std::process::Abort;
@@ -26,6 +27,19 @@ fn new_path(rt: &HostRuntime) -> Result<String, DurableError> {
     Ok(format!(in rt.alloc(); "{}/kv-{number}.journal", folder.as_str())?)
 }
 
+// The bucket of a file that lies in this place.
+fn opened_in(
+    alloc: Global,
+    file: SystemFile,
+    place: &SystemPlace<HostRuntime>,
+) -> Result<Opened<SystemFile>, DurableError> {
+    let config = Config::named(alloc, "settings")?;
+    match Durable::open(alloc, &config, file, place, 7, Sync::Each) {
+        Ok(opened) => Ok(opened),
+        Err(refused) => Err(refused.error),
+    }
+}
+
 fn opened(rt: &HostRuntime, alloc: Global, path: &str) -> Result<Opened<SystemFile>, DurableError> {
     let next = format!(in alloc; "{path}.next")?;
     let place = SystemPlace {
@@ -34,18 +48,14 @@ fn opened(rt: &HostRuntime, alloc: Global, path: &str) -> Result<Opened<SystemFi
         next: next.as_str(),
     };
     let file = SystemFile::open(rt, path)?;
-    let config = Config::named(alloc, "settings")?;
-    match Durable::open(alloc, &config, file, &place, 7, Sync::Each) {
-        Ok(opened) => Ok(opened),
-        Err(refused) => Err(refused.error),
-    }
+    opened_in(alloc, file, &place)
 }
 
 // Writes twice, and answers where the file ends.
 fn write_twice(rt: &HostRuntime, alloc: Global, path: &str) -> Result<u64, DurableError> {
     let mut bucket = opened(rt, alloc, path)?.durable;
-    bucket.write(&put(alloc, "app.port", "80")?)?;
-    bucket.write(&put(alloc, "app.host", "kv")?)?;
+    put_in(alloc, &mut bucket, "app.port", "80")?;
+    put_in(alloc, &mut bucket, "app.host", "kv")?;
     Ok(bucket.journal().place())
 }
 
@@ -65,14 +75,34 @@ fn is_there_again(
     Ok(())
 }
 
+fn is_busy(rt: &HostRuntime, test: &impl Abort, path: &str) {
+    let opened = SystemFile::open(rt, path);
+    assert!(test; matches!(opened, Err(OpenFault::Busy)));
+}
+
 // A file that is open is busy, and one that was let go is not.
 fn is_busy_while_open(rt: &HostRuntime, test: &impl Abort, path: &str) -> Result<(), DurableError> {
     let file = SystemFile::open(rt, path)?;
-    let second = SystemFile::open(rt, path);
-    assert!(test; matches!(second, Err(OpenFault::Busy)));
+    is_busy(rt, test, path);
     drop(file);
     let third = SystemFile::open(rt, path)?;
     assert!(test; third.is_usable());
+    Ok(())
+}
+
+fn add(file: &mut SystemFile, bytes: &[u8]) -> Result<(), DurableError> {
+    file.append(bytes)?;
+    Ok(())
+}
+
+// The file has these bytes, and no others.
+fn has(
+    test: &impl Abort,
+    alloc: Global,
+    file: &mut SystemFile,
+    bytes: &[u8],
+) -> Result<(), DurableError> {
+    equal(test, of_system(file.read(alloc))?.as_slice(), bytes);
     Ok(())
 }
 
@@ -84,14 +114,37 @@ fn is_as_asked(
     path: &str,
 ) -> Result<(), DurableError> {
     let mut file = SystemFile::open(rt, path)?;
-    file.append(b"abc")?;
-    equal(test, of_system(file.read(alloc))?.as_slice(), b"abc");
-    file.append(b"def")?;
+    add(&mut file, b"abc")?;
+    has(test, alloc, &mut file, b"abc")?;
+    add(&mut file, b"def")?;
     file.sync()?;
-    equal(test, of_system(file.read(alloc))?.as_slice(), b"abcdef");
+    has(test, alloc, &mut file, b"abcdef")?;
     file.cut(4)?;
-    file.append(b"x")?;
-    equal(test, of_system(file.read(alloc))?.as_slice(), b"abcdx");
+    add(&mut file, b"x")?;
+    has(test, alloc, &mut file, b"abcdx")
+}
+
+// What is told where a file is replaced by a new one, which is made at another path first.
+fn replaced(
+    rt: &HostRuntime,
+    alloc: Global,
+    file: &mut SystemFile,
+    path: &str,
+    next: &str,
+) -> Result<Result<(), ReplaceFault>, DurableError> {
+    let place = SystemPlace { rt, path, next };
+    let new = Vec::from_slice(alloc, b"new")?;
+    Ok(file.replace(&place, new))
+}
+
+// The file at this path has these bytes, whoever has it open.
+fn lies_at(
+    rt: &HostRuntime,
+    test: &impl Abort,
+    path: &str,
+    bytes: &[u8],
+) -> Result<(), DurableError> {
+    equal(test, of_system(fs::read(rt, path))?.as_slice(), bytes);
     Ok(())
 }
 
@@ -103,21 +156,17 @@ fn is_replaced(
     path: &str,
 ) -> Result<(), DurableError> {
     let next = format!(in alloc; "{path}.new")?;
+    let next = next.as_str();
     let mut file = SystemFile::open(rt, path)?;
-    file.append(b"old")?;
-    of_system(fs::write(rt, next.as_str(), b"left over"))?;
-    let place = SystemPlace {
-        rt,
-        path,
-        next: next.as_str(),
-    };
-    of_system(file.replace(&place, Vec::from_slice(alloc, b"new")?))?;
-    file.append(b"er")?;
+    add(&mut file, b"old")?;
+    of_system(fs::write(rt, next, b"left over"))?;
+    of_system(replaced(rt, alloc, &mut file, path, next)?)?;
+    add(&mut file, b"er")?;
     file.sync()?;
-    equal(test, of_system(fs::read(rt, path))?.as_slice(), b"newer");
-    equal(test, of_system(file.read(alloc))?.as_slice(), b"newer");
-    assert!(test; fs::metadata(rt, next.as_str()).is_err());
-    assert!(test; matches!(SystemFile::open(rt, path), Err(OpenFault::Busy)));
+    lies_at(rt, test, path, b"newer")?;
+    has(test, alloc, &mut file, b"newer")?;
+    assert!(test; fs::metadata(rt, next).is_err());
+    is_busy(rt, test, path);
     Ok(())
 }
 
@@ -129,17 +178,11 @@ fn stays(
     path: &str,
 ) -> Result<(), DurableError> {
     let mut file = SystemFile::open(rt, path)?;
-    file.append(b"old")?;
-    let place = SystemPlace {
-        rt,
-        path,
-        next: "no/such/folder/x",
-    };
-    let new = Vec::from_slice(alloc, b"new")?;
-    assert!(test; file.replace(&place, new) == Err(ReplaceFault::Unchanged));
-    file.append(b"er")?;
-    equal(test, of_system(file.read(alloc))?.as_slice(), b"older");
-    Ok(())
+    add(&mut file, b"old")?;
+    let told = replaced(rt, alloc, &mut file, path, "no/such/folder/x")?;
+    equal(test, told, Err(ReplaceFault::Unchanged));
+    add(&mut file, b"er")?;
+    has(test, alloc, &mut file, b"older")
 }
 
 // What is shown of a file.
@@ -152,6 +195,22 @@ enum Shown {
     Stays,
 }
 
+fn show(
+    rt: &HostRuntime,
+    test: &impl Abort,
+    alloc: Global,
+    path: &str,
+    shown: Shown,
+) -> Result<(), DurableError> {
+    match shown {
+        Shown::IsThereAgain => is_there_again(rt, test, alloc, path),
+        Shown::IsBusy => is_busy_while_open(rt, test, path),
+        Shown::IsAsAsked => is_as_asked(rt, test, alloc, path),
+        Shown::IsReplaced => is_replaced(rt, test, alloc, path),
+        Shown::Stays => stays(rt, test, alloc, path),
+    }
+}
+
 // Shows this of a file of its own, which is gone then.
 fn on_new_file(
     rt: &HostRuntime,
@@ -161,13 +220,7 @@ fn on_new_file(
 ) -> Result<(), DurableError> {
     let path = new_path(rt)?;
     let path = path.as_str();
-    let ended = match shown {
-        Shown::IsThereAgain => is_there_again(rt, test, alloc, path),
-        Shown::IsBusy => is_busy_while_open(rt, test, path),
-        Shown::IsAsAsked => is_as_asked(rt, test, alloc, path),
-        Shown::IsReplaced => is_replaced(rt, test, alloc, path),
-        Shown::Stays => stays(rt, test, alloc, path),
-    };
+    let ended = show(rt, test, alloc, path, shown);
     of_system(fs::remove_file(rt, path))?;
     ended
 }

@@ -50,6 +50,20 @@ fn push_numbers(
     Ok(())
 }
 
+fn checkpoint_of(
+    alloc: Global,
+    framing: &Framing,
+    writes: &[Stored],
+    numbers: Numbers,
+) -> Result<Vec<u8>, KvError> {
+    let mut bytes = Vec::new(alloc);
+    for stored in writes {
+        push_stored(alloc, &mut bytes, framing, *stored)?;
+    }
+    push_numbers(alloc, &mut bytes, framing, numbers)?;
+    Ok(bytes)
+}
+
 // What is read of a checkpoint of these writes and numbers, of a bucket that keeps so many writes of a key, and stores at most
 // so many.
 fn read(
@@ -63,11 +77,7 @@ fn read(
     config.history = history;
     config.write_limit = write_limit;
     let framing = Framing::new(7);
-    let mut bytes = Vec::new(alloc);
-    for stored in writes {
-        push_stored(alloc, &mut bytes, &framing, *stored)?;
-    }
-    push_numbers(alloc, &mut bytes, &framing, numbers)?;
+    let bytes = checkpoint_of(alloc, &framing, writes, numbers)?;
     let empty = Version::empty(alloc, &config)?;
     match restore(alloc, empty, &config, &framing, PLACE, &bytes) {
         Err(ReplayError::OutOfMemory) => Err(KvError::OutOfMemory),
@@ -75,7 +85,7 @@ fn read(
     }
 }
 
-fn is_opened(
+fn is_opened_once(
     rt: &impl Abort,
     alloc: Global,
     history: u64,
@@ -96,7 +106,18 @@ fn is_opened(
     Ok(())
 }
 
-fn is_damage(
+fn is_opened(
+    rt: &impl Abort,
+    alloc: Global,
+    history: u64,
+    write_limit: u64,
+    writes: &[Stored],
+    numbers: Numbers,
+) -> Result<(), KvError> {
+    twice!(is_opened_once(rt, alloc, history, write_limit, writes, numbers))
+}
+
+fn is_damage_once(
     rt: &impl Abort,
     alloc: Global,
     history: u64,
@@ -112,25 +133,36 @@ fn is_damage(
     Ok(())
 }
 
+fn is_damage(
+    rt: &impl Abort,
+    alloc: Global,
+    history: u64,
+    write_limit: u64,
+    writes: &[Stored],
+    numbers: Numbers,
+) -> Result<(), KvError> {
+    twice!(is_damage_once(rt, alloc, history, write_limit, writes, numbers))
+}
+
 #[test]
 fn each_write_above_the_floor_is_stored(rt: HostRuntime) -> Result<(), Fail> {
     let writes: &[Stored] = &[(1, 1, b'a'), (3, 1, b'b')];
-    twice!(is_damage(&rt, rt.alloc(), 1, 9, writes, (3, 2, 0)))?;
-    twice!(is_damage(&rt, rt.alloc(), 1, 9, writes, (3, 2, 1)))?;
-    twice!(is_opened(&rt, rt.alloc(), 1, 9, writes, (3, 2, 2)))?;
-    twice!(is_opened(&rt, rt.alloc(), 1, 9, writes, (3, 2, 3)))?;
-    twice!(is_damage(&rt, rt.alloc(), 1, 9, writes, (4, 2, 3)))?;
-    twice!(is_opened(&rt, rt.alloc(), 1, 9, writes, (4, 2, 4)))?;
-    twice!(is_damage(&rt, rt.alloc(), 1, 9, writes, (2, 2, 2)))?;
+    is_damage(&rt, rt.alloc(), 1, 9, writes, (3, 2, 0))?;
+    is_damage(&rt, rt.alloc(), 1, 9, writes, (3, 2, 1))?;
+    is_opened(&rt, rt.alloc(), 1, 9, writes, (3, 2, 2))?;
+    is_opened(&rt, rt.alloc(), 1, 9, writes, (3, 2, 3))?;
+    is_damage(&rt, rt.alloc(), 1, 9, writes, (4, 2, 3))?;
+    is_opened(&rt, rt.alloc(), 1, 9, writes, (4, 2, 4))?;
+    is_damage(&rt, rt.alloc(), 1, 9, writes, (2, 2, 2))?;
     Ok(())
 }
 
 #[test]
 fn what_is_retained_is_counted(rt: HostRuntime) -> Result<(), Fail> {
     let writes: &[Stored] = &[(1, 1, b'a'), (2, 1, b'a'), (3, 1, b'b')];
-    twice!(is_opened(&rt, rt.alloc(), 1, 9, writes, (3, 2, 0)))?;
-    twice!(is_damage(&rt, rt.alloc(), 1, 9, writes, (3, 3, 0)))?;
-    twice!(is_opened(&rt, rt.alloc(), 2, 9, writes, (3, 3, 0)))?;
+    is_opened(&rt, rt.alloc(), 1, 9, writes, (3, 2, 0))?;
+    is_damage(&rt, rt.alloc(), 1, 9, writes, (3, 3, 0))?;
+    is_opened(&rt, rt.alloc(), 2, 9, writes, (3, 3, 0))?;
     Ok(())
 }
 
@@ -138,12 +170,12 @@ fn what_is_retained_is_counted(rt: HostRuntime) -> Result<(), Fail> {
 #[test]
 fn what_is_kept_no_more_goes_by_a_compaction(rt: HostRuntime) -> Result<(), Fail> {
     let writes: &[Stored] = &[(1, 1, b'a'), (2, 1, b'a')];
-    twice!(is_opened(&rt, rt.alloc(), 1, 9, writes, (2, 1, 1)))?;
-    twice!(is_damage(&rt, rt.alloc(), 1, 9, writes, (2, 1, 2)))?;
-    twice!(is_opened(&rt, rt.alloc(), 2, 9, writes, (2, 2, 2)))?;
+    is_opened(&rt, rt.alloc(), 1, 9, writes, (2, 1, 1))?;
+    is_damage(&rt, rt.alloc(), 1, 9, writes, (2, 1, 2))?;
+    is_opened(&rt, rt.alloc(), 2, 9, writes, (2, 2, 2))?;
     let purged: &[Stored] = &[(1, 1, b'a'), (2, 3, b'a'), (3, 1, b'a')];
-    twice!(is_damage(&rt, rt.alloc(), 9, 9, purged, (3, 2, 2)))?;
-    twice!(is_opened(&rt, rt.alloc(), 9, 9, purged, (3, 2, 1)))?;
+    is_damage(&rt, rt.alloc(), 9, 9, purged, (3, 2, 2))?;
+    is_opened(&rt, rt.alloc(), 9, 9, purged, (3, 2, 1))?;
     Ok(())
 }
 
@@ -151,15 +183,15 @@ fn what_is_kept_no_more_goes_by_a_compaction(rt: HostRuntime) -> Result<(), Fail
 #[test]
 fn a_marker_stays_where_its_key_was_written_again(rt: HostRuntime) -> Result<(), Fail> {
     let last: &[Stored] = &[(1, 1, b'a'), (2, 2, b'a'), (3, 1, b'b')];
-    twice!(is_damage(&rt, rt.alloc(), 2, 9, last, (3, 3, 2)))?;
-    twice!(is_opened(&rt, rt.alloc(), 2, 9, last, (3, 3, 1)))?;
+    is_damage(&rt, rt.alloc(), 2, 9, last, (3, 3, 2))?;
+    is_opened(&rt, rt.alloc(), 2, 9, last, (3, 3, 1))?;
     let again: &[Stored] = &[(1, 1, b'b'), (2, 2, b'a'), (3, 1, b'a')];
-    twice!(is_opened(&rt, rt.alloc(), 2, 9, again, (3, 3, 2)))?;
+    is_opened(&rt, rt.alloc(), 2, 9, again, (3, 3, 2))?;
     // The marker stays, so the compaction was made behind the write that follows it: what b lost until then has gone.
     let torn: &[Stored] = &[(1, 1, b'b'), (2, 2, b'a'), (3, 1, b'b'), (4, 1, b'a')];
-    twice!(is_opened(&rt, rt.alloc(), 2, 9, torn, (4, 4, 2)))?;
+    is_opened(&rt, rt.alloc(), 2, 9, torn, (4, 4, 2))?;
     let lost: &[Stored] = &[(1, 1, b'b'), (2, 2, b'a'), (3, 3, b'b'), (4, 1, b'a')];
-    twice!(is_damage(&rt, rt.alloc(), 2, 9, lost, (4, 3, 2)))?;
+    is_damage(&rt, rt.alloc(), 2, 9, lost, (4, 3, 2))?;
     Ok(())
 }
 
@@ -167,14 +199,14 @@ fn a_marker_stays_where_its_key_was_written_again(rt: HostRuntime) -> Result<(),
 #[test]
 fn there_was_room_for_each_write(rt: HostRuntime) -> Result<(), Fail> {
     let writes: &[Stored] = &[(1, 1, b'a'), (2, 1, b'b'), (4, 1, b'c')];
-    twice!(is_opened(&rt, rt.alloc(), 1, 3, writes, (4, 3, 3)))?;
-    twice!(is_damage(&rt, rt.alloc(), 1, 2, writes, (4, 3, 3)))?;
+    is_opened(&rt, rt.alloc(), 1, 3, writes, (4, 3, 3))?;
+    is_damage(&rt, rt.alloc(), 1, 2, writes, (4, 3, 3))?;
     // The last revision has gone, so it was stored beside the three.
-    twice!(is_damage(&rt, rt.alloc(), 1, 3, writes, (5, 3, 5)))?;
-    twice!(is_opened(&rt, rt.alloc(), 1, 4, writes, (5, 3, 5)))?;
+    is_damage(&rt, rt.alloc(), 1, 3, writes, (5, 3, 5))?;
+    is_opened(&rt, rt.alloc(), 1, 4, writes, (5, 3, 5))?;
     // Revision 3 was stored until 4 was written, behind the marker, which no compaction could pass.
     let marker: &[Stored] = &[(1, 1, b'b'), (2, 2, b'a'), (4, 1, b'a')];
-    twice!(is_damage(&rt, rt.alloc(), 2, 3, marker, (4, 3, 3)))?;
-    twice!(is_opened(&rt, rt.alloc(), 2, 4, marker, (4, 3, 3)))?;
+    is_damage(&rt, rt.alloc(), 2, 3, marker, (4, 3, 3))?;
+    is_opened(&rt, rt.alloc(), 2, 4, marker, (4, 3, 3))?;
     Ok(())
 }
