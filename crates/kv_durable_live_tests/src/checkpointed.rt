@@ -1,29 +1,29 @@
 //! Files that begin with a checkpoint: a bucket that threads share goes on from what they have, and makes such files itself.
 
+use crate::acts::{NEXT_SEED, checkpoint_alone, compact_alone, delete_alone, write_alone, writes};
 use crate::equal::equal;
-use crate::opened::{Shared, Test, empty, number, run_on, second_life};
+use crate::opened::{Shared, Test, empty, run_on, second_life};
+use crate::readers::see;
 use kv_bucket::Version;
 use kv_durable::Durable;
 use kv_durable_live::{DurableError, LiveName, Reader};
 use kv_file::MemoryFile;
-use kv_test_tools::{delete, is_same_at};
+use kv_test_tools::is_same_at;
 use std::alloc::Global;
 use std::process::Abort;
 use std::sync::Wait;
 use std::test::Fail;
 
-pub const NEXT_SEED: u64 = 0xFEDC_BA98_7654_3210;
-
 // A bucket of one thread, behind writes of which some are stored no more, and a checkpoint.
 fn first_life(alloc: Global) -> Result<Durable<MemoryFile>, DurableError> {
     let mut bucket = second_life(alloc, &empty(alloc))?;
-    bucket.write(&number(alloc, "a")?)?;
-    bucket.write(&number(alloc, "b")?)?;
-    bucket.write(&number(alloc, "a")?)?;
-    bucket.write(&delete(alloc, "b", None)?)?;
-    bucket.compact(4)?;
-    bucket.write(&number(alloc, "c")?)?;
-    bucket.checkpoint(&(), NEXT_SEED)?;
+    write_alone(alloc, &mut bucket, "a")?;
+    write_alone(alloc, &mut bucket, "b")?;
+    write_alone(alloc, &mut bucket, "a")?;
+    delete_alone(alloc, &mut bucket, "b")?;
+    compact_alone(&mut bucket, 4)?;
+    write_alone(alloc, &mut bucket, "c")?;
+    checkpoint_alone(&mut bucket)?;
     Ok(bucket)
 }
 
@@ -59,9 +59,7 @@ impl<R: Wait + Abort> Test<R> for GoesOn<'_> {
             equal(rt, version.revision(), last);
             has_all(rt, self.first, &version);
         }
-        let next = live.write(rt, &number(alloc, "d")?)?;
-        equal(rt, next, last.saturating_add(1));
-        Ok(())
+        writes(rt, alloc, live, "d", last.saturating_add(1))
     }
 }
 
@@ -107,14 +105,11 @@ impl<R: Wait + Abort> Test<R> for Replaces {
         live: &Shared<N>,
         readers: &mut Vec<Reader<N>>,
     ) -> Result<(), DurableError> {
-        equal(rt, live.write(rt, &number(alloc, "a")?)?, 1);
-        equal(rt, live.write(rt, &number(alloc, "a")?)?, 2);
+        writes(rt, alloc, live, "a", 1)?;
+        writes(rt, alloc, live, "a", 2)?;
         live.checkpoint(rt, &(), NEXT_SEED)?;
-        for reader in readers.iter_mut() {
-            equal(rt, reader.version()?.revision(), 2);
-        }
-        equal(rt, live.write(rt, &number(alloc, "b")?)?, 3);
-        Ok(())
+        see(rt, readers, 2)?;
+        writes(rt, alloc, live, "b", 3)
     }
 }
 

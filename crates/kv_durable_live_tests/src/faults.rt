@@ -1,7 +1,8 @@
 //! A file that fails: nothing is published that is not on the disk, and nothing is written any more.
 
-use crate::equal::equal;
-use crate::opened::{Shared, Test, empty, number, run_on, second_life};
+use crate::acts::write;
+use crate::opened::{Shared, Test, empty, run_on, second_life};
+use crate::readers::see;
 use kv_durable_live::{DurableError, LiveName, Reader};
 use std::alloc::Global;
 use std::process::Abort;
@@ -22,7 +23,7 @@ fn write_on<N: LiveName, R: Wait>(
 ) -> Result<u64, DurableError> {
     let mut answered = 0_u64;
     for _ in 0..4 {
-        match live.write(rt, &number(alloc, "a")?) {
+        match write(rt, alloc, live, "a") {
             Ok(revision) => answered = revision,
             Err(DurableError::FileFault) => {}
             Err(error) => return Err(error),
@@ -40,9 +41,7 @@ impl<R: Wait + Abort> Test<R> for UntilItFails<'_> {
         readers: &mut Vec<Reader<N>>,
     ) -> Result<(), DurableError> {
         let answered = write_on(rt, alloc, live)?;
-        for reader in readers.iter_mut() {
-            equal(rt, reader.version()?.revision(), answered);
-        }
+        see(rt, readers, answered)?;
         self.seen.store(answered, Ordering::SeqCst);
         Ok(())
     }

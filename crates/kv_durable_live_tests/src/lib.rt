@@ -4,6 +4,8 @@
 #![tactic(auto)]
 
 #[cfg(test)]
+mod acts;
+#[cfg(test)]
 mod checkpointed;
 #[cfg(test)]
 mod equal;
@@ -11,6 +13,8 @@ mod equal;
 mod faults;
 #[cfg(test)]
 mod opened;
+#[cfg(test)]
+mod readers;
 #[cfg(test)]
 mod reopened;
 #[cfg(test)]

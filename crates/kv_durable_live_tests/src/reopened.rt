@@ -1,11 +1,11 @@
 //! A second life: what is published begins with the acts of the first.
 
-use crate::equal::equal;
-use crate::opened::{Shared, Test, empty, number, run_on};
-use kv_bucket::{Feed, Filters, Options, Start, Taken};
+use crate::acts::writes;
+use crate::opened::{Shared, Test, empty, run_on};
+use crate::readers::{followed, followed_from_empty, gets, popped, see};
+use kv_bucket::Start;
 use kv_durable_live::{DurableError, LiveName, Reader};
 use kv_file::MemoryFile;
-use kv_keys::KvError;
 use std::alloc::Global;
 use std::process::Abort;
 use std::sync::Wait;
@@ -23,10 +23,9 @@ impl<R: Wait + Abort> Test<R> for First {
         live: &Shared<N>,
         _readers: &mut Vec<Reader<N>>,
     ) -> Result<(), DurableError> {
-        equal(rt, live.write(rt, &number(alloc, "a")?)?, 1);
-        equal(rt, live.write(rt, &number(alloc, "b")?)?, 2);
-        equal(rt, live.write(rt, &number(alloc, "c")?)?, 3);
-        Ok(())
+        writes(rt, alloc, live, "a", 1)?;
+        writes(rt, alloc, live, "b", 2)?;
+        writes(rt, alloc, live, "c", 3)
     }
 }
 
@@ -34,33 +33,14 @@ impl<R: Wait + Abort> Test<R> for First {
 #[derive(Clone, Copy)]
 struct Second;
 
-pub fn next_revision<N: LiveName>(feed: &mut Feed<N>) -> u64 {
-    match feed.take() {
-        Taken::Entry(shown) => shown.revision(),
-        Taken::Marker | Taken::Empty => 0,
-    }
-}
-
 fn follow<N: LiveName, R: Abort>(
     rt: &R,
     alloc: Global,
     reader: Reader<N>,
 ) -> Result<(), DurableError> {
-    let filters = Filters::parse(alloc, ">")?;
-    let options = Options {
-        start: Start::From(2),
-        ignore_deletes: false,
-        headers_only: false,
-    };
-    match reader.watch(&filters, options) {
-        Ok(mut feed) => {
-            for revision in 2..5_u64 {
-                equal(rt, next_revision(&mut feed), revision);
-            }
-            Ok(())
-        }
-        Err((_, refusal)) => Err(DurableError::Refused(refusal)),
-    }
+    let mut feed = followed(alloc, reader, Start::From(2))?;
+    gets(rt, &mut feed, 2, 4);
+    Ok(())
 }
 
 // A feed that begins with nothing gets all writes of both lives.
@@ -69,26 +49,10 @@ fn follow_all<N: LiveName, R: Abort>(
     alloc: Global,
     reader: Reader<N>,
 ) -> Result<(), DurableError> {
-    let filters = Filters::parse(alloc, ">")?;
-    let options = Options {
-        start: Start::Updates,
-        ignore_deletes: false,
-        headers_only: false,
-    };
-    match reader.watch_from_empty(&filters, options) {
-        Ok(mut feed) => {
-            feed.refresh()?;
-            for revision in 1..5_u64 {
-                equal(rt, next_revision(&mut feed), revision);
-            }
-            Ok(())
-        }
-        Err((_, refusal)) => Err(DurableError::Refused(refusal)),
-    }
-}
-
-pub fn popped<N: LiveName>(readers: &mut Vec<Reader<N>>) -> Result<Reader<N>, KvError> {
-    readers.pop().ok_or(KvError::NoReader)
+    let mut feed = followed_from_empty(alloc, reader)?;
+    feed.refresh()?;
+    gets(rt, &mut feed, 1, 4);
+    Ok(())
 }
 
 impl<R: Wait + Abort> Test<R> for Second {
@@ -99,10 +63,8 @@ impl<R: Wait + Abort> Test<R> for Second {
         live: &Shared<N>,
         readers: &mut Vec<Reader<N>>,
     ) -> Result<(), DurableError> {
-        for reader in readers.iter_mut() {
-            equal(rt, reader.version()?.revision(), 3);
-        }
-        equal(rt, live.write(rt, &number(alloc, "d")?)?, 4);
+        see(rt, readers, 3)?;
+        writes(rt, alloc, live, "d", 4)?;
         follow(rt, alloc, popped(readers)?)?;
         follow_all(rt, alloc, popped(readers)?)
     }

@@ -1,12 +1,26 @@
 //! What is answered is on the disk, and what a reader sees is.
 
+use crate::acts::writes;
 use crate::equal::equal;
 use crate::opened::{Shared, Test, empty, number, run_on, second_life};
+use crate::readers::see;
 use kv_durable_live::{DurableError, LiveName, Reader};
 use std::alloc::Global;
 use std::process::Abort;
 use std::sync::Wait;
 use std::test::Fail;
+
+fn write_both<N: LiveName, R: Wait>(
+    rt: &R,
+    alloc: Global,
+    live: &Shared<N>,
+) -> Result<u64, DurableError> {
+    let both = [number(alloc, "b")?, number(alloc, "c")?];
+    match live.write_all(rt, &both) {
+        Ok(first) => Ok(first),
+        Err(_) => Err(DurableError::FileFault),
+    }
+}
 
 // A write, a batch of two, a compaction and a seal.
 #[derive(Clone, Copy)]
@@ -20,18 +34,11 @@ impl<R: Wait + Abort> Test<R> for EachCall {
         live: &Shared<N>,
         readers: &mut Vec<Reader<N>>,
     ) -> Result<(), DurableError> {
-        equal(rt, live.write(rt, &number(alloc, "a")?)?, 1);
-        let both = [number(alloc, "b")?, number(alloc, "c")?];
-        match live.write_all(rt, &both) {
-            Ok(first) => equal(rt, first, 2),
-            Err(_) => return Err(DurableError::FileFault),
-        }
+        writes(rt, alloc, live, "a", 1)?;
+        equal(rt, write_both(rt, alloc, live)?, 2);
         live.compact(rt, 1)?;
         live.seal(rt)?;
-        for reader in readers.iter_mut() {
-            equal(rt, reader.version()?.revision(), 3);
-        }
-        Ok(())
+        see(rt, readers, 3)
     }
 }
 

@@ -1,10 +1,11 @@
 //! Compactions of a bucket that threads share that replace its file where it is large.
 
-use crate::checkpointed::{NEXT_SEED, copied, goes_on_from, has_all};
+use crate::acts::{NEXT_SEED, shrink, shrink_alone, write_alone, write_often, writes};
+use crate::checkpointed::{copied, goes_on_from, has_all};
 use crate::equal::equal;
-use crate::opened::{Shared, Test, empty, number, run_on, second_life};
-use crate::reopened::{next_revision, popped};
-use kv_bucket::{Feed, Filters, Options, Start, Version};
+use crate::opened::{Shared, Test, empty, run_on, second_life};
+use crate::readers::{followed, gets, popped};
+use kv_bucket::{Feed, Start, Version};
 use kv_durable::Durable;
 use kv_durable_live::{DurableError, LiveName, Reader, Shrunk};
 use kv_file::MemoryFile;
@@ -19,27 +20,13 @@ use std::test::Fail;
 fn alone(alloc: Global, writes: u64) -> Result<Durable<MemoryFile>, DurableError> {
     let mut bucket = second_life(alloc, &empty(alloc))?;
     for _ in 0..writes {
-        bucket.write(&number(alloc, "a")?)?;
+        write_alone(alloc, &mut bucket, "a")?;
     }
-    if let Shrunk::Failed(error) = bucket.compact_and_checkpoint(writes, &(), NEXT_SEED)? {
+    if let Shrunk::Failed(error) = shrink_alone(&mut bucket, writes)? {
         return Err(error);
     }
-    bucket.write(&number(alloc, "b")?)?;
+    write_alone(alloc, &mut bucket, "b")?;
     Ok(bucket)
-}
-
-// A feed of what comes from now on.
-fn followed<N: LiveName>(alloc: Global, reader: Reader<N>) -> Result<Feed<N>, DurableError> {
-    let filters = Filters::parse(alloc, ">")?;
-    let options = Options {
-        start: Start::Updates,
-        ignore_deletes: false,
-        headers_only: false,
-    };
-    match reader.watch(&filters, options) {
-        Ok(feed) => Ok(feed),
-        Err((_, refusal)) => Err(DurableError::Refused(refusal)),
-    }
 }
 
 // The next write has this revision, and the feed gets it.
@@ -51,13 +38,13 @@ fn writes_next<N: LiveName, R: Wait + Abort>(
     key: &str,
     revision: u64,
 ) -> Result<(), DurableError> {
-    equal(rt, live.write(rt, &number(alloc, key)?)?, revision);
+    writes(rt, alloc, live, key, revision)?;
     feed.refresh()?;
-    equal(rt, next_revision(feed), revision);
+    gets(rt, feed, revision, revision);
     Ok(())
 }
 
-fn see<N: LiveName, R: Abort>(
+fn see_both<N: LiveName, R: Abort>(
     rt: &R,
     readers: &mut Vec<Reader<N>>,
     revision: u64,
@@ -86,17 +73,17 @@ impl<R: Wait + Abort> Test<R> for Shrinks<'_> {
         live: &Shared<N>,
         readers: &mut Vec<Reader<N>>,
     ) -> Result<(), DurableError> {
-        let mut feed = followed(alloc, popped(readers)?)?;
+        let mut feed = followed(alloc, popped(readers)?, Start::Updates)?;
         let last = self.writes;
         for before in 0..last {
             writes_next(rt, alloc, live, &mut feed, "a", before.saturating_add(1))?;
         }
-        let told = live.compact_and_checkpoint(rt, last, &(), NEXT_SEED)?;
+        let told = shrink(rt, live, last)?;
         let failed = matches!(told, Shrunk::Failed(_));
         self.failed.store(failed, Ordering::SeqCst);
-        see(rt, readers, last, last)?;
+        see_both(rt, readers, last, last)?;
         writes_next(rt, alloc, live, &mut feed, "b", last.saturating_add(1))?;
-        see(rt, readers, last.saturating_add(1), last)
+        see_both(rt, readers, last.saturating_add(1), last)
     }
 }
 
@@ -156,6 +143,22 @@ struct IsCutOff {
 
 const WRITES: u64 = 20;
 
+// What is told of a compaction of which so many calls go well.
+fn is_told<R: Abort>(
+    rt: &R,
+    told: Result<Shrunk, DurableError>,
+    calls: u64,
+) -> Result<(), DurableError> {
+    match told {
+        Err(DurableError::FileFault) if calls < 2 => {}
+        Ok(Shrunk::Failed(DurableError::FileFault)) => assert!(rt; calls == 2 || calls == 3),
+        Ok(Shrunk::Replaced) => equal(rt, calls, 4),
+        Ok(Shrunk::Left) => assert!(rt; false),
+        Ok(Shrunk::Failed(error)) | Err(error) => return Err(error),
+    }
+    Ok(())
+}
+
 impl<R: Wait + Abort> Test<R> for IsCutOff {
     fn run<N: LiveName>(
         self,
@@ -164,18 +167,10 @@ impl<R: Wait + Abort> Test<R> for IsCutOff {
         live: &Shared<N>,
         readers: &mut Vec<Reader<N>>,
     ) -> Result<(), DurableError> {
-        for _ in 0..WRITES {
-            live.write(rt, &number(alloc, "a")?)?;
-        }
+        write_often(rt, alloc, live, "a", WRITES)?;
         let calls = self.calls;
-        match live.compact_and_checkpoint(rt, WRITES, &(), NEXT_SEED) {
-            Err(DurableError::FileFault) if calls < 2 => {}
-            Ok(Shrunk::Failed(DurableError::FileFault)) => assert!(rt; calls == 2 || calls == 3),
-            Ok(Shrunk::Replaced) => equal(rt, calls, 4),
-            Ok(Shrunk::Left) => assert!(rt; false),
-            Ok(Shrunk::Failed(error)) | Err(error) => return Err(error),
-        }
-        see(rt, readers, WRITES, floor_behind(calls))
+        is_told(rt, shrink(rt, live, WRITES), calls)?;
+        see_both(rt, readers, WRITES, floor_behind(calls))
     }
 }
 

@@ -2,8 +2,10 @@
 
 ghost use Rattle.std.specs.Prelude.{◌≡◌};
 
+use crate::acts::write_often;
 use crate::equal::equal;
-use crate::opened::{Shared, empty, number, opened, second_life};
+use crate::opened::{Shared, empty, opened, second_life};
+use crate::readers::see;
 use kv_durable_live::{DurableError, LiveName, Opened, Reader};
 use kv_file::MemoryFile;
 use kv_keys::KvError;
@@ -16,18 +18,6 @@ use std::thread::{Threads, join};
 
 const WRITES: u64 = 20;
 
-fn write_some<N: LiveName, R: Wait>(
-    rt: &R,
-    alloc: Global,
-    live: &Shared<N>,
-    key: &str,
-) -> Result<(), DurableError> {
-    for _ in 0..WRITES {
-        live.write(rt, &number(alloc, key)?)?;
-    }
-    Ok(())
-}
-
 fn write_beside<N: LiveName + Send + Sync, R: Threads + Wait + Sync>(
     rt: &R,
     alloc: Global,
@@ -35,8 +25,8 @@ fn write_beside<N: LiveName + Send + Sync, R: Threads + Wait + Sync>(
 ) -> Result<(), DurableError> {
     let (first, second) = join(
         rt,
-        || write_some(rt, alloc, live, "a"),
-        || write_some(rt, alloc, live, "b"),
+        || write_often(rt, alloc, live, "a", WRITES),
+        || write_often(rt, alloc, live, "b", WRITES),
     );
     second?;
     first
@@ -49,10 +39,7 @@ fn run_over<N: LiveName + Send + Sync, R: Threads + Wait + Abort + Sync>(
     readers: &mut Vec<Reader<N>>,
 ) -> Result<(), DurableError> {
     write_beside(rt, alloc, live)?;
-    for reader in readers.iter_mut() {
-        equal(rt, reader.version()?.revision(), 2 * WRITES);
-    }
-    Ok(())
+    see(rt, readers, 2 * WRITES)
 }
 
 fn run_named<N: LiveName + Send + Sync, R: Threads + Wait + Abort + Sync>(
