@@ -104,15 +104,27 @@ fn steps(rt: &impl Abort, alloc: Global, twins: &mut Twins, count: u64) -> Resul
     Ok(())
 }
 
+// A ring of the version goes on beside it, until both are sealed.
+fn goes_on(rt: &impl Abort, alloc: Global, ring: Ring, version: Version) -> Result<(), KvError> {
+    let mut twins = Twins { ring, version };
+    steps(rt, alloc, &mut twins, 64)?;
+    step(rt, alloc, &mut twins, "", Ask::Seal)?;
+    step(rt, alloc, &mut twins, "a", Ask::Put("late"))?;
+    assert!(rt; twins.ring.version().sealed());
+    Ok(())
+}
+
 #[test]
 fn ring_goes_on_as_versions_are_made(rt: HostRuntime) -> Result<(), Fail> {
-    let alloc = rt.alloc();
-    let version = empty(alloc, keeping(2))?;
-    let ring = Ring::new(version.snapshot()?);
-    let mut twins = Twins { ring, version };
-    steps(&rt, alloc, &mut twins, 64)?;
-    step(&rt, alloc, &mut twins, "", Ask::Seal)?;
-    step(&rt, alloc, &mut twins, "a", Ask::Put("late"))?;
-    assert!(rt; twins.ring.version().sealed());
+    let version = empty(rt.alloc(), keeping(2))?;
+    goes_on(&rt, rt.alloc(), Ring::new(version.snapshot()?), version)?;
+    Ok(())
+}
+
+// It keeps one version before its own, where the other keeps two.
+#[test]
+fn a_pair_goes_on_as_versions_are_made(rt: HostRuntime) -> Result<(), Fail> {
+    let version = empty(rt.alloc(), keeping(2))?;
+    goes_on(&rt, rt.alloc(), Ring::pair(version.snapshot()?), version)?;
     Ok(())
 }
