@@ -26,10 +26,17 @@ fn hands_out(bucket: &mut Bucket, watch: u64, key: &str, value: &str) -> Result<
     }
 }
 
+// A key, a value of it, and the revision of its put.
+const PUTS: [(&str, &str, u64); 3] = [
+    ("app.port", "80", 1),
+    ("app.host", "kv", 2),
+    ("db.port", "5432", 3),
+];
+
 fn put_three(rt: &impl Abort, alloc: Global, bucket: &mut Bucket) -> Result<(), KvError> {
-    assert_eq!(rt; put(alloc, bucket, "app.port", "80")?, 1);
-    assert_eq!(rt; put(alloc, bucket, "app.host", "kv")?, 2);
-    assert_eq!(rt; put(alloc, bucket, "db.port", "5432")?, 3);
+    for (key, value, revision) in PUTS {
+        assert_eq!(rt; put(alloc, bucket, key, value)?, revision);
+    }
     Ok(())
 }
 
@@ -46,8 +53,12 @@ fn watch_them(rt: &impl Abort, alloc: Global, bucket: &mut Bucket) -> Result<(),
     Ok(())
 }
 
+fn open(alloc: Global) -> Result<Bucket, KvError> {
+    Bucket::open(alloc, &Config::named(alloc, "settings")?)
+}
+
 fn config_service(rt: &impl Abort, alloc: Global) -> Result<(), KvError> {
-    let mut bucket = Bucket::open(alloc, &Config::named(alloc, "settings")?)?;
+    let mut bucket = open(alloc)?;
     put_three(rt, alloc, &mut bucket)?;
     watch_them(rt, alloc, &mut bucket)
 }

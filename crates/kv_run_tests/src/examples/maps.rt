@@ -25,12 +25,22 @@ fn held_map(rt: &impl Abort, alloc: Global) -> Result<(), KvError> {
     Ok(())
 }
 
-fn removed(rt: &impl Abort, alloc: Global) -> Result<(), KvError> {
-    let web = Key::parse(alloc, "web")?;
-    let one = with_port(alloc, &Trie::new(), "web", 80)?;
-    let none = one.remove(alloc, &web)?;
+// The ports without one, which is gone.
+fn without_port(
+    rt: &impl Abort,
+    alloc: Global,
+    ports: &Ports,
+    name: &str,
+) -> Result<Ports, KvError> {
+    let name = Key::parse(alloc, name)?;
+    let left = ports.remove(alloc, &name)?;
+    assert_eq!(rt; left.get(&name), None);
+    Ok(left)
+}
 
-    assert_eq!(rt; none.get(&web), None);
+fn removed(rt: &impl Abort, alloc: Global) -> Result<(), KvError> {
+    let one = with_port(alloc, &Trie::new(), "web", 80)?;
+    let none = without_port(rt, alloc, &one, "web")?;
     assert_eq!(rt; (one.len(), none.len()), (1, 0));
     Ok(())
 }

@@ -96,14 +96,24 @@ const CASES: &[Case] = &[
     },
 ];
 
+// Runs what is left of a script, and writes its text.
+fn run_left(
+    alloc: Global,
+    by: By,
+    reader: &mut &[u8],
+    written: &mut Vec<u8>,
+) -> Result<(), KvError> {
+    let config = named(alloc)?;
+    let mut source = CountedReader::new(reader);
+    let mut sink = CountedWriter::new(written);
+    run(alloc, by, &mut source, &mut sink, &config)
+}
+
 // Runs a script to its end, and tells whether this text was written.
 pub(super) fn gives(alloc: Global, by: By, script: &[u8], text: &[u8]) -> Result<bool, KvError> {
-    let config = named(alloc)?;
     let mut reader = script;
     let mut written = sheet(alloc)?;
-    let mut source = CountedReader::new(&mut reader);
-    let mut sink = CountedWriter::new(&mut written);
-    match run(alloc, by, &mut source, &mut sink, &config) {
+    match run_left(alloc, by, &mut reader, &mut written) {
         Ok(()) => Ok(written.as_slice() == text && reader.is_empty()),
         Err(KvError::OutOfMemory) if is_front(&written, text) => Err(KvError::OutOfMemory),
         Err(_) => Ok(false),

@@ -243,14 +243,19 @@ fn keys(alloc: Global, out: &mut Vec<u8>, keys: &[&Key]) -> Result<(), AllocErro
     once_more!(append_keys(alloc, out, keys))
 }
 
+// No keys, and both of two.
+fn none_and_both(alloc: Global, first: &Key, second: &Key) -> Result<Vec<u8>, AllocError> {
+    let mut out = Vec::new(alloc);
+    keys(alloc, &mut out, &[])?;
+    keys(alloc, &mut out, &[first, second])?;
+    Ok(out)
+}
+
 #[test]
 fn keys_have_this_text(rt: HostRuntime) -> Result<(), Fail> {
-    let alloc = rt.alloc();
-    let mut out = Vec::new(alloc);
-    let first = key(alloc, "a.b")?;
-    let second = key(alloc, "zinke")?;
-    keys(alloc, &mut out, &[])?;
-    keys(alloc, &mut out, &[&first, &second])?;
+    let first = key(rt.alloc(), "a.b")?;
+    let second = key(rt.alloc(), "zinke")?;
+    let out = none_and_both(rt.alloc(), &first, &second)?;
     assert!(rt; out.as_slice() == KEYS.as_bytes());
     Ok(())
 }

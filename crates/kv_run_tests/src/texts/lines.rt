@@ -196,6 +196,12 @@ fn parts(command: &Command) -> (&str, &str, &[u8], Option<u64>) {
     }
 }
 
+// Whether the line asks for this.
+fn asks_for(alloc: Global, form: Form, line: &str, wanted: Asked) -> Result<bool, KvError> {
+    let command = parsed(alloc, form, line.as_bytes())?;
+    Ok(parts(&command) == wanted)
+}
+
 // Whether the line asks for a watch with these options.
 fn has_options(alloc: Global, line: &str, options: Options) -> Result<bool, KvError> {
     match parsed(alloc, Form::Base64, line.as_bytes())? {
@@ -220,19 +226,31 @@ const NO_WRITES: &[(&str, KvError)] = &[
     ("purge .a 1", KvError::BadKey),
 ];
 
+// Whether a line of a batch asks for this write.
+fn asks_for_write(alloc: Global, line: &str, wanted: Asked) -> Result<bool, KvError> {
+    let request = asked_in_batch(alloc, line)?;
+    Ok(parts_of_write(&request) == wanted)
+}
+
+// What a line of a batch is refused by, if it is.
+fn refusal_in_batch(alloc: Global, line: &str) -> Option<KvError> {
+    match asked_in_batch(alloc, line) {
+        Ok(_) => None,
+        Err(error) => Some(error),
+    }
+}
+
 #[test]
 fn lines_of_a_batch_ask_for_writes(rt: HostRuntime) -> Result<(), Fail> {
-    let request = asked_in_batch(rt.alloc(), "update n 7 TWFu")?;
-    holds(
-        &rt,
-        "update",
-        parts_of_write(&request) == ("update", "n", b"Man", Some(7)),
-    );
+    let line = "update n 7 TWFu";
+    let wanted: Asked = ("update", "n", b"Man", Some(7));
+    holds(&rt, line, asks_for_write(rt.alloc(), line, wanted)?);
     for (line, error) in NO_WRITES {
-        match asked_in_batch(rt.alloc(), line) {
-            Ok(_) => holds(&rt, line, false),
-            Err(found) => holds(&rt, line, found == *error),
-        }
+        holds(
+            &rt,
+            line,
+            refusal_in_batch(rt.alloc(), line) == Some(*error),
+        );
     }
     Ok(())
 }
@@ -240,8 +258,7 @@ fn lines_of_a_batch_ask_for_writes(rt: HostRuntime) -> Result<(), Fail> {
 #[test]
 fn lines_ask_for_these_commands(rt: HostRuntime) -> Result<(), Fail> {
     for (form, line, wanted) in COMMANDS {
-        let command = parsed(rt.alloc(), *form, line.as_bytes())?;
-        holds(&rt, line, parts(&command) == *wanted);
+        holds(&rt, line, asks_for(rt.alloc(), *form, line, *wanted)?);
     }
     Ok(())
 }

@@ -80,7 +80,13 @@ const SEAL: Given<'static> = Given {
 };
 
 // Within this many calls the script ends well, and has its text.
-fn calls_suffice(rt: &impl Abort, alloc: Global, given: Given<'_>) -> Result<(), KvError> {
+fn calls_suffice(
+    rt: &impl Abort,
+    alloc: Global,
+    calls: u64,
+    script: Given<'_>,
+) -> Result<(), KvError> {
+    let given = Given { calls, ..script };
     assert!(rt; is(&replayed(alloc, given)?, Ok(()), given.text));
     Ok(())
 }
@@ -89,25 +95,22 @@ fn calls_suffice(rt: &impl Abort, alloc: Global, given: Given<'_>) -> Result<(),
 fn calls_end_at(
     rt: &impl Abort,
     alloc: Global,
-    given: Given<'_>,
+    calls: u64,
+    script: Given<'_>,
     text: &[u8],
 ) -> Result<(), KvError> {
-    let ran = replayed(alloc, given)?;
+    let ran = replayed(alloc, Given { calls, ..script })?;
     assert!(rt; is(&ran, Err(KvError::ReadFault), text));
-    equal(rt, ran.asked as u64, given.calls);
+    equal(rt, ran.asked as u64, calls);
     Ok(())
 }
 
 #[test]
 fn a_bound_on_read_calls_ends_the_run(rt: HostRuntime) -> Result<(), Fail> {
-    calls_suffice(&rt, rt.alloc(), Given { calls: 6, ..SEAL })?;
+    calls_suffice(&rt, rt.alloc(), 6, SEAL)?;
     for (calls, text) in [(5, SEAL.text), (4, b""), (0, b"")] {
-        calls_end_at(&rt, rt.alloc(), Given { calls, ..SEAL }, text)?;
+        calls_end_at(&rt, rt.alloc(), calls, SEAL, text)?;
     }
-    let given = Given {
-        calls: 100,
-        ..FIRST
-    };
-    calls_suffice(&rt, rt.alloc(), given)?;
+    calls_suffice(&rt, rt.alloc(), 100, FIRST)?;
     Ok(())
 }
