@@ -1,7 +1,7 @@
 //! The acts of a durable bucket, one in each function. None of these has a contract, so what makes several acts is proved sooner
 //! by them than by calls of the bucket.
 
-use crate::durables::{Bucket, without_place};
+use crate::steps::{Bucket, without_place};
 use kv_durable::{BatchError, Durable, DurableError, JournalFile};
 use kv_model::Request;
 use kv_test_tools::{delete, purge, put};

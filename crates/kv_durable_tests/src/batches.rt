@@ -1,10 +1,11 @@
 //! Tests of batches of durable buckets.
 
 use crate::acts::{sync, write_all, write_batch};
-use crate::durables::{
-    BATCH, Bucket, create, empty, failing_after, is_fault, opened, reopened, step, without_place,
-};
 use crate::equal::equal;
+use crate::faults::is_fault;
+use crate::steps::{
+    BATCH, Bucket, create, empty, failing_after, opened, reopened, step, without_place,
+};
 use kv_durable::{BatchError, DurableError, Sync};
 use kv_keys::{Key, KvError};
 use kv_model::{BatchRefused, Request};

@@ -1,10 +1,9 @@
 //! Tests of durable buckets whose file is replaced by a checkpoint.
 
 use crate::acts::{NEXT_SEED, checkpoint};
-use crate::durables::{
-    Bucket, STEPS, failing_after, first_steps, is_fault, is_same, opened, reopened, step,
-};
 use crate::equal::equal;
+use crate::faults::is_fault;
+use crate::steps::{Bucket, STEPS, failing_after, first_steps, is_same, opened, reopened, step};
 use kv_durable::{DurableError, Sync};
 use kv_test_tools::twice;
 use std::alloc::Global;

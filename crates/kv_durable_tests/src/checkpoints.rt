@@ -1,7 +1,7 @@
 //! Tests of checkpoints.
 
-use crate::durables::{STEPS, config, empty, is_same, opened, step};
 use crate::equal::equal;
+use crate::steps::{STEPS, config, empty, is_same, opened, step};
 use kv_durable::{DurableError, Sync};
 use kv_frames::Framing;
 use kv_journal::{ReplayError, Replayed, push_checkpoint, restore};

@@ -1,7 +1,7 @@
 //! Each short course of acts on two keys, under narrow limits: the checkpoint behind it is opened as the same bucket.
 
 use crate::acts::{checkpoint, compact_back, delete_in, purge_in, put_in};
-use crate::durables::{Bucket, config, is_same, opened_with};
+use crate::steps::{Bucket, config, is_same, opened_with};
 use kv_durable::DurableError;
 use kv_model::Config;
 use std::alloc::Global;

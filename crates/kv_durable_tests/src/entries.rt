@@ -1,8 +1,8 @@
 //! Tests of entries, by the sample file.
 
-use crate::durables::config;
 use crate::equal::equal;
 use crate::sample::{FRAMES, HEADER, SEED};
+use crate::steps::config;
 use kv_frames::Framing;
 use kv_journal::{
     BeginningError, ReplayError, Replayed, begin, encode_batch, encode_closed, encode_compaction,

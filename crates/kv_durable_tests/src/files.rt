@@ -1,7 +1,7 @@
 //! Tests of files that only grow.
 
-use crate::durables::{empty, failing_after};
 use crate::equal::equal;
+use crate::steps::{empty, failing_after};
 use kv_file::{Appender, JournalFile, MemoryFile, Sync, Torn};
 use kv_keys::KvError;
 use kv_test_tools::twice;

@@ -9,17 +9,19 @@ mod acts;
 #[cfg(test)]
 mod batches;
 #[cfg(test)]
+mod beginnings;
+#[cfg(test)]
 mod checkpointed;
 #[cfg(test)]
 mod checkpoints;
 #[cfg(test)]
 mod courses;
 #[cfg(test)]
-mod durables;
-#[cfg(test)]
 mod entries;
 #[cfg(test)]
 mod equal;
+#[cfg(test)]
+mod faults;
 #[cfg(test)]
 mod files;
 #[cfg(test)]
@@ -32,6 +34,8 @@ mod replaced;
 mod sample;
 #[cfg(test)]
 mod shrinking;
+#[cfg(test)]
+mod steps;
 #[cfg(test)]
 mod system;
 #[cfg(test)]

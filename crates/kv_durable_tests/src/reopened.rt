@@ -1,8 +1,8 @@
 //! Tests of openings of checkpoints that stand behind many acts, under several histories.
 
 use crate::acts::{checkpoint, compact_back, delete_in, purge_in, put_in, put_often, seal};
-use crate::durables::{self, Bucket, STEPS, config, empty, first_steps, opened, step};
 use crate::equal::equal;
+use crate::steps::{self, Bucket, STEPS, config, empty, first_steps, opened, step};
 use kv_durable::{DurableError, Opened, Sync};
 use kv_file::MemoryFile;
 use kv_store::Version;
@@ -21,7 +21,7 @@ fn opened_with(
 ) -> Result<Opened<MemoryFile>, DurableError> {
     let mut config = config(alloc)?;
     config.history = history;
-    durables::opened_with(alloc, &config, bytes)
+    steps::opened_with(alloc, &config, bytes)
 }
 
 fn is_same(first: &Version, second: &Version) -> bool {

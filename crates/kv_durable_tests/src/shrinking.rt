@@ -2,8 +2,8 @@
 
 use crate::acts::{NEXT_SEED, checkpoint, compact, put_in, put_often};
 use crate::checkpointed::{are_same, same_again};
-use crate::durables::{Bucket, failing_after, opened};
 use crate::equal::equal;
+use crate::steps::{Bucket, failing_after, opened};
 use kv_durable::{DurableError, Shrunk, Sync};
 use kv_test_tools::twice;
 use std::alloc::Global;
