@@ -6,8 +6,8 @@
     new: TEXT           what is put there; more pairs may follow
 
 A check of the crate costs far more than what one changed function adds to it. So bodies of different functions are tried in one
-check, each of which has to refuse its own function. Where that function waits for another one that was changed too, the body is
-tried once more, by itself."""
+check, each of which has to refuse its own function. Where nothing is said of that function but that it calls another one that was
+changed too, the body is tried once more."""
 import os, shutil, subprocess, tempfile
 from typing import Iterable, NamedTuple, Optional, Sequence
 
@@ -136,11 +136,12 @@ class Told(NamedTuple):
     lines: Sequence[str]
 
     def is_refused(self, function: str) -> bool:
-        """Whether the proof of this function failed by itself, and not for want of another's."""
+        """Whether the proof of this function failed by itself, and not for want of another's: a goal of its own stayed open, for which
+        calls have what their contracts say, or one of its own answers fails, or all that it calls is proved."""
         said = next((it for it in self.lines if it.startswith("fn %s: " % function)), "").partition(": ")[2]
         path = function.split("::")[1:]
         proofs = tuple("./proofs/%s/" % "/".join([*path[:-1], it]) for it in (path[-1], "+" + path[-1]))
-        fails = any(it.startswith(proofs) and ": error: " in it for it in self.lines)
+        fails = "; `search` did not prove " in said or any(it.startswith(proofs) and ": error: " in it for it in self.lines)
         return said.startswith(("not proved", "no proof: expected")) and (fails or "; it calls " not in said)
 
 
