@@ -64,7 +64,7 @@ def each(command: Sequence[str], shim: str, folder: str, numbers: range, stdin: 
 
 
 # A test or script that makes so many requests has each of them refused, and of one that makes more a sample is.
-MOST = int(os.environ.get("MOST", 20000))
+MOST = int(os.environ.get("MOST", 4000))
 # How many runs there are at a time.
 JOBS = int(os.environ.get("JOBS") or len(os.sched_getaffinity(0)))
 
