@@ -2,7 +2,7 @@
 //! nothing there: neither its version, nor its watches, nor what each of them is given next.
 
 use crate::answers::{Answer, Differs, done, first, in_turn, number, stopped, taken};
-use crate::sights::{look, look_through};
+use crate::observed::{look, look_through};
 use kv_bucket::{Filters, Keeper, Key, KvError, Live, LiveName, Request};
 use kv_test_tools::{LATEST, delete, once_more};
 use std::alloc::Global;

@@ -7,14 +7,14 @@ mod answers;
 mod batch;
 mod calling;
 mod moving;
+mod observed;
 mod opened;
 mod readers;
-mod sights;
 
 pub use answers::{Answer, Differs, on};
 pub use batch::batched;
 pub use calling::{Ask, Call, Step, calls, put_request, requests, steps};
-pub use moving::{FeedSight, Move, feed_of, feed_of_last, look_at, moves, stop};
+pub use moving::{Move, ObservedFeed, feed_of, feed_of_last, look_at, moves, stop};
+pub use observed::{Observed, look, look_through};
 pub use opened::{ClosingTest, OPENING, Opening, Test, open_bucket, run, run_closing, run_on};
 pub use readers::{both, last, reader_and_feed, shown_to, version};
-pub use sights::{Sight, look, look_through};

@@ -42,14 +42,14 @@ pub fn feed_of_last<N: LiveName>(
 
 /// What can be seen of a feed: how many items it handed out, and which is the next one.
 #[derive(Clone, Copy, Debug, PartialEq, Eq)]
-pub struct FeedSight {
+pub struct ObservedFeed {
     handed: u64,
     next: Answer,
 }
 
 /// Looks at a feed.
-pub fn look_at<N: LiveName>(feed: &Feed<N>) -> FeedSight {
-    FeedSight {
+pub fn look_at<N: LiveName>(feed: &Feed<N>) -> ObservedFeed {
+    ObservedFeed {
         handed: feed.handed(),
         next: taken(Ok(feed.peek())),
     }

@@ -20,7 +20,7 @@ mod shows;
 
 // A write of a row.
 #[derive(Clone, Copy)]
-enum Deed {
+enum Action {
     Put(&'static str, &'static str),
     Delete(&'static str),
     Purge(&'static str),
@@ -36,42 +36,42 @@ fn number_of(item: Event) -> u64 {
 
 const MARKER: u64 = 0;
 
-fn request(alloc: Global, deed: Deed) -> Result<Request, KvError> {
-    match deed {
-        Deed::Put(key, value) => put(alloc, key, value),
-        Deed::Delete(key) => delete(alloc, key, None),
-        Deed::Purge(key) => purge(alloc, key, None),
+fn request(alloc: Global, action: Action) -> Result<Request, KvError> {
+    match action {
+        Action::Put(key, value) => put(alloc, key, value),
+        Action::Delete(key) => delete(alloc, key, None),
+        Action::Purge(key) => purge(alloc, key, None),
     }
 }
 
-fn write_once(alloc: Global, version: &Version, deed: Deed) -> Result<Version, KvError> {
-    let request = request(alloc, deed)?;
+fn write_once(alloc: Global, version: &Version, action: Action) -> Result<Version, KvError> {
+    let request = request(alloc, action)?;
     version.apply(alloc, &request)
 }
 
 // The version with one more write.
-fn write(alloc: Global, version: &Version, deed: Deed) -> Result<Version, KvError> {
-    once_more!(write_once(alloc, version, deed))
+fn write(alloc: Global, version: &Version, action: Action) -> Result<Version, KvError> {
+    once_more!(write_once(alloc, version, action))
 }
 
 // A version with these writes behind those of another.
-fn write_all(alloc: Global, version: Version, deeds: &[Deed]) -> Result<Version, KvError> {
+fn write_all(alloc: Global, version: Version, actions: &[Action]) -> Result<Version, KvError> {
     let mut version = version;
-    for deed in deeds {
-        version = write(alloc, &version, *deed)?;
+    for action in actions {
+        version = write(alloc, &version, *action)?;
     }
     Ok(version)
 }
 
 // A bucket with these writes that keeps so many entries of each key.
-fn kept(alloc: Global, history: u64, deeds: &[Deed]) -> Result<Version, KvError> {
+fn kept(alloc: Global, history: u64, actions: &[Action]) -> Result<Version, KvError> {
     let version = empty(alloc, keeping(history))?;
-    write_all(alloc, version, deeds)
+    write_all(alloc, version, actions)
 }
 
 // A bucket with these writes that keeps one entry of each key.
-fn written(alloc: Global, deeds: &[Deed]) -> Result<Version, KvError> {
-    kept(alloc, 1, deeds)
+fn written(alloc: Global, actions: &[Action]) -> Result<Version, KvError> {
+    kept(alloc, 1, actions)
 }
 
 fn filters(alloc: Global, text: &str) -> Result<Filters, KvError> {

@@ -5,72 +5,72 @@ use kv_bucket::{Keeper, Mark, Receipt};
 
 // What is done through the guard, by a reader, or with a feed.
 #[derive(Clone, Copy)]
-enum Deed {
+enum Action {
     Step(Step, Answer),
     Looks(Answer),
     Move(Move, Answer),
 }
 
-// A deed, who has seen all that is published by then, and whether the receipt of the first write tells it.
+// An action, who has seen all that is published by then, and whether the receipt of the first write tells it.
 #[derive(Clone, Copy)]
 struct Line {
-    deed: Deed,
+    action: Action,
     seen: Seen,
     told: Told,
 }
 
-const GOES_ON: Deed = Deed::Move(Move::Refresh, Answer::Done);
+const GOES_ON: Action = Action::Move(Move::Refresh, Answer::Done);
 
 const WRITES: &[Line] = &[
     Line {
-        deed: Deed::Move(Move::Take, Answer::Marker),
+        action: Action::Move(Move::Take, Answer::Marker),
         seen: Seen::ByNobody,
         told: Told::Yes,
     },
     Line {
-        deed: Deed::Looks(Answer::On(1, 0)),
+        action: Action::Looks(Answer::On(1, 0)),
         seen: Seen::ByReader,
         told: Told::Yes,
     },
     Line {
-        deed: GOES_ON,
+        action: GOES_ON,
         seen: Seen::ByBoth,
         told: Told::Yes,
     },
     Line {
-        deed: Deed::Step(Step::Put("b"), Answer::Number(2)),
+        action: Action::Step(Step::Put("b"), Answer::Number(2)),
         seen: Seen::ByNobody,
         told: Told::No,
     },
     Line {
-        deed: GOES_ON,
+        action: GOES_ON,
         seen: Seen::ByFeed,
         told: Told::No,
     },
     Line {
-        deed: Deed::Looks(Answer::On(2, 0)),
+        action: Action::Looks(Answer::On(2, 0)),
         seen: Seen::ByBoth,
         told: Told::No,
     },
     // A seal is published as a write is.
     Line {
-        deed: Deed::Step(Step::Seal, Answer::Done),
+        action: Action::Step(Step::Seal, Answer::Done),
         seen: Seen::ByNobody,
         told: Told::No,
     },
     Line {
-        deed: Deed::Looks(Answer::On(2, 0)),
+        action: Action::Looks(Answer::On(2, 0)),
         seen: Seen::ByReader,
         told: Told::No,
     },
     // What is refused is not published.
     Line {
-        deed: Deed::Step(Step::Put("c"), Answer::Refused(KvError::Sealed)),
+        action: Action::Step(Step::Put("c"), Answer::Refused(KvError::Sealed)),
         seen: Seen::ByReader,
         told: Told::No,
     },
     Line {
-        deed: GOES_ON,
+        action: GOES_ON,
         seen: Seen::ByBoth,
         told: Told::No,
     },
@@ -83,28 +83,28 @@ fn a_guard_tells_who_has_seen_what_is_published(rt: HostRuntime) -> Result<(), F
 
 const BATCHES: &[Line] = &[
     Line {
-        deed: Deed::Looks(Answer::On(1, 0)),
+        action: Action::Looks(Answer::On(1, 0)),
         seen: Seen::ByReader,
         told: Told::Yes,
     },
     Line {
-        deed: Deed::Step(Step::WriteAll(batches::PAIR), Answer::Number(2)),
+        action: Action::Step(Step::WriteAll(batches::PAIR), Answer::Number(2)),
         seen: Seen::ByNobody,
         told: Told::No,
     },
     Line {
-        deed: Deed::Looks(Answer::On(3, 0)),
+        action: Action::Looks(Answer::On(3, 0)),
         seen: Seen::ByReader,
         told: Told::No,
     },
     Line {
-        deed: GOES_ON,
+        action: GOES_ON,
         seen: Seen::ByBoth,
         told: Told::No,
     },
     // What is refused is not published, and of no requests nothing is.
     Line {
-        deed: Deed::Step(
+        action: Action::Step(
             Step::WriteAll(batches::LAST_IS_THERE),
             Answer::RefusedAt(1, KvError::KeyExists),
         ),
@@ -112,12 +112,12 @@ const BATCHES: &[Line] = &[
         told: Told::No,
     },
     Line {
-        deed: Deed::Step(Step::WriteAll(batches::NOTHING), Answer::Number(3)),
+        action: Action::Step(Step::WriteAll(batches::NOTHING), Answer::Number(3)),
         seen: Seen::ByBoth,
         told: Told::No,
     },
     Line {
-        deed: Deed::Step(Step::Put("c"), Answer::Number(4)),
+        action: Action::Step(Step::Put("c"), Answer::Number(4)),
         seen: Seen::ByNobody,
         told: Told::No,
     },
@@ -178,7 +178,7 @@ fn seen_in_turn<N: LiveName, R: Wait + Abort>(
     lines: &[Line],
 ) {
     for line in lines {
-        do_one(rt, alloc, keeper, reader, feed, line.deed);
+        do_one(rt, alloc, keeper, reader, feed, line.action);
         equal(rt, who_has_seen(keeper, reader, feed), line.seen);
         equal(rt, told_if(keeper.is_told_by(receipt)), line.told);
     }
@@ -190,14 +190,14 @@ fn do_one<N: LiveName, R: Wait + Abort>(
     keeper: &mut Keeper<N>,
     reader: &mut Reader<N>,
     feed: &mut Feed<N>,
-    deed: Deed,
+    action: Action,
 ) {
-    match deed {
-        Deed::Step(step, answer) => {
+    match action {
+        Action::Step(step, answer) => {
             equal(rt, steps(rt, alloc, keeper, &[(step, answer)]), None);
         }
-        Deed::Looks(answer) => equal(rt, shown_to(reader), answer),
-        Deed::Move(step, answer) => equal(rt, moves(feed, &[(step, answer)]), None),
+        Action::Looks(answer) => equal(rt, shown_to(reader), answer),
+        Action::Move(step, answer) => equal(rt, moves(feed, &[(step, answer)]), None),
     }
 }
 

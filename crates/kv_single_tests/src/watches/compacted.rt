@@ -7,18 +7,18 @@ fn reaches(rt: &impl Abort, cursor: &Cursor, now: &Version, reach: u64) {
     assert!(rt; !cursor.behind(now, reach));
 }
 
-const BEHIND: &[Deed] = &[
-    Deed::Put("x", "2"),
-    Deed::Put("x", "3"),
-    Deed::Put("x", "4"),
-    Deed::Put("k", "5"),
+const BEHIND: &[Action] = &[
+    Action::Put("x", "2"),
+    Action::Put("x", "3"),
+    Action::Put("x", "4"),
+    Action::Put("k", "5"),
 ];
 
 // Of an opening that was compacted since every entry is handed out, and a hole in the revisions hides no entry behind.
 #[test]
 fn what_was_compacted_hides_nothing(rt: HostRuntime) -> Result<(), Fail> {
     let alloc = rt.alloc();
-    let base = written(alloc, &[Deed::Put("k", "1")])?;
+    let base = written(alloc, &[Action::Put("k", "1")])?;
     let filters = one(alloc, "k")?;
     let mut cursor = open(&rt, alloc, &base, &filters, LATEST)?;
     let now = write_all(alloc, base.snapshot()?, BEHIND)?;

@@ -8,11 +8,11 @@ use kv_watch::given;
 #[derive(Clone, Copy)]
 pub(super) struct Row {
     pub(super) history: u64,
-    pub(super) before: &'static [Deed],
+    pub(super) before: &'static [Action],
     pub(super) start: Start,
     pub(super) ignore_deletes: bool,
     pub(super) initial: &'static [u64],
-    pub(super) after: &'static [Deed],
+    pub(super) after: &'static [Action],
     pub(super) live: &'static [u64],
 }
 

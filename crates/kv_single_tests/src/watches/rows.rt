@@ -18,9 +18,9 @@ const EMPTY: Row = Row {
 const TWO_KEPT: Row = Row {
     history: 2,
     before: &[
-        Deed::Put("k", "1"),
-        Deed::Put("k", "2"),
-        Deed::Put("k", "3"),
+        Action::Put("k", "1"),
+        Action::Put("k", "2"),
+        Action::Put("k", "3"),
     ],
     initial: &[2, 3, MARKER],
     ..EMPTY
@@ -34,9 +34,9 @@ const ROWS: &[(&str, Row)] = &[
         ">",
         Row {
             before: &[
-                Deed::Put("b", "1"),
-                Deed::Put("a", "2"),
-                Deed::Put("b", "3"),
+                Action::Put("b", "1"),
+                Action::Put("a", "2"),
+                Action::Put("b", "3"),
             ],
             initial: &[2, 3, MARKER],
             ..EMPTY
@@ -45,9 +45,9 @@ const ROWS: &[(&str, Row)] = &[
     (
         ">",
         Row {
-            before: &[Deed::Put("b", "1")],
+            before: &[Action::Put("b", "1")],
             initial: &[1, MARKER],
-            after: &[Deed::Put("a", "2"), Deed::Put("b", "3")],
+            after: &[Action::Put("a", "2"), Action::Put("b", "3")],
             live: &[2, 3],
             ..EMPTY
         },
@@ -56,12 +56,12 @@ const ROWS: &[(&str, Row)] = &[
     (
         "k",
         Row {
-            before: &[Deed::Put("k", "1")],
+            before: &[Action::Put("k", "1")],
             initial: &[1, MARKER],
             after: &[
-                Deed::Put("k", "2"),
-                Deed::Put("x", "0"),
-                Deed::Put("k", "3"),
+                Action::Put("k", "2"),
+                Action::Put("x", "0"),
+                Action::Put("k", "3"),
             ],
             live: &[2, 4],
             ..EMPTY
@@ -116,7 +116,7 @@ const ROWS: &[(&str, Row)] = &[
         ">",
         Row {
             start: Start::From(9),
-            after: &[Deed::Put("a", "")],
+            after: &[Action::Put("a", "")],
             live: &[1],
             ..EMPTY
         },
@@ -125,9 +125,9 @@ const ROWS: &[(&str, Row)] = &[
         ">",
         Row {
             start: Start::Updates,
-            before: &[Deed::Put("b", "0")],
+            before: &[Action::Put("b", "0")],
             initial: &[],
-            after: &[Deed::Put("a", "1")],
+            after: &[Action::Put("a", "1")],
             live: &[2],
             ..EMPTY
         },
@@ -138,8 +138,8 @@ const ROWS: &[(&str, Row)] = &[
         Row {
             history: 2,
             ignore_deletes: true,
-            before: &[Deed::Put("k", "1"), Deed::Delete("k")],
-            after: &[Deed::Purge("k"), Deed::Put("k", "2")],
+            before: &[Action::Put("k", "1"), Action::Delete("k")],
+            after: &[Action::Purge("k"), Action::Put("k", "2")],
             live: &[4],
             ..EMPTY
         },
@@ -149,9 +149,13 @@ const ROWS: &[(&str, Row)] = &[
         Row {
             history: 64,
             start: Start::History,
-            before: &[Deed::Put("k", "1"), Deed::Purge("k"), Deed::Put("k", "2")],
+            before: &[
+                Action::Put("k", "1"),
+                Action::Purge("k"),
+                Action::Put("k", "2"),
+            ],
             initial: &[2, 3, MARKER],
-            after: &[Deed::Delete("k"), Deed::Purge("k")],
+            after: &[Action::Delete("k"), Action::Purge("k")],
             live: &[4, 5],
             ..EMPTY
         },
@@ -163,13 +167,13 @@ const ROWS: &[(&str, Row)] = &[
             history: 64,
             start: Start::From(2),
             before: &[
-                Deed::Put("a.b", "1"),
-                Deed::Put("c", "2"),
-                Deed::Put("a.b", "3"),
-                Deed::Put("x.b", "4"),
+                Action::Put("a.b", "1"),
+                Action::Put("c", "2"),
+                Action::Put("a.b", "3"),
+                Action::Put("x.b", "4"),
             ],
             initial: &[3, 4, MARKER],
-            after: &[Deed::Put("a.b", "5")],
+            after: &[Action::Put("a.b", "5")],
             live: &[5],
             ..EMPTY
         },

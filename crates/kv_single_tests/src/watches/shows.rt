@@ -48,8 +48,8 @@ fn shows_each(
     options: Options,
     value: Option<&[u8]>,
 ) -> Result<(), KvError> {
-    let base = written(alloc, &[Deed::Put("a", "abc")])?;
-    let now = write(alloc, &base, Deed::Delete("a"))?;
+    let base = written(alloc, &[Action::Put("a", "abc")])?;
+    let now = write(alloc, &base, Action::Delete("a"))?;
     let mut cursor = open_on(rt, alloc, &base, ">", options)?;
     let first = Parts {
         key: "a",
@@ -79,7 +79,7 @@ fn an_entry_is_shown_without_its_value(rt: HostRuntime) -> Result<(), Fail> {
 
 #[test]
 fn a_write_is_shown_by_itself(rt: HostRuntime) -> Result<(), Fail> {
-    let version = written(rt.alloc(), &[Deed::Put("b", "")])?;
+    let version = written(rt.alloc(), &[Action::Put("b", "")])?;
     let parts = Parts {
         key: "b",
         op: Op::Put,
@@ -99,16 +99,16 @@ fn a_write_is_shown_by_itself(rt: HostRuntime) -> Result<(), Fail> {
 #[test]
 fn a_watch_looks_next_behind_what_it_passed(rt: HostRuntime) -> Result<(), Fail> {
     let alloc = rt.alloc();
-    let base = written(alloc, &[Deed::Put("k", "1")])?;
+    let base = written(alloc, &[Action::Put("k", "1")])?;
     let mut cursor = open_on(&rt, alloc, &base, "k", LATEST)?;
-    let passed = write(alloc, &base, Deed::Put("x", "2"))?;
+    let passed = write(alloc, &base, Action::Put("x", "2"))?;
     for item in [1, MARKER] {
         equal(&rt, step(&rt, &mut cursor, &base, &passed), Some(item));
         equal(&rt, cursor.next(), 2);
     }
     cursor.settle(&passed);
     equal(&rt, cursor.next(), 2);
-    let now = write(alloc, &passed, Deed::Put("k", "3"))?;
+    let now = write(alloc, &passed, Action::Put("k", "3"))?;
     equal(&rt, step(&rt, &mut cursor, &base, &now), Some(3));
     equal(&rt, cursor.next(), 4);
     equal(&rt, cursor.handed(), 3);

@@ -11,7 +11,7 @@ const MOST_NUMBERS: usize = 65;
 
 /// What can be seen of a bucket through a guard.
 #[derive(Drop)]
-pub struct Sight {
+pub struct Observed {
     version: Result<Version, KvError>,
     watches: u64,
     // What the watches are given next, by their numbers from 1 on. A number without a watch is refused.
@@ -19,9 +19,9 @@ pub struct Sight {
 }
 
 /// Looks through a guard, at each watch of a number up to 65.
-pub fn look_through<N: LiveName>(keeper: &Keeper<N>) -> Sight {
+pub fn look_through<N: LiveName>(keeper: &Keeper<N>) -> Observed {
     let bucket = keeper.bucket();
-    Sight {
+    Observed {
         version: bucket.version().snapshot(),
         watches: bucket.watches(),
         next: next_items(keeper),
@@ -37,17 +37,17 @@ fn next_items<N: LiveName>(keeper: &Keeper<N>) -> [Answer; MOST_NUMBERS] {
 }
 
 /// Looks through a guard of its own.
-pub fn look<N: LiveName, R: Wait>(rt: &R, live: &Live<N>) -> Sight {
+pub fn look<N: LiveName, R: Wait>(rt: &R, live: &Live<N>) -> Observed {
     look_through(&*live.lock(rt))
 }
 
-impl Sight {
+impl Observed {
     /// Whether all looks as it did before.
-    pub fn is_as(&self, before: &Sight) -> bool {
+    pub fn is_as(&self, before: &Observed) -> bool {
         self.watches == before.watches && self.next == before.next && self.has_version_of(before)
     }
 
-    fn has_version_of(&self, before: &Sight) -> bool {
+    fn has_version_of(&self, before: &Observed) -> bool {
         match (&self.version, &before.version) {
             (Ok(version), Ok(other)) => is_same_version(version, other),
             _ => false,
