@@ -3,3 +3,4 @@ pub mod Accepting
 pub mod Opening
 pub mod Sent
 pub mod Checkpointing
+pub mod Somewhere

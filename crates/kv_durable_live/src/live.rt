@@ -1,10 +1,10 @@
 //! The bucket that threads share by reference, and its opening on a file.
 
-ghost use Rattle.std.specs.Prelude.{◌≡◌, [], List, IfErr, IfOk, IsOk, map, true};
+ghost use Rattle.std.specs.Prelude.{◌≡◌, [], List, IfErr, IfOk, IsOk, OnOk, map, true};
 ghost use Rattle.std.specs.Sync.Mutex.{mutex_guard_value};
 ghost use Rattle.kv_bucket.specs.Batches.{RefusedAllSomewhere, WritesAllSomewhere};
 ghost use Rattle.kv_bucket.specs.Histories.{IsPublishedHistory};
-ghost use Rattle.kv_bucket.specs.Keeping.{IsSomewhere, PublishesWrite, RefusedSomewhere, WritesSomewhere};
+ghost use Rattle.kv_bucket.specs.Keeping.{CompactsSomewhere, IsSomewhere, PublishesWrite, RefusedSomewhere, UncompactedSomewhere, WritesSomewhere};
 ghost use Rattle.kv_durable.specs.Durables.{IsRefusal};
 ghost use Rattle.kv_durable.specs.declared.error.BatchError.TheVariants as batches;
 ghost use Rattle.kv_durable.specs.declared.error.DurableError.TheVariants.{FileFault, Refused};
@@ -77,6 +77,38 @@ fn write_all_on<N: LiveName, F: JournalFile, R: Wait>(
     keeper.write_all(rt, requests)
 }
 
+// Compacts. What is answered is what the rules give at a state of the acts that were published before, which are lawful.
+fn compact_on<N: LiveName, F: JournalFile, R: Wait>(
+    rt: &R,
+    keeper: &mut DurableKeeper<N, F>,
+    floor: u64,
+) -> Result<(), DurableError>
+    ensures ok { OnOk result (CompactsSomewhere N.opening.config floor) }
+    ensures refused { IfErr result (λ e. (x : AnError) → e ≡ Refused x →
+        UncompactedSomewhere N.opening.config floor x) }
+    ensures no_other { IfErr result IsRefusal }
+{
+    keeper.keeper();
+    keeper.compact(rt, floor)
+}
+
+// The same, and replaces the file where it is large.
+fn compact_and_checkpoint_on<N: LiveName, F: ReplaceableFile<P>, P, R: Wait>(
+    rt: &R,
+    keeper: &mut DurableKeeper<N, F>,
+    floor: u64,
+    place: &P,
+    seed: u64,
+) -> Result<Shrunk, DurableError>
+    ensures ok { OnOk result (CompactsSomewhere N.opening.config floor) }
+    ensures refused { IfErr result (λ e. (x : AnError) → e ≡ Refused x →
+        UncompactedSomewhere N.opening.config floor x) }
+    ensures no_other { IfErr result IsRefusal }
+{
+    keeper.keeper();
+    keeper.compact_and_checkpoint(rt, floor, place, seed)
+}
+
 impl<N: LiveName, F: JournalFile> DurableLive<N, F> {
     /// The keeper, for several calls in a row, at a state of the model, whose acts are those that are published: one history, of
     /// which all that anybody has seen or was told is a beginning. It waits until the lock is free.
@@ -140,9 +172,13 @@ impl<N: LiveName, F: JournalFile> DurableLive<N, F> {
 
     /// Compacts to the floor, as `DurableKeeper::compact` does.
     pub fn compact<R: Wait>(&self, rt: &R, floor: u64) -> Result<(), DurableError>
+        ensures ok { OnOk result (CompactsSomewhere N.opening.config floor) }
+        ensures refused { IfErr result (λ e. (x : AnError) → e ≡ Refused x →
+            UncompactedSomewhere N.opening.config floor x) }
         ensures no_other { IfErr result IsRefusal }
     {
-        self.keeper.lock(rt).compact(rt, floor)
+        let mut keeper = self.keeper.lock(rt);
+        compact_on(rt, &mut *keeper, floor)
     }
 
     /// Compacts to the floor, and replaces the file where it is large, as `DurableKeeper::compact_and_checkpoint` does.
@@ -155,11 +191,13 @@ impl<N: LiveName, F: JournalFile> DurableLive<N, F> {
     ) -> Result<Shrunk, DurableError>
     where
         F: ReplaceableFile<P>,
+        ensures ok { OnOk result (CompactsSomewhere N.opening.config floor) }
+        ensures refused { IfErr result (λ e. (x : AnError) → e ≡ Refused x →
+            UncompactedSomewhere N.opening.config floor x) }
         ensures no_other { IfErr result IsRefusal }
     {
-        self.keeper
-            .lock(rt)
-            .compact_and_checkpoint(rt, floor, place, seed)
+        let mut keeper = self.keeper.lock(rt);
+        compact_and_checkpoint_on(rt, &mut *keeper, floor, place, seed)
     }
 
     /// Replaces the file by a checkpoint, as `DurableKeeper::checkpoint` does. It has the lock until that is on the disk: writes wait,
