@@ -36,7 +36,7 @@ uint64_t kv_next_opening(void);
 /* The numbers of two openings are to differ. */
 uint64_t kv_open_as(kv_bucket *bucket, const uint8_t *name, size_t name_size, const kv_limits *limits,
                     uint64_t opening);
-/* KV_MADE of the file that has these bytes: what stands behind the place that is lent is cut off. */
+/* KV_MADE of the file that has these bytes: what stands behind the offset that is lent is cut off. */
 uint64_t kv_open_bytes_as(kv_bucket *bucket, const uint8_t *bytes, size_t size, const uint8_t *name, size_t name_size,
                           const kv_limits *limits, uint64_t seed, uint64_t sync, uint64_t number, uint64_t opening,
                           uint64_t *dropped, uint64_t *at);

@@ -20,11 +20,11 @@ enum { OPEN = 1, INSIDE = 2 };
 /* The sequence: two flags, and above them how many acts are published. It changes under the mutex alone. */
 enum { CLOSED = 1, FINISHED = 2, ONE_ACT = 4 };
 
-/* A place in a list, and what stands in it. */
-struct place {
-    struct place *next, **link;
+/* A node of a list, and what stands in it. */
+struct node {
+    struct node *next, **link;
 };
-#define STANDS_IN(type, name, place) ((type *)((char *)(place)-offsetof(type, name)))
+#define STANDS_IN(type, name, node) ((type *)((char *)(node)-offsetof(type, name)))
 
 /* A write that waits in the frame of its thread, until the thread that makes it has answered it. */
 struct asked {
@@ -49,7 +49,7 @@ struct core {
     kv_bucket bucket;
     uint64_t last, floor; /* the bucket's last revision, and the floor that it was compacted to */
     _Atomic size_t references;
-    struct place *followers, *readers, *keeping_up;
+    struct node *followers, *readers, *keeping_up;
     _Atomic(struct reader *) catching_up; /* readers that keep up from the next act on */
     bool has_waiters; /* whether a follower may be asleep, or a descriptor wait to become readable */
     _Atomic(struct asked *) asked; /* writes that are to be synced together, the last one first */
@@ -80,11 +80,11 @@ struct reader {
     struct core *core;
     unsigned at;           /* which page it reads */
     _Atomic uint64_t last; /* that of this page */
-    struct place among_all;
+    struct node among_all;
     char before[64];
     _Atomic unsigned offer;
     _Atomic bool is_keeping_up; /* or catching up: the reader sets it, and who has the mutex ends it */
-    struct place among_keeping_up;
+    struct node among_keeping_up;
     struct reader *next_catching_up;
     char behind[64];
     struct page pages[2];
@@ -98,22 +98,22 @@ struct follower {
     _Atomic bool is_stopped;
     int fd;
     bool is_armed; /* whether the descriptor is there and not readable */
-    struct place among_all;
+    struct node among_all;
 };
 
 /* Under the mutex. */
-static void join(struct place **list, struct place *place) {
-    place->next = *list;
-    place->link = list;
-    if (place->next)
-        place->next->link = &place->next;
-    *list = place;
+static void join(struct node **list, struct node *node) {
+    node->next = *list;
+    node->link = list;
+    if (node->next)
+        node->next->link = &node->next;
+    *list = node;
 }
 
-static void part(struct place *place) {
-    *place->link = place->next;
-    if (place->next)
-        place->next->link = place->link;
+static void part(struct node *node) {
+    *node->link = node->next;
+    if (node->next)
+        node->next->link = node->link;
 }
 
 static uint64_t sequence_of(struct core *core) {
@@ -141,8 +141,8 @@ static void rearm_fd(struct follower *follower) {
     }
 }
 
-static struct reader *keeping_up(struct place *place) {
-    return STANDS_IN(struct reader, among_keeping_up, place);
+static struct reader *keeping_up(struct node *node) {
+    return STANDS_IN(struct reader, among_keeping_up, node);
 }
 
 /* A reader that fell behind is offered a view of each act again, from the one on that is made now. It asks for that
@@ -195,8 +195,8 @@ static bool take_offer(struct reader *reader) {
  * one falls behind: a reader that looks less often than others write has them copy nothing meanwhile. Under the
  * mutex. */
 static void end_offers(struct core *core) {
-    struct place *next;
-    for (struct place *it = core->keeping_up; it; it = next) {
+    struct node *next;
+    for (struct node *it = core->keeping_up; it; it = next) {
         struct reader *reader = keeping_up(it);
         unsigned offer = atomic_load_explicit(&reader->offer, memory_order_acquire);
         next = it->next;
@@ -208,8 +208,8 @@ static void end_offers(struct core *core) {
 
 /* Opens the views that are offered next. Who gets none for want of memory falls behind. Under the mutex. */
 static void open_offers(struct core *core, uint64_t sequence) {
-    struct place *next;
-    for (struct place *it = core->keeping_up; it; it = next) {
+    struct node *next;
+    for (struct node *it = core->keeping_up; it; it = next) {
         struct reader *reader = keeping_up(it);
         struct page *page = &reader->pages[atomic_load_explicit(&reader->offer, memory_order_relaxed)];
         next = it->next;
@@ -227,7 +227,7 @@ static void publish(struct core *core, uint64_t sequence) {
         return;
     core->has_waiters = false;
     pthread_cond_broadcast(&core->changed);
-    for (struct place *it = core->followers; it; it = it->next)
+    for (struct node *it = core->followers; it; it = it->next)
         signal_fd(STANDS_IN(struct follower, among_all, it));
 }
 
@@ -238,7 +238,7 @@ static void publish_and_offer(struct core *core, uint64_t sequence) {
     admit(core);
     open_offers(core, sequence);
     publish(core, sequence);
-    for (struct place *it = core->keeping_up; it; it = it->next)
+    for (struct node *it = core->keeping_up; it; it = it->next)
         atomic_fetch_or_explicit(&keeping_up(it)->offer, OFFERED, memory_order_release);
 }
 
@@ -627,12 +627,12 @@ uint64_t kv_shared_reach(kv_shared *shared, uint64_t *floor) {
     if (!core)
         return KV_CLOSED;
     code = kv_reach(&core->bucket, &least);
-    for (struct place *it = core->followers; it; it = it->next) {
+    for (struct node *it = core->followers; it; it = it->next) {
         struct follower *follower = STANDS_IN(struct follower, among_all, it);
         if (!atomic_load(&follower->is_stopped))
             lower(core, &least, atomic_load(&follower->last));
     }
-    for (struct place *it = core->readers; it; it = it->next)
+    for (struct node *it = core->readers; it; it = it->next)
         lower(core, &least, atomic_load(&STANDS_IN(struct reader, among_all, it)->last));
     if (code == KV_OK)
         *floor = least;

@@ -56,7 +56,7 @@ func (b *Batch) Reset() { b.writes = nil }
 // one. No read sees some of them without the others; a watch is handed them one by one. Of no writes nothing is made, and the last
 // revision is told.
 //
-// A refusal is a BatchRefused, which has the place of the write that is refused; or ErrClosed. Then the bucket and the batch are as they
+// A refusal is a BatchRefused, which has the index of the write that is refused; or ErrClosed. Then the bucket and the batch are as they
 // were.
 func (b *Bucket) Write(batch *Batch) (first uint64, err error) {
 	first, err = b.shared.writeAll(batch.writes)
@@ -66,7 +66,7 @@ func (b *Bucket) Write(batch *Batch) (first uint64, err error) {
 	return first, err
 }
 
-// BatchRefused is why a batch was refused: At is the place of the write that is refused, from 0, and Err what it is refused with behind
+// BatchRefused is why a batch was refused: At is the index of the write that is refused, from 0, and Err what it is refused with behind
 // those before it, which errors.Is and errors.As find.
 type BatchRefused struct {
 	At  int

@@ -32,10 +32,10 @@ static vg_told vg_open(uintptr_t at, _GoString_ name, uint64_t history, uint64_t
 static vg_told vg_open_file(uintptr_t at, _GoString_ path, _GoString_ name, uint64_t history, uint64_t values, uint64_t writes,
                             uint64_t revisions, uint64_t sync) {
     kv_limits limits = {history, values, writes, revisions};
-    uint64_t dropped = 0, place = 0;
+    uint64_t dropped = 0, offset = 0;
     vg_told told = {0};
-    told.code = kv_shared_open_file(SHARED, BYTES(path), BYTES(name), &limits, sync, &dropped, &place);
-    told.number = told.code == KV_OK ? dropped : place;
+    told.code = kv_shared_open_file(SHARED, BYTES(path), BYTES(name), &limits, sync, &dropped, &offset);
+    told.number = told.code == KV_OK ? dropped : offset;
     return told;
 }
 static vg_told vg_sync(uintptr_t at) { TOLD(kv_shared_sync(SHARED)); }

@@ -111,11 +111,11 @@ func (r Lagged) Error() string {
 // Unwrap is ErrLagged.
 func (r Lagged) Unwrap() error { return ErrLagged }
 
-// FileDamaged refuses a file that has other bytes than were written, or is none of a bucket: they are good up to the place At.
+// FileDamaged refuses a file that has other bytes than were written, or is none of a bucket: they are good up to the offset At.
 type FileDamaged struct{ At uint64 }
 
 func (r FileDamaged) Error() string {
-	return fmt.Sprintf("vilgoued: the file is damaged, or none of a bucket: its bytes are good up to place %d", r.At)
+	return fmt.Sprintf("vilgoued: the file is damaged, or none of a bucket: its bytes are good up to offset %d", r.At)
 }
 
 // Unwrap is ErrFileDamaged.

@@ -6,7 +6,7 @@
  *
  * Each function that returns a number returns KV_OK or why it was refused. A refused call leaves the bucket as it was,
  * and copies nothing. What it would have told it leaves as it was too, but for what is said here of
- * KV_WRONG_LAST_REVISION, KV_WATCH_BEHIND, KV_LAGGED, KV_FILE_DAMAGED, KV_TOO_LITTLE_ROOM and the place of
+ * KV_WRONG_LAST_REVISION, KV_WATCH_BEHIND, KV_LAGGED, KV_FILE_DAMAGED, KV_TOO_LITTLE_ROOM and the index of
  * kv_batch_write.
  */
 #ifndef VILGOUED_H
@@ -126,7 +126,7 @@ uint64_t kv_open(kv_bucket *bucket, const uint8_t *name, size_t name_size, const
  *
  * KV_FILE_BUSY where another opening has the file; KV_OTHER_BUCKET where it is that of a bucket with another name or other
  * limits; KV_FILE_DAMAGED where its bytes are no longer those that were written, or it is no journal: *at is then, and only
- * then, the place up to which they are good; KV_FILE_FAULT where the system refuses a call. */
+ * then, the offset up to which they are good; KV_FILE_FAULT where the system refuses a call. */
 uint64_t kv_open_file(kv_bucket *bucket, const uint8_t *path, size_t path_size, const uint8_t *name, size_t name_size,
                       const kv_limits *limits, uint64_t sync, uint64_t *dropped, uint64_t *at);
 /* Brings all that was accepted onto the disk; without a file there is nothing to bring.
@@ -176,7 +176,7 @@ uint64_t kv_batch_size(kv_batch *batch, size_t *size);
  * on; where nothing is gathered it is the bucket's last one. Then the batch is empty.
  *
  * Where one is refused, with the code that it has as a single write, the bucket and the batch are as they were, and *at
- * is the place of that write, from 0. It is told with each code but KV_CLOSED and KV_FILE_FAULT, and else stays as it was. With
+ * is the index of that write, from 0. It is told with each code but KV_CLOSED and KV_FILE_FAULT, and else stays as it was. With
  * KV_WRONG_LAST_REVISION, *revision is the last revision of its key, those before it in the batch counted. */
 uint64_t kv_batch_write(kv_bucket *bucket, kv_batch *batch, uint64_t *revision, size_t *at);
 /* Empties the batch. */

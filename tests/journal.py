@@ -23,7 +23,7 @@ def crc32c(data: bytes) -> int:
 
 
 def frame_at(data: bytes, seed: int, at: int) -> Optional[bytes]:
-    """The payload of the whole frame that begins at this place, or None."""
+    """The payload of the whole frame that begins at this offset, or None."""
     length, checksum = struct.unpack_from(">II", data, at) if len(data) >= at + 8 else (0, 0)
     payload = data[at + 8:at + 8 + length]
     whole = length and len(payload) == length and crc32c(struct.pack(">QQ", seed, at) + payload) == checksum
@@ -56,7 +56,7 @@ def entry(payload: bytes) -> tuple[Any, ...]:
 
 
 def shows_damage(data: bytes, seed: int, bad: int) -> bool:
-    """Whether a whole frame behind the bad place says that this place was on the disk."""
+    """Whether a whole frame behind the bad offset says that this offset was on the disk."""
     def says_so(bytes_there: bytes, at: int) -> bool:
         payload = frame_at(bytes_there, seed, at)
         return payload is not None and len(payload) >= 4 and struct.unpack_from(">I", payload)[0] < at - bad

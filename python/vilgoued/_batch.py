@@ -17,7 +17,7 @@ class Batch(Held):
     none of them where it raises; or `write` does.
 
     Each write is judged behind those before it, so an update may name the revision of an earlier one. What refuses the batch
-    has `at`, the place of that write in it, from 0; then the bucket and the batch are as they were. A key that is none, and a
+    has `at`, the index of that write in it, from 0; then the bucket and the batch are as they were. A key that is none, and a
     value that is longer than any bucket takes, are refused when they are gathered.
 
     Any thread may gather; calls of several threads come one after another."""

@@ -49,15 +49,15 @@ class Bucket(Reads):
         )
         limits = Limits(*map(number_of, (history, value_limit, write_limit, revision_limit)))
         text, every = name_of(name), sync_of(sync)
-        dropped, place = ctypes.c_uint64(), ctypes.c_uint64()
+        dropped, offset = ctypes.c_uint64(), ctypes.c_uint64()
         if path is None:
             check(loaded.kv_shared_open(self._at, text, len(text), ctypes.addressof(limits)))
         else:
-            file, (limits_at, dropped_at, place_at) = os.fsencode(path), map(ctypes.addressof, (limits, dropped, place))
+            file, (limits_at, dropped_at, offset_at) = os.fsencode(path), map(ctypes.addressof, (limits, dropped, offset))
             code = loaded.kv_shared_open_file(
-                self._at, file, len(file), text, len(text), limits_at, every, dropped_at, place_at
+                self._at, file, len(file), text, len(text), limits_at, every, dropped_at, offset_at
             )
-            check(code, place.value)
+            check(code, offset.value)
         self.dropped = dropped.value
 
     def __exit__(

@@ -110,7 +110,7 @@ _FUNCTIONS: Dict[str, _Kinds] = {
 _CLOSES = ("kv_follower_close", "kv_view_close", "kv_feed_close", "kv_batch_close")
 
 
-def _places() -> Iterator[str]:
+def _paths() -> Iterator[str]:
     """Where the library may lie, the likeliest first."""
     yield os.path.join(_HERE, NAME)
     if os.path.exists(os.path.join(_CHECKOUT, "library")):
@@ -123,7 +123,7 @@ def path() -> str:
     named = os.environ.get("VILGOUED_LIB") or ""
     if os.path.isdir(named):
         named = os.path.join(named, NAME)
-    return next(filter(None, [named, *filter(os.path.exists, _places()), NAME]))
+    return next(filter(None, [named, *filter(os.path.exists, _paths()), NAME]))
 
 
 def _machine_of(file: str) -> str:

@@ -208,7 +208,7 @@ class FileFault(KvError):
 
 
 class FileDamaged(KvError):
-    """The file has other bytes than were written, or is none of a bucket. They are good up to the place `at`."""
+    """The file has other bytes than were written, or is none of a bucket. They are good up to the offset `at`."""
 
     code = 23
 
@@ -217,7 +217,7 @@ class FileDamaged(KvError):
         self.at = at
 
     def __str__(self) -> str:
-        return f"the file is damaged, or none of a bucket: its bytes are good up to place {self.at}; take it from a copy"
+        return f"the file is damaged, or none of a bucket: its bytes are good up to offset {self.at}; take it from a copy"
 
 
 class FileBusy(KvError):
@@ -285,7 +285,7 @@ _CLASSES: Dict[int, Type[KvError]] = {
 
 
 def refusal(code: int, number: int, at: Optional[int] = None) -> KvError:
-    """The refusal of this code; the four that tell a number have this one. One of a batch has the place of its write."""
+    """The refusal of this code; the four that tell a number have this one. One of a batch has the index of its write."""
     told = _CLASSES[code](number) if code in (11, 20, 21, 23) else _CLASSES[code]()
     if at is not None:
         told.at = at

@@ -51,7 +51,7 @@ pub enum Error {
     FileFault,
     /// The file has other bytes than were written, or is none of a bucket.
     FileDamaged {
-        /// The place up to which its bytes are good.
+        /// The offset up to which its bytes are good.
         at: u64,
     },
     /// Another opening has the file, in this process or another.
@@ -153,7 +153,7 @@ impl fmt::Display for Error {
             Error::Lagged { floor } => write!(to, "what follows lags behind a compaction, whose floor is {floor}"),
             Error::FileFault => to.write_str("the bucket's file has failed, and it takes no more writes"),
             Error::FileDamaged { at } => {
-                write!(to, "the file is damaged, or none of a bucket: its bytes are good up to place {at}")
+                write!(to, "the file is damaged, or none of a bucket: its bytes are good up to offset {at}")
             }
             Error::FileBusy => to.write_str("another opening has the file"),
             Error::OtherBucket => to.write_str("the file is of a bucket with another name or other limits"),

@@ -139,7 +139,7 @@ mod c {
             limits: *const Limits,
             sync: u64,
             dropped: *mut u64,
-            place: *mut u64,
+            offset: *mut u64,
         ) -> u64;
         pub fn kv_shared_sync(at: *mut Shared) -> u64;
         pub fn kv_shared_checkpoint(at: *mut Shared) -> u64;
@@ -186,7 +186,7 @@ mod c {
             last: u64,
             revision: *mut u64,
         ) -> u64;
-        pub fn kv_shared_write_all(at: *mut Shared, batch: *mut Handle, revision: *mut u64, place: *mut usize) -> u64;
+        pub fn kv_shared_write_all(at: *mut Shared, batch: *mut Handle, revision: *mut u64, index: *mut usize) -> u64;
         pub fn kv_batch_put(at: *mut Handle, key: *const u8, key_size: usize, value: *const u8, value_size: usize) -> u64;
         pub fn kv_batch_create(at: *mut Handle, key: *const u8, key_size: usize, value: *const u8, value_size: usize) -> u64;
         pub fn kv_batch_update(
@@ -449,7 +449,7 @@ impl Shared {
     /// The bucket of a file, and how many bytes of it were dropped.
     pub fn open_file(path: &Path, name: &str, limits: &Limits, sync: u64) -> Result<(Arc<Shared>, u64), Error> {
         let (shared, limits, path) = (Shared::closed(), limits_of(limits), path.as_os_str().as_bytes());
-        let (mut dropped, mut place) = (0, 0);
+        let (mut dropped, mut offset) = (0, 0);
         // SAFETY: as in `open`, and the numbers are ours.
         let code = unsafe {
             c::kv_shared_open_file(
@@ -461,10 +461,10 @@ impl Shared {
                 &limits,
                 sync,
                 &mut dropped,
-                &mut place,
+                &mut offset,
             )
         };
-        check(code, place)?;
+        check(code, offset)?;
         Ok((shared, dropped))
     }
 

@@ -162,19 +162,19 @@ class Files(unittest.TestCase):
         with self.opened() as bucket:
             self.assertEqual(bucket.dropped, 0)
 
-    def test_damage_is_refused_with_its_place(self) -> None:
+    def test_damage_is_refused_with_its_offset(self) -> None:
         with self.opened() as bucket:
             bucket["a"] = b"1"
-            place = os.path.getsize(self.path)
+            offset = os.path.getsize(self.path)
             bucket["a"] = b"2"
             bucket["a"] = b"3"
         with open(self.path, "r+b") as file:
-            file.seek(place + 12)
+            file.seek(offset + 12)
             file.write(b"\xff")
         with self.assertRaises(vilgoued.FileDamaged) as refused:
             self.opened()
-        self.assertEqual((refused.exception.at, refused.exception.code), (place, 23))
-        self.assertIn("place %d;" % place, str(refused.exception))
+        self.assertEqual((refused.exception.at, refused.exception.code), (offset, 23))
+        self.assertIn("offset %d;" % offset, str(refused.exception))
         with open(self.path, "wb") as file:
             file.write(b"no journal")
         with self.assertRaises(vilgoued.FileDamaged) as refused:

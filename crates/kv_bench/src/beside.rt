@@ -30,8 +30,8 @@ fn gets<G: Gets, R: Wait + Clock>(rt: &R, side: &mut G, count: usize) -> Result<
 
 fn puts<P: Puts, R: Wait + Clock>(rt: &R, side: &mut P, count: usize) -> Result<u64, Fault> {
     let start = Instant::now(rt)?;
-    for place in 0..count {
-        side.put(rt, place)?;
+    for index in 0..count {
+        side.put(rt, index)?;
     }
     Ok(each(since(rt, &start)?, count))
 }

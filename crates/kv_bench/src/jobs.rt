@@ -29,10 +29,10 @@ fn write_all<P: Puts, R: Wait + Clock>(
     puts: &mut P,
     moments: &mut Vec<u64>,
 ) -> Result<usize, Fault> {
-    let mut place = 0;
+    let mut index = 0;
     for turn in 0..round.writes {
-        puts.put(rt, place)?;
-        place = round.next(place);
+        puts.put(rt, index)?;
+        index = round.next(index);
         round.note(rt, moments)?;
         if round.is_enough(rt, turn)? {
             return Ok(turn.wrapping_add(1));
@@ -75,7 +75,7 @@ fn write_to_the_end<P: Puts + Drop, R: Wait + Clock + CpuClock>(
     done
 }
 
-// Reads some keys, from one on: how many bytes their values have, and the place of the key behind the last.
+// Reads some keys, from one on: how many bytes their values have, and the index of the key behind the last.
 fn get_some<G: Gets, R: Wait>(
     rt: &R,
     round: &Round,
@@ -83,12 +83,12 @@ fn get_some<G: Gets, R: Wait>(
     first: usize,
 ) -> Result<(usize, usize), Fault> {
     let mut bytes = 0_usize;
-    let mut place = first;
+    let mut index = first;
     for _ in 0..ASKED {
-        bytes = bytes.wrapping_add(gets.get(rt, place)?);
-        place = round.next(place);
+        bytes = bytes.wrapping_add(gets.get(rt, index)?);
+        index = round.next(index);
     }
-    Ok((bytes, place))
+    Ok((bytes, index))
 }
 
 fn read<G: Gets + Drop, R: Wait + Clock>(
@@ -99,13 +99,13 @@ fn read<G: Gets + Drop, R: Wait + Clock>(
 ) -> Result<Done, Fault> {
     let mut gets = gets;
     let mut count = 0_usize;
-    let mut place = round.first();
+    let mut index = round.first();
     for _ in 0..u64::MAX {
         if round.is_over() {
             break;
         }
-        let (bytes, behind) = get_some(rt, round, &mut gets, place)?;
-        place = behind;
+        let (bytes, behind) = get_some(rt, round, &mut gets, index)?;
+        index = behind;
         check(bytes == ASKED.wrapping_mul(VALUE.len()), Answer::Values)?;
         count = count.wrapping_add(ASKED);
     }

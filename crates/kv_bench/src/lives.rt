@@ -109,8 +109,8 @@ impl<'a, N: LiveName> Named for Reads<'a, N> {
 
 impl<'a, N: LiveName> Gets for Reads<'a, N> {
     // Each read is of the version that is published then.
-    fn get<R: Wait>(&mut self, _rt: &R, place: usize) -> Result<usize, Fault> {
-        let Some(key) = self.keys.get(place) else {
+    fn get<R: Wait>(&mut self, _rt: &R, index: usize) -> Result<usize, Fault> {
+        let Some(key) = self.keys.get(index) else {
             return Ok(0);
         };
         self.reader.refresh(&mut self.cached)?;
@@ -138,8 +138,8 @@ impl<'a, N: LiveName> Named for Writes<'a, N> {
 }
 
 impl<'a, N: LiveName> Puts for Writes<'a, N> {
-    fn put<R: Wait>(&mut self, rt: &R, place: usize) -> Result<(), Fault> {
-        let Some(request) = self.requests.get(place) else {
+    fn put<R: Wait>(&mut self, rt: &R, index: usize) -> Result<(), Fault> {
+        let Some(request) = self.requests.get(index) else {
             return Ok(());
         };
         self.live.write(rt, request)?;

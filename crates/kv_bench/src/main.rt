@@ -30,8 +30,8 @@ fn words(rt: &HostRuntime, alloc: Global) -> io::Result<Vec<String>> {
 }
 
 // A number of the arguments; none where it is no number.
-fn number(words: &Vec<String>, place: usize) -> Option<usize> {
-    words.get(place)?.as_str().parse::<usize>().ok()
+fn number(words: &Vec<String>, index: usize) -> Option<usize> {
+    words.get(index)?.as_str().parse::<usize>().ok()
 }
 
 // What is asked for: a group, and how much of it. The group `check` tells no figures.

@@ -64,8 +64,8 @@ fn send_all<R: Wait>(
 
 impl<'a> Puts for Posts<'a> {
     // Sends while it has the lock, so that all followers see one order.
-    fn put<R: Wait>(&mut self, rt: &R, place: usize) -> Result<(), Fault> {
-        let Some(text) = self.texts.get(place) else {
+    fn put<R: Wait>(&mut self, rt: &R, index: usize) -> Result<(), Fault> {
+        let Some(text) = self.texts.get(index) else {
             return Ok(());
         };
         let message = packed(self.alloc, text)?;

@@ -2,7 +2,7 @@
 
 use crate::sides::{Copies, Gets, Named, Puts};
 use kv_gauge::fault::Fault;
-use kv_gauge::keys::{VALUE, place, text};
+use kv_gauge::keys::{VALUE, index, text};
 use std::alloc::Global;
 use std::collections::{BTreeMap, HashMap};
 use std::sync::{RwLock, Wait};
@@ -90,7 +90,7 @@ pub fn filled<T: Table>(alloc: Global, keys: usize) -> Result<T, Fault> {
 pub fn texts(alloc: Global, count: usize, asked: usize) -> Result<Vec<String>, Fault> {
     let mut texts = Vec::new(alloc);
     for turn in 0..asked {
-        texts.push(text(alloc, place(turn, count))?)?;
+        texts.push(text(alloc, index(turn, count))?)?;
     }
     Ok(texts)
 }
@@ -108,8 +108,8 @@ impl<'a, T: Table> Named for Locked<'a, T> {
 }
 
 impl<'a, T: Table> Gets for Locked<'a, T> {
-    fn get<R: Wait>(&mut self, rt: &R, place: usize) -> Result<usize, Fault> {
-        let Some(text) = self.texts.get(place) else {
+    fn get<R: Wait>(&mut self, rt: &R, index: usize) -> Result<usize, Fault> {
+        let Some(text) = self.texts.get(index) else {
             return Ok(0);
         };
         Ok(self.lock.read(rt).bytes(text.as_str()))
@@ -118,8 +118,8 @@ impl<'a, T: Table> Gets for Locked<'a, T> {
 
 impl<'a, T: Table> Puts for Locked<'a, T> {
     // The key and the value are copied before the lock is taken.
-    fn put<R: Wait>(&mut self, rt: &R, place: usize) -> Result<(), Fault> {
-        let Some(text) = self.texts.get(place) else {
+    fn put<R: Wait>(&mut self, rt: &R, index: usize) -> Result<(), Fault> {
+        let Some(text) = self.texts.get(index) else {
             return Ok(());
         };
         let key = text.clone()?;

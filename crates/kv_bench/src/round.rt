@@ -89,13 +89,13 @@ impl Round {
         })
     }
 
-    /// The place of the key behind this one: after the last one comes the first.
-    pub fn next(&self, place: usize) -> usize {
-        let next = place.wrapping_add(1);
+    /// The index of the key behind this one: after the last one comes the first.
+    pub fn next(&self, index: usize) -> usize {
+        let next = index.wrapping_add(1);
         if next >= self.asked { 0 } else { next }
     }
 
-    /// The place of the first key of a reader that begins now: each begins elsewhere.
+    /// The index of the first key of a reader that begins now: each begins elsewhere.
     pub fn first(&self) -> usize {
         let before = self.readers.fetch_add(1, Ordering::SeqCst) as usize;
         if self.asked == 0 {

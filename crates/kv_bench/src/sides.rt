@@ -1,4 +1,4 @@
-//! What is set side by side: those who read, write, copy and follow. Each asks for keys of its own, by their places
+//! What is set side by side: those who read, write, copy and follow. Each asks for keys of its own, by their indices
 //! among these.
 
 use kv_gauge::fault::Fault;
@@ -14,13 +14,13 @@ pub trait Named {
 /// Who reads.
 pub trait Gets {
     /// How many bytes the value of a key has; 0 where there is none.
-    fn get<R: Wait>(&mut self, rt: &R, place: usize) -> Result<usize, Fault>;
+    fn get<R: Wait>(&mut self, rt: &R, index: usize) -> Result<usize, Fault>;
 }
 
 /// Who writes.
 pub trait Puts {
     /// Puts to a key.
-    fn put<R: Wait>(&mut self, rt: &R, place: usize) -> Result<(), Fault>;
+    fn put<R: Wait>(&mut self, rt: &R, index: usize) -> Result<(), Fault>;
 
     /// Tells those who follow that no write comes any more.
     fn finish(self);
@@ -41,8 +41,8 @@ pub trait Takes {
 /// How many bytes the values of the first keys have, so many of them.
 pub fn get_all<G: Gets, R: Wait>(rt: &R, gets: &mut G, count: usize) -> Result<usize, Fault> {
     let mut bytes = 0_usize;
-    for place in 0..count {
-        bytes = bytes.wrapping_add(gets.get(rt, place)?);
+    for index in 0..count {
+        bytes = bytes.wrapping_add(gets.get(rt, index)?);
     }
     Ok(bytes)
 }

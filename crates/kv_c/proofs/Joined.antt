@@ -37,11 +37,11 @@ use Rattle.kv_store.specs.Stored.{Stored}
 
 -- the frame of what is told behind what waits
 pub frame_is_behind : (filed : Filed) (waiting loose : ℕ) (content : Content) (payload bytes : List ℕ) → loose ≡ waiting → payload ≡ payload_of (record { loose = loose; content = content }) → IsPayload payload
-    → bytes ≡ frames filed.journal.value.framing.seed filed.journal.value.appender.place (payload ∷ []) → IsFrameBehind filed waiting content bytes
+    → bytes ≡ frames filed.journal.value.framing.seed filed.journal.value.appender.offset (payload ∷ []) → IsFrameBehind filed waiting content bytes
 frame_is_behind filed waiting loose content payload bytes same is fits framed =
     let own : payload ≡ payload_of (record { loose = waiting; content = content }) = is ∙ ap (λ (n : ℕ). payload_of (record { loose = n; content = content })) same in
     record {
-      are = framed ∙ ap (λ (p : List ℕ). frames filed.journal.value.framing.seed filed.journal.value.appender.place (p ∷ [])) own;
+      are = framed ∙ ap (λ (p : List ℕ). frames filed.journal.value.framing.seed filed.journal.value.appender.offset (p ∷ [])) own;
       payload = subst IsPayload own fits;
     }
 
@@ -94,7 +94,7 @@ module _ (ready : Ready) (old new : Waiting) (joins : Joins ready old new) (requ
   act state = Wrote (write_for (asked request) (length (writes_of state.acts) + 1))
 
   record IsTold (state : State) : Type 0 where
-    are : ready.frames.items ≡ frames old.filed.journal.value.framing.seed old.filed.journal.value.appender.place (payloads_of (told_behind old (told_by request state)))
+    are : ready.frames.items ≡ frames old.filed.journal.value.framing.seed old.filed.journal.value.appender.offset (payloads_of (told_behind old (told_by request state)))
     lawful : AreLawful state.config state.acts (told_behind old (told_by request state))
     payloads : ArePayloads (payloads_of (told_behind old (told_by request state)))
     one : length (told_behind old (told_by request state)) ≤ 1
@@ -117,7 +117,7 @@ module _ (ready : Ready) (old new : Waiting) (joins : Joins ready old new) (requ
       let all = subst (λ (c : Configuration). IsLawful c (state.acts ++ act state ∷ [])) (represents.config ∙ same) (subst (IsLawful (bucket_behind new).version.config) acts represents.version.lawful) in
       let accepted = (lawful_behind state.config [] state.acts (act state ∷ []) all).0 in
       record {
-        are = subst (λ (cs : List Content). ready.frames.items ≡ frames old.filed.journal.value.framing.seed old.filed.journal.value.appender.place (payloads_of (told_behind old cs))) back own.are;
+        are = subst (λ (cs : List Content). ready.frames.items ≡ frames old.filed.journal.value.framing.seed old.filed.journal.value.appender.offset (payloads_of (told_behind old cs))) back own.are;
         lawful = subst (λ (cs : List Content). AreLawful state.config state.acts (told_behind old cs)) back ((omega (arith, few), accepted), tt);
         payloads = subst (λ (cs : List Content). ArePayloads (payloads_of (told_behind old cs))) back (own.payload, tt);
         one = subst (λ (cs : List Content). length (told_behind old cs) ≤ 1) back (omega arith);

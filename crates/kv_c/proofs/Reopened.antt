@@ -37,8 +37,8 @@ begins seed config e = cc
 pub opened_so : (config : Configuration) (mode : Sync) (seed of : ℕ) (bytes first : List ℕ) (opened : Opened Outbox) (w : Waiting) → IsFound config mode seed bytes opened
     → (bytes ≡ [] → first ≡ beginning seed config) → ((bytes ≡ [] → ⊥) → first ≡ []) → w.bucket ≡ opened.durable.bucket → w.filed.journal.value ≡ opened.durable.journal
     → w.filed.number ≡ of → w.filed.has_failed ≡ false → w.former ≡ None → w.next ≡ None → w.syncs.behind ≡ true → w.bytes ≡ first
-    → (first ≡ [] → w.at ≡ w.filed.journal.value.appender.place) → ((first ≡ [] → ⊥) → w.at ≡ 0) → IsOpened config mode seed of bytes opened.dropped w
-opened_so config mode seed of bytes first opened w found fresh old bucket journal number works former next behind wrote at_place at_front =
+    → (first ≡ [] → w.at ≡ w.filed.journal.value.appender.offset) → ((first ≡ [] → ⊥) → w.at ≡ 0) → IsOpened config mode seed of bytes opened.dropped w
+opened_so config mode seed of bytes first opened w found fresh old bucket journal number works former next behind wrote at_offset at_front =
     let same = sym (parts_are opened.durable w.bucket w.filed bucket journal) in
     record {
       next = next;
@@ -57,6 +57,6 @@ opened_so config mode seed of bytes first opened w found fresh old bucket journa
             opened.checkpointed,
             subst (λ (d : Durable Outbox). IsReopenedOn lends never_fails config bytes d opened.dropped opened.checkpointed) same there,
             wrote ∙ old some,
-            at_place (old some),
+            at_offset (old some),
           );
     }

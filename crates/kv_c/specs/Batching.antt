@@ -61,7 +61,7 @@ abbrev pub Batches : List Request → Option Content → ℕ → Option Content 
 Batches requests (Some (Bucket old f m)) first (Some (Bucket new g n)) = (n ≡ m) × IsBatch old requests first new
 Batches requests old first new = ⊥
 
--- one of these is refused, that of this place, with this code; with 11 the key's last revision is told
+-- one of these is refused, that of this index, with this code; with 11 the key's last revision is told
 abbrev pub IsRefusedWith : State → Option (List Asked) → ℕ → ℕ → ℕ → Type 0
 IsRefusedWith state None code at told = code ≡ 32
 IsRefusedWith state (Some whats) code at told = (refused : BatchRefused) ×

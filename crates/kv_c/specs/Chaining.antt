@@ -55,7 +55,7 @@ told_behind waiting contents = entries_at (length waiting.bytes) contents
 
 -- the bytes are the frame of the entry that tells this behind so many bytes that wait, which is a payload
 pub record IsFrameBehind (filed : Filed) (waiting : ℕ) (content : Telling) (bytes : List ℕ) : Type 0 where
-  pub are : bytes ≡ frames filed.journal.value.framing.seed filed.journal.value.appender.place (payloads_of (entries_at waiting (content ∷ [])))
+  pub are : bytes ≡ frames filed.journal.value.framing.seed filed.journal.value.appender.offset (payloads_of (entries_at waiting (content ∷ [])))
   pub payload : IsPayload (payload_of (record { loose = waiting; content = content }))
 
 -- what is ready was added behind what waits
@@ -73,7 +73,7 @@ pub record Joins (ready : Ready) (old new : Waiting) : Type 0 where
   pub syncs : new.syncs ≡ record { before = old.syncs.before; behind = true }
   pub joins : new.joins ≡ old.joins
 
--- A write is made behind what waits. The shell writes its frame behind the others, at the place of the first, and syncs behind
+-- A write is made behind what waits. The shell writes its frame behind the others, at the offset of the first, and syncs behind
 -- them all. When it is settled, the bucket is at the state behind it, and its file has the record; what the first of them
 -- answers and what they leave when they are given up stays.
 pub record MakesMore (request : Request) (old : Waiting) (revision : ℕ) (new : Waiting) : Type 0 where
@@ -87,7 +87,7 @@ pub record MakesMore (request : Request) (old : Waiting) (revision : ℕ) (new :
   pub behind : new.syncs.behind ≡ true
   pub joins : new.joins ≡ old.joins
   pub step : IsStep (bucket_behind old) (calls.Write request) (Revision revision) (bucket_behind new)
-  pub bytes : new.bytes ≡ old.bytes ++ frames old.filed.journal.value.framing.seed old.filed.journal.value.appender.place
+  pub bytes : new.bytes ≡ old.bytes ++ frames old.filed.journal.value.framing.seed old.filed.journal.value.appender.offset
       (payloads_of (told_behind old (did (Wrote (write_for (asked request) revision)) ∷ [])))
   pub recorded : (state : State) (kept loose : List Entry) (at : IsAt lends never_fails state kept loose (durable_behind old)) →
       (k : List Entry) × (l : List Entry)

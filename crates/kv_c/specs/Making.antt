@@ -41,7 +41,7 @@ pub record WaitsFor (ready : Ready) (b : Bucketed) (f : Filed) (w : Waiting) : T
   pub bucket : w.bucket ≡ b
   pub next : w.next ≡ Some ready.next
   pub bytes : w.bytes ≡ ready.frames.items
-  pub at : w.at ≡ f.journal.value.appender.place
+  pub at : w.at ≡ f.journal.value.appender.offset
   pub told : w.told ≡ ready.told
   pub number : w.filed.number ≡ f.number
   pub works : w.filed.has_failed ≡ false
@@ -79,11 +79,11 @@ abbrev pub IsMade : Content → Ready → Content → Type 0
 IsMade (Bucket b (Some f) m) ready (Made w n) = (n ≡ m) × WaitsFor ready b f w
 IsMade old ready new = ⊥
 
--- A call was made, and waits for the shell: the bucket is as it was, and the shell writes at the place where the file ends. Where
+-- A call was made, and waits for the shell: the bucket is as it was, and the shell writes at the offset where the file ends. Where
 -- each act is synced it syncs behind that.
 pub record Waits (b : Bucketed) (f : Filed) (w : Waiting) : Type 0 where
   pub bucket : w.bucket ≡ b
-  pub at : w.at ≡ f.journal.value.appender.place
+  pub at : w.at ≡ f.journal.value.appender.offset
   pub number : w.filed.number ≡ f.number
   pub works : w.filed.has_failed ≡ false
   pub former : w.former ≡ None
@@ -222,7 +222,7 @@ pub record IsFound (config : Configuration) (mode : Sync) (seed : ℕ) (bytes : 
 
 -- The opening of the bucket of a file with these bytes waits for the shell. Of no bytes the bucket is new, and the shell writes
 -- what a file begins with. Else it is at the acts of what the bytes are read as, whether or not they begin with a checkpoint, and
--- the shell cuts the file off behind these, which end at the place.
+-- the shell cuts the file off behind these, which end at the offset.
 pub record IsOpened (config : Configuration) (mode : Sync) (seed of : ℕ) (bytes : List ℕ) (dropped : ℕ) (waiting : Waiting) : Type 0 where
   pub next : waiting.next ≡ None
   pub behind : waiting.syncs.behind ≡ true
@@ -234,7 +234,7 @@ pub record IsOpened (config : Configuration) (mode : Sync) (seed of : ℕ) (byte
       × (waiting.bytes ≡ beginning seed config) × (waiting.at ≡ 0)
   pub reopened : (bytes ≡ [] → ⊥) → (checkpointed : Bool)
       × IsReopenedOn lends never_fails config bytes (durable_of waiting.bucket waiting.filed) dropped checkpointed
-      × (waiting.bytes ≡ []) × (waiting.at ≡ waiting.filed.journal.value.appender.place)
+      × (waiting.bytes ≡ []) × (waiting.at ≡ waiting.filed.journal.value.appender.offset)
 
 abbrev pub OpensFile : Configuration → Sync → (seed number : ℕ) → List ℕ → ℕ → Option Content → Type 0
 OpensFile config sync seed number bytes dropped (Some (Made w m)) = IsOpened config sync seed number bytes dropped w

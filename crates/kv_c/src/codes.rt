@@ -93,10 +93,10 @@ pub(crate) fn refuse_refresh(refusal: KvError, floor: &mut u64) -> u64
     refusal.code()
 }
 
-/// The code of the refusal of an opening. The place up to which a damaged file is good is handed out.
+/// The code of the refusal of an opening. The offset up to which a damaged file is good is handed out.
 pub(crate) fn refuse_opening(refusal: DurableError, at: &mut u64) -> u64
     ensures code { result ≡ durable_code refusal }
-    ensures place { result ≡ 23 → refusal ≡ FileDamaged at.new }
+    ensures offset { result ≡ 23 → refusal ≡ FileDamaged at.new }
     ensures untold { ¬ (result ≡ 23) → at.new ≡ at.old }
 {
     if let DurableError::FileDamaged { at: told } = refusal {

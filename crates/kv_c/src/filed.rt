@@ -79,7 +79,7 @@ impl Filed {
             Keeps lends never_fails base (kept ++ loose) [] self.new.journal.value }
         ensures framing { self.new.journal.value.framing ≡ self.old.journal.value.framing }
         ensures sync { self.new.journal.value.appender.sync ≡ self.old.journal.value.appender.sync }
-        ensures place { self.new.journal.value.appender.place ≡ self.old.journal.value.appender.place }
+        ensures offset { self.new.journal.value.appender.offset ≡ self.old.journal.value.appender.offset }
         ensures same { (self.new.number ≡ self.old.number) × (self.new.has_failed ≡ self.old.has_failed) }
     {
         match self.journal.flush() {

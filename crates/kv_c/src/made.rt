@@ -141,7 +141,7 @@ impl Made {
     {
         let Ready { next, frames, told } = ready;
         let mut filed = filed;
-        let at = filed.journal.place();
+        let at = filed.journal.offset();
         let was_clean = filed.is_clean();
         let syncs = filed.add(&frames);
         Made {
@@ -206,7 +206,7 @@ impl Made {
         ensures { MakesSync bucket filed result }
     {
         let mut filed = filed;
-        let at = filed.journal.place();
+        let at = filed.journal.offset();
         filed.flush();
         Made {
             bucket,
@@ -232,7 +232,7 @@ impl Made {
         ensures { MakesEnd bucket filed result }
     {
         let mut filed = filed;
-        let at = filed.journal.place();
+        let at = filed.journal.offset();
         let syncs = filed.add(&frame);
         filed.flush();
         Made {
@@ -255,11 +255,11 @@ impl Made {
     pub(crate) fn opened(bucket: Ringed, filed: Filed, first: Vec<u8>) -> Made
         ensures parts { (result.bucket ≡ bucket) × (result.next ≡ None) × (result.filed ≡ filed) × (result.former ≡ None)
             × (result.bytes ≡ first.items) × (result.syncs.behind ≡ true) }
-        ensures old { first.items ≡ [] → result.at ≡ filed.journal.value.appender.place }
+        ensures old { first.items ≡ [] → result.at ≡ filed.journal.value.appender.offset }
         ensures new { (first.items ≡ [] → ⊥) → result.at ≡ 0 }
     {
         let at = if first.is_empty() {
-            filed.journal.place()
+            filed.journal.offset()
         } else {
             0
         };

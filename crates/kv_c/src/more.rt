@@ -29,11 +29,11 @@ use std::alloc::{AllocError, Global};
 fn frame_of(alloc: Global, filed: &Filed, payload: &[u8]) -> Result<Vec<u8>, AllocError>
     requires { IsPayload payload.now }
     ensures items { IfOk result (λ v.
-        v.items ≡ frames filed.now.journal.value.framing.seed filed.now.journal.value.appender.place (payload.now ∷ [])) }
+        v.items ≡ frames filed.now.journal.value.framing.seed filed.now.journal.value.appender.offset (payload.now ∷ [])) }
     ensures short { IfOk result (λ v. length v.items < 2 ^ 33) }
 {
     let mut frame = Vec::new(alloc);
-    Framing::new(filed.journal.seed()).push_frame(&mut frame, filed.journal.place(), payload)?;
+    Framing::new(filed.journal.seed()).push_frame(&mut frame, filed.journal.offset(), payload)?;
     Ok(frame)
 }
 

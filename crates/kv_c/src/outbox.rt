@@ -108,7 +108,7 @@ impl JournalFile for Outbox {
 
 // The shell puts what it is lent of a new file in the place of the empty one.
 impl ReplaceableFile<()> for Outbox {
-    fn replace(&mut self, _place: &(), _bytes: Vec<u8>) -> Result<(), ReplaceFault> {
+    fn replace(&mut self, _location: &(), _bytes: Vec<u8>) -> Result<(), ReplaceFault> {
         self.found = None;
         self.is_clean = true;
         Ok(())

@@ -26,7 +26,7 @@ payloads_append [] ys h k = k
 payloads_append (x ∷ xs) ys h k = (h.0, payloads_append xs ys h.1 k)
 
 -- where bytes that are added next stand
-module _ (seed : ℕ) (base : Base) (kept loose entries : List Entry) (place : ℕ) (bytes : List ℕ) (here : place ≡ length (file_of seed base kept ++ frames_behind seed base kept loose)) (is : bytes ≡ frames seed place (payloads_of entries)) where
+module _ (seed : ℕ) (base : Base) (kept loose entries : List Entry) (offset : ℕ) (bytes : List ℕ) (here : offset ≡ length (file_of seed base kept ++ frames_behind seed base kept loose)) (is : bytes ≡ frames seed offset (payloads_of entries)) where
   abbrev disk : List ℕ
   disk = file_of seed base kept
 
@@ -66,7 +66,7 @@ none_are_few journal none = λ n e some. (omega arith, omega (arith, none, some)
 
 module _ {F : Type 0} (has : F → List ℕ → List ℕ → Type 0) (usable : F → Bool) where
   pub added : (base : Base) (kept loose entries : List Entry) (old new : Journal F) (bytes : List ℕ) → Keeps has usable base kept loose old → CanFollow base (kept ++ loose) entries → length entries ≤ 1
-      → bytes ≡ frames old.framing.seed old.appender.place (payloads_of entries) → new.framing ≡ old.framing → new.config ≡ old.config → new.appender.sync ≡ old.appender.sync
+      → bytes ≡ frames old.framing.seed old.appender.offset (payloads_of entries) → new.framing ≡ old.framing → new.config ≡ old.config → new.appender.sync ≡ old.appender.sync
       → ((k l : List ℕ) → Has has usable k l old.appender → (m : List ℕ) × (n : List ℕ) × Adds k l bytes m n × Has has usable m n new.appender
       × ((c : ℕ) → old.appender.sync ≡ Every c → old.appender.waiting < c → AddsOne old.appender.waiting new.appender.waiting k l bytes m n))
       → ((n : ℕ) → old.appender.sync ≡ Every n → 0 < n → new.appender.waiting < n) → HasAdded has usable base kept loose entries new
@@ -75,7 +75,7 @@ module _ {F : Type 0} (has : F → List ℕ → List ℕ → Type 0) (usable : F
       let disk = file_of seed base kept in
       let more = frames_behind seed base kept loose in
       let there = on disk more keeps.bytes in
-      let here = keeps.bytes.place in
+      let here = keeps.bytes.offset in
       let lawful = lawful_append base.config (acts_before base) (kept ++ loose) entries keeps.lawful can.0 in
       let payloads = payloads_append (kept ++ loose) entries keeps.payloads can.1 in
       let own : new.framing.seed ≡ seed = ap (λ f. f.seed) same in
@@ -96,21 +96,21 @@ module _ {F : Type 0} (has : F → List ℕ → List ℕ → Type 0) (usable : F
         kept,
         loose ++ entries,
         inl (refl, refl),
-        keeps_now kept (loose ++ entries) (sym (append_assoc kept loose entries)) first (second ∙ loose_too seed base kept loose entries old.appender.place bytes here is) few,
+        keeps_now kept (loose ++ entries) (sym (append_assoc kept loose entries)) first (second ∙ loose_too seed base kept loose entries old.appender.offset bytes here is) few,
       ) in
       let alone : there.0 ≡ disk ++ more → there.1 ≡ bytes → AreFew entries new → HasAdded has usable base kept loose entries new =
       λ first second few. (
         kept ++ loose,
         entries,
         inr (inl (refl, refl)),
-        keeps_now (kept ++ loose) entries refl (first ∙ sym (file_append seed base kept loose)) (second ∙ bytes_are seed base kept loose entries old.appender.place bytes here is) few,
+        keeps_now (kept ++ loose) entries refl (first ∙ sym (file_append seed base kept loose)) (second ∙ bytes_are seed base kept loose entries old.appender.offset bytes here is) few,
       ) in
       let on_disk : there.0 ≡ (disk ++ more) ++ bytes → there.1 ≡ [] → AreFew [] new → HasAdded has usable base kept loose entries new =
       λ first second few. (
         (kept ++ loose) ++ entries,
         [],
         inr (inr (refl, refl)),
-        keeps_now ((kept ++ loose) ++ entries) [] (append-nil ((kept ++ loose) ++ entries)) (first ∙ all_of seed base kept loose entries old.appender.place bytes here is) second few,
+        keeps_now ((kept ++ loose) ++ entries) [] (append-nil ((kept ++ loose) ++ entries)) (first ∙ all_of seed base kept loose entries old.appender.offset bytes here is) second few,
       ) in
       by_sync old.appender.sync
       (λ not_asked.
@@ -134,12 +134,12 @@ module _ {F : Type 0} (has : F → List ℕ → List ℕ → Type 0) (usable : F
       ])
 
   pub left : (base : Base) (kept loose entries : List Entry) (old : Journal F) (file : F) (bytes : List ℕ) → Keeps has usable base kept loose old
-      → bytes ≡ frames old.framing.seed old.appender.place (payloads_of entries)
+      → bytes ≡ frames old.framing.seed old.appender.offset (payloads_of entries)
       → ((k l : List ℕ) → Has has usable k l old.appender → (m : List ℕ) × (n : List ℕ) × Fails k l bytes m n × has file m n) → IsLeft has old.framing.seed base kept (loose ++ entries) file
   left base kept loose entries old file bytes keeps is on =
       let seed = old.framing.seed in
       let there = on (file_of seed base kept) (frames_behind seed base kept loose) keeps.bytes in
-      (there.0, there.1, between_failed seed base kept loose entries old.appender.place bytes keeps.bytes.place is there.0 there.1 there.2, there.3)
+      (there.0, there.1, between_failed seed base kept loose entries old.appender.offset bytes keeps.bytes.offset is there.0 there.1 there.2, there.3)
 
   pub flushed : (base : Base) (kept loose : List Entry) (old new : Journal F) → Keeps has usable base kept loose old → new.framing ≡ old.framing → new.config ≡ old.config → new.appender.waiting ≡ 0
       → ((k l : List ℕ) → Has has usable k l old.appender → Has has usable (k ++ l) [] new.appender) → Keeps has usable base (kept ++ loose) [] new

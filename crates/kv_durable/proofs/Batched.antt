@@ -58,10 +58,10 @@ pub told_is : (requests : List Request) (state : State) (ws : List Write) → ac
 told_is requests state ws h = ap (λ (o : Result (List Write) BatchRefused). batch_of o) h
 
 pub batch_bytes : {F : Type 0} (old : Durable F) (requests : List Request) (first : ℕ) (version : Stored) (bytes : List ℕ) → IsBatch old.bucket requests first (record old.bucket { version = version }) → FramedBatch old requests bytes
-    → (state : State) → Represents state old.bucket → bytes ≡ frames old.journal.framing.seed old.journal.appender.place (payloads_of (told_next old.journal (told_by requests state)))
+    → (state : State) → Represents state old.bucket → bytes ≡ frames old.journal.framing.seed old.journal.appender.offset (payloads_of (told_next old.journal (told_by requests state)))
 batch_bytes old requests first version bytes batch framed state r =
     let done = batch state r in
-    subst (λ (cs : List Content). bytes ≡ frames old.journal.framing.seed old.journal.appender.place (payloads_of (told_next old.journal cs))) (sym (told_is requests state done.0 done.1.0))
+    subst (λ (cs : List Content). bytes ≡ frames old.journal.framing.seed old.journal.appender.offset (payloads_of (told_next old.journal cs))) (sym (told_is requests state done.0 done.1.0))
     (framed (map Wrote done.0) (same_records state.config (map asked requests) state.acts done.0 done.1.0)).are
 
 module _ {F : Type 0} (has : F → List ℕ → List ℕ → Type 0) (usable : F → Bool) where

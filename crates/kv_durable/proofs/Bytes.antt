@@ -1,8 +1,8 @@
 -- The bytes of a file, by its entries.
 use Rattle.std.proofs.Common.{◌≡◌, ℕ, ◌^◌, ◌<◌, List, [], ◌∷◌, ◌++◌, length, sym, ap, ◌∙◌, subst, append_assoc, append-nil, length-append}
 use Rattle.std.proofs.lemmas.List.{map-append, append_cancel_left}
-use Rattle.kv_frames.specs.Frames.{ArePayloads, frame, frames, place_after, BeginsWhole, Splits}
-use Rattle.kv_frames.proofs.Reading.{frames-append, place_is}
+use Rattle.kv_frames.specs.Frames.{ArePayloads, frame, frames, offset_after, BeginsWhole, Splits}
+use Rattle.kv_frames.proofs.Reading.{frames-append, offset_is}
 use Rattle.kv_model.specs.Configuration.{Configuration}
 use Rattle.kv_journal.specs.Header.{beginning, configuration_payload, header}
 use Rattle.kv_journal.specs.Entries.{Entry, payload_of, payloads_of, AreLawful}
@@ -15,9 +15,9 @@ abbrev pub start : ℕ → Base → ℕ
 start seed base = length (opening seed base)
 
 -- where they end
-pub end_is : (seed : ℕ) (base : Base) (entries : List Entry) → place_after (start seed base) (payloads_of entries) ≡ length (file_of seed base entries)
+pub end_is : (seed : ℕ) (base : Base) (entries : List Entry) → offset_after (start seed base) (payloads_of entries) ≡ length (file_of seed base entries)
 end_is seed base entries =
-    place_is seed (start seed base) (payloads_of entries) ∙ sym (length-append (opening seed base) (frames seed (start seed base) (payloads_of entries)))
+    offset_is seed (start seed base) (payloads_of entries) ∙ sym (length-append (opening seed base) (frames seed (start seed base) (payloads_of entries)))
 
 -- a file of more entries
 pub file_append : (seed : ℕ) (base : Base) (first second : List Entry) → file_of seed base (first ++ second) ≡ file_of seed base first ++ frames_behind seed base first second
@@ -33,8 +33,8 @@ file_append seed base first second =
 pub behind_append : (seed : ℕ) (base : Base) (first second third : List Entry) → frames_behind seed base first (second ++ third) ≡ frames_behind seed base first second ++ frames_behind seed base (first ++ second) third
 behind_append seed base first second third =
     let at = length (file_of seed base first) in
-    let there : place_after at (payloads_of second) ≡ length (file_of seed base (first ++ second)) =
-    place_is seed at (payloads_of second) ∙ sym (ap length (file_append seed base first second) ∙ length-append (file_of seed base first) (frames_behind seed base first second)) in
+    let there : offset_after at (payloads_of second) ≡ length (file_of seed base (first ++ second)) =
+    offset_is seed at (payloads_of second) ∙ sym (ap length (file_append seed base first second) ∙ length-append (file_of seed base first) (frames_behind seed base first second)) in
     ap (λ (ps : List (List ℕ)). frames seed at ps) (map-append payload_of second third)
     ∙ frames-append seed at (payloads_of second) (payloads_of third)
     ∙ ap (λ (n : ℕ). frames_behind seed base first second ++ frames seed n (payloads_of third)) there

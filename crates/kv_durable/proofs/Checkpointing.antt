@@ -7,7 +7,7 @@ use Rattle.kv_journal.specs.Records.{Content}
 use Rattle.kv_durable.specs.Bases.{Base}
 use Rattle.kv_durable.specs.Durables.{HasEither, IsAt, IsRecorded, IsReplaced, checkpoint_at}
 use Rattle.kv_durable.specs.Files.{file_of, frames_behind}
-use Rattle.kv_durable.specs.Journals.{HasEntries, Keeps, place_behind, told_next}
+use Rattle.kv_durable.specs.Journals.{HasEntries, Keeps, offset_behind, told_next}
 use Rattle.kv_durable.specs.declared.durable.Durable.{Durable}
 use Rattle.kv_durable.specs.declared.journal.Journal.{Journal}
 use Rattle.kv_durable.proofs.Bytes.{file_append}
@@ -15,14 +15,14 @@ use Rattle.kv_durable.proofs.Recording.{all_added}
 
 module _ {F : Type 0} (has : F → List ℕ → List ℕ → Type 0) (usable : F → Bool) where
   -- a journal ends behind all its entries
-  ends_at : (base : Base) (kept loose : List Entry) (journal : Journal F) → Keeps has usable base kept loose journal → journal.appender.place ≡ length (file_of journal.framing.seed base (kept ++ loose))
-  ends_at base kept loose journal keeps = keeps.bytes.place ∙ ap length (sym (file_append journal.framing.seed base kept loose))
+  ends_at : (base : Base) (kept loose : List Entry) (journal : Journal F) → Keeps has usable base kept loose journal → journal.appender.offset ≡ length (file_of journal.framing.seed base (kept ++ loose))
+  ends_at base kept loose journal keeps = keeps.bytes.offset ∙ ap length (sym (file_append journal.framing.seed base kept loose))
 
   module _ (later : State → State) (told : State → List Content) (old mid : Durable F) (recorded : IsRecorded has usable later told old mid) where
     -- where the journal ends behind the call
-    pub place_is : mid.journal.framing ≡ old.journal.framing → (state : State) (kept loose : List Entry) → IsAt has usable state kept loose old
-        → mid.journal.appender.place ≡ place_behind old.journal (told state)
-    place_is same state kept loose at =
+    pub offset_is : mid.journal.framing ≡ old.journal.framing → (state : State) (kept loose : List Entry) → IsAt has usable state kept loose old
+        → mid.journal.appender.offset ≡ offset_behind old.journal (told state)
+    offset_is same state kept loose at =
         let there = recorded state kept loose at in
         let seed = old.journal.framing.seed in
         let all = kept ++ loose in

@@ -33,7 +33,7 @@ wider seed base kept k maybe l disk loose front all between =
 module _ {F : Type 0} (has : F → List ℕ → List ℕ → Type 0) (usable : F → Bool) where
   -- the entry of a clean end can be added
   pub end_follows : (base : Base) (kept loose : List Entry) (acts : List Act) (journal : Journal F) (bytes : List ℕ) (last : ℕ) → acts ≡ acts_before base ++ acts_of (kept ++ loose) → IsFrameOf journal (closed last) bytes → last ≡ length (writes_of acts)
-      → CanFollow base (kept ++ loose) (told_next journal (end_of acts)) × (bytes ≡ frames journal.framing.seed journal.appender.place (payloads_of (told_next journal (end_of acts))))
+      → CanFollow base (kept ++ loose) (told_next journal (end_of acts)) × (bytes ≡ frames journal.framing.seed journal.appender.offset (payloads_of (told_next journal (end_of acts))))
   end_follows base kept loose acts journal bytes last is frame number =
       let own = subst (λ (n : ℕ). IsFrameOf journal (closed n) bytes) number frame in
       ((((omega (arith, few_loose journal), ap (λ (as' : List Act). length (writes_of as')) is), tt), (own.payload, tt)), own.are)

@@ -52,8 +52,8 @@ cut_parts has file len kept loose h =
     (take m kept, drop m kept ++ loose, sym (append_assoc (take m kept) (drop m kept) loose) ∙ ap (λ (w : List ℕ). w ++ loose) (take-append-drop m kept), h.2)
 
 -- what is read lies in front
-pub front_of : (base : Base) (bytes : List ℕ) (seed place : ℕ) (entries : List Entry) (rest : List ℕ) → Reads base bytes seed entries rest → place ≡ length (file_of seed base entries) → take place bytes ≡ file_of seed base entries
-front_of base bytes seed place entries rest reads here =
+pub front_of : (base : Base) (bytes : List ℕ) (seed offset : ℕ) (entries : List Entry) (rest : List ℕ) → Reads base bytes seed entries rest → offset ≡ length (file_of seed base entries) → take offset bytes ≡ file_of seed base entries
+front_of base bytes seed offset entries rest reads here =
     ap (λ (n : ℕ). take n bytes) here ∙ ap (take (length (file_of seed base entries))) reads.whole ∙ take-append_seam (file_of seed base entries) rest
 
 both_empty : (xs ys : List ℕ) → xs ++ ys ≡ [] → (xs ≡ []) × (ys ≡ [])
@@ -73,7 +73,7 @@ is_fresh config payloads none = record { same = refl; lawful = tt; stands = sym 
 -- the journal of what was found keeps its entries, whatever it goes on from
 abbrev pub KeepsFound : {F : Type 0} (has : F → List ℕ → List ℕ → Type 0) (usable : F → Bool) (new : F) → Found → Durable F → Type 0
 KeepsFound has usable new found durable = (base : Base) (entries : List Entry) → found.config.config ≡ base.config → ArePayloads (base_payloads base) → IsLawfulBase base → CanFollow base [] entries
-    → has new (file_of found.framing.seed base entries) [] → found.place ≡ length (file_of found.framing.seed base entries) → Keeps has usable base entries [] durable.journal
+    → has new (file_of found.framing.seed base entries) [] → found.offset ≡ length (file_of found.framing.seed base entries) → Keeps has usable base entries [] durable.journal
 
 module _ {F : Type 0} (has : F → List ℕ → List ℕ → Type 0) (usable : F → Bool) where
   pub found_at : (base : Base) (entries : List Entry) (found : Found) (durable : Durable F) → Represents (state_of base.config (acts_before base ++ acts_of entries)) found.bucket → durable.bucket ≡ found.bucket → Keeps has usable base entries [] durable.journal
@@ -94,7 +94,7 @@ module _ {F : Type 0} (has : F → List ℕ → List ℕ → Type 0) (usable : F
       let b = is_fresh config [] refl in
       record {
         has_seed = ap (λ f. f.seed) framing ∙ (is.new refl).0;
-        at = found_at (fresh config) [] found durable (is.represents (fresh config) b) bucket (keeps (fresh config) [] is.own tt tt (tt, tt) there (is.place (fresh config) b));
+        at = found_at (fresh config) [] found durable (is.represents (fresh config) b) bucket (keeps (fresh config) [] is.own tt tt (tt, tt) there (is.offset (fresh config) b));
         based = refl;
         none = told ∙ (is.new refl).2;
       }
@@ -117,7 +117,7 @@ module _ {F : Type 0} (has : F → List ℕ → List ℕ → Type 0) (usable : F
             let represents = subst (λ (c : Configuration). Represents (state_of c (acts_before base ++ acts_of entries)) found.bucket) (sym b.same) (i.represents base b) in
             record {
               reads = subst (λ (n : ℕ). Reads base bytes n entries read.0) (sym (ap (λ f. f.seed) framing)) reads;
-              at = found_at base entries found durable represents bucket (keeps base entries (i.own ∙ sym b.same) reads.first b.lawful (lawful, reads.each) (there base b) (i.place base b));
+              at = found_at base entries found durable represents bucket (keeps base entries (i.own ∙ sym b.same) reads.first b.lawful (lawful, reads.each) (there base b) (i.offset base b));
               based = refl;
               told = told ∙ i.told;
             };
@@ -133,7 +133,7 @@ IsGone has usable config seed old new found = (bytes : List ℕ) × (payloads : 
 module _ {F : Type 0} (has : F → List ℕ → List ℕ → Type 0) (usable : F → Bool) (config : Configuration) (seed : ℕ) (old mid new : F) (bytes : List ℕ)
     (are : (kept loose : List ℕ) → has old kept loose → bytes ≡ kept ++ loose) (same : (kept loose : List ℕ) → has old kept loose → has mid kept loose) (still : usable mid ≡ usable old) where
   pub begun_found : (r : Result Found DurableError) → bytes ≡ []
-      → IfOk r (λ found. Represents (empty config) found.bucket × (found.framing.seed ≡ seed) × (found.place ≡ length (beginning seed config)) × (found.dropped ≡ 0) × (found.checkpointed ≡ false) × (found.config.config ≡ config))
+      → IfOk r (λ found. Represents (empty config) found.bucket × (found.framing.seed ≡ seed) × (found.offset ≡ length (beginning seed config)) × (found.dropped ≡ 0) × (found.checkpointed ≡ false) × (found.config.config ≡ config))
       → OnOk r (usable mid ≡ true → has mid [] [] → has new (beginning seed config) []) → IfOk r (IsGone has usable config seed old new)
   begun_found (Err e) none ok file = tt
   begun_found (Ok found) none ok file =
@@ -147,7 +147,7 @@ module _ {F : Type 0} (has : F → List ℕ → List ℕ → Type 0) (usable : F
           plain = λ _. refl;
           knows = knows_fresh config found.checkpointed;
           represents = λ base b. subst (λ (acts : List Act). Represents (state_of config (acts ++ [])) found.bucket) (sym (none_before base b.stands)) ok.0;
-          place = λ base b. ok.2 ∙ ap length (sym (whole base b found.framing.seed ok.1));
+          offset = λ base b. ok.2 ∙ ap length (sym (whole base b found.framing.seed ok.1));
           new = λ _. (ok.1, refl, ok.3, refl, ok.4);
           read = λ some. absurd (some none);
         },
@@ -158,7 +158,7 @@ module _ {F : Type 0} (has : F → List ℕ → List ℕ → Type 0) (usable : F
 
   pub reads_found : (r : Result Found DurableError) → (bytes ≡ [] → ⊥)
       → IfOk r (λ found. (payloads : List (List ℕ)) × (entries : List Entry) × (rest : List ℕ) × IsFoundIn config bytes payloads entries rest found)
-      → IfOk r (λ found. usable mid ≡ true → (kept loose : List ℕ) → has mid kept loose → has new (take found.place (kept ++ loose)) []) → IfOk r (IsGone has usable config seed old new)
+      → IfOk r (λ found. usable mid ≡ true → (kept loose : List ℕ) → has mid kept loose → has new (take found.offset (kept ++ loose)) []) → IfOk r (IsGone has usable config seed old new)
   reads_found (Err e) some ok file = tt
   reads_found (Ok found) some ok file =
       let i = ok.3 in (
@@ -170,14 +170,14 @@ module _ {F : Type 0} (has : F → List ℕ → List ℕ → Type 0) (usable : F
           plain = i.tells.plain;
           knows = i.knows;
           represents = i.represents;
-          place = i.place;
+          offset = i.offset;
           new = λ none. absurd (some none);
           read = λ _. (ok.2, i);
         },
         are,
         (λ usable_old kept loose h base b.
             let there = file (still ∙ usable_old) kept loose (same kept loose h) in
-            let front = ap (take found.place) (sym (are kept loose h)) ∙ front_of base bytes found.framing.seed found.place ok.1 ok.2 (i.reads base b) (i.place base b) in
+            let front = ap (take found.offset) (sym (are kept loose h)) ∙ front_of base bytes found.framing.seed found.offset ok.1 ok.2 (i.reads base b) (i.offset base b) in
             subst (λ (w : List ℕ). has new w []) front there),
       )
 

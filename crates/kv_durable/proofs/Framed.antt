@@ -10,17 +10,17 @@ abbrev pub entry_of : ℕ → Content → Entry
 entry_of loose content = record { loose = loose; content = content }
 
 pub frame_is : {F : Type 0} (journal : Journal F) (content : Content) (loose : ℕ) (payload bytes : List ℕ) → loose ≡ loose_ahead journal → payload ≡ payload_of (record { loose = loose; content = content }) → IsPayload payload
-    → bytes ≡ frames journal.framing.seed journal.appender.place (payload ∷ []) → IsFrameOf journal content bytes
+    → bytes ≡ frames journal.framing.seed journal.appender.offset (payload ∷ []) → IsFrameOf journal content bytes
 frame_is journal content loose payload bytes ahead is fits framed =
     let own : payload ≡ payload_of (entry_of (loose_ahead journal) content) = is ∙ ap (λ (n : ℕ). payload_of (entry_of n content)) ahead in
     record {
-      are = framed ∙ ap (λ (p : List ℕ). frames journal.framing.seed journal.appender.place (p ∷ [])) own;
+      are = framed ∙ ap (λ (p : List ℕ). frames journal.framing.seed journal.appender.offset (p ∷ [])) own;
       payload = subst IsPayload own fits;
     }
 
 -- one frame more behind others
-pub pushed : (seed at place loose told : ℕ) (content : Content) (payload old new : List ℕ) → payload ≡ payload_of (entry_of loose content) → loose ≡ told → at ≡ place → IsPayload payload
-    → new ≡ old ++ frame seed at payload → (new ≡ old ++ frame seed place (payload_of (entry_of told content))) × IsPayload (payload_of (entry_of told content))
-pushed seed at place loose told content payload old new is same here fits on =
+pub pushed : (seed at offset loose told : ℕ) (content : Content) (payload old new : List ℕ) → payload ≡ payload_of (entry_of loose content) → loose ≡ told → at ≡ offset → IsPayload payload
+    → new ≡ old ++ frame seed at payload → (new ≡ old ++ frame seed offset (payload_of (entry_of told content))) × IsPayload (payload_of (entry_of told content))
+pushed seed at offset loose told content payload old new is same here fits on =
     let own : payload ≡ payload_of (entry_of told content) = is ∙ ap (λ (n : ℕ). payload_of (entry_of n content)) same in
     (on ∙ ap (λ (p : List ℕ). old ++ frame seed at p) own ∙ ap (λ (n : ℕ). old ++ frame seed n (payload_of (entry_of told content))) here, subst IsPayload own fits)

@@ -73,7 +73,7 @@ module _ {F : Type 0} (has : F → List ℕ → List ℕ → Type 0) (usable : F
 
   -- what a call told, and the state behind it
   pub record IsTold (later : State → State) (told : State → List Content) (old new : Durable F) (bytes : List ℕ) (state : State) : Type 0 where
-    pub are : bytes ≡ frames old.journal.framing.seed old.journal.appender.place (payloads_of (told_next old.journal (told state)))
+    pub are : bytes ≡ frames old.journal.framing.seed old.journal.appender.offset (payloads_of (told_next old.journal (told state)))
     pub lawful : AreLawful state.config state.acts (told_next old.journal (told state))
     pub payloads : ArePayloads (payloads_of (told_next old.journal (told state)))
     pub one : length (told_next old.journal (told state)) ≤ 1
@@ -91,7 +91,7 @@ module _ {F : Type 0} (has : F → List ℕ → List ℕ → Type 0) (usable : F
       let lawful = subst (λ (c : Configuration). IsLawful c (state.acts ++ act ∷ [])) (represents.config ∙ config) (subst (IsLawful new.bucket.version.config) acts represents.version.lawful) in
       let accepted = (lawful_behind state.config [] state.acts (act ∷ []) lawful).0 in
       record {
-        are = subst (λ (cs : List Content). bytes ≡ frames old.journal.framing.seed old.journal.appender.place (payloads_of (told_next old.journal cs))) back frame.are;
+        are = subst (λ (cs : List Content). bytes ≡ frames old.journal.framing.seed old.journal.appender.offset (payloads_of (told_next old.journal cs))) back frame.are;
         lawful = subst (λ (cs : List Content). AreLawful state.config state.acts (told_next old.journal cs)) back ((omega (arith, few_loose old.journal), accepted), tt);
         payloads = subst (λ (cs : List Content). ArePayloads (payloads_of (told_next old.journal cs))) back (frame.payload, tt);
         one = subst (λ (cs : List Content). length (told_next old.journal cs) ≤ 1) back (omega arith);
@@ -107,7 +107,7 @@ module _ {F : Type 0} (has : F → List ℕ → List ℕ → Type 0) (usable : F
       let back : did_all acts ∷ [] ≡ told state = sym is in
       let lawful = subst (λ (c : Configuration). IsLawful c (state.acts ++ acts)) (represents.config ∙ config) (subst (IsLawful new.bucket.version.config) on represents.version.lawful) in
       record {
-        are = subst (λ (cs : List Content). bytes ≡ frames old.journal.framing.seed old.journal.appender.place (payloads_of (told_next old.journal cs))) back frame.are;
+        are = subst (λ (cs : List Content). bytes ≡ frames old.journal.framing.seed old.journal.appender.offset (payloads_of (told_next old.journal cs))) back frame.are;
         lawful = subst (λ (cs : List Content). AreLawful state.config state.acts (told_next old.journal cs)) back ((omega (arith, few_loose old.journal), lawful_behind state.config [] state.acts acts lawful), tt);
         payloads = subst (λ (cs : List Content). ArePayloads (payloads_of (told_next old.journal cs))) back (frame.payload, tt);
         one = subst (λ (cs : List Content). length (told_next old.journal cs) ≤ 1) back (omega arith);
@@ -118,7 +118,7 @@ module _ {F : Type 0} (has : F → List ℕ → List ℕ → Type 0) (usable : F
 
   pub recorded : (later : State → State) (told : State → List Content) (old new : Durable F) (bytes : List ℕ) → Told later told old new bytes
       → ((base : Base) (kept loose entries : List Entry) → Keeps has usable base kept loose old.journal → CanFollow base (kept ++ loose) entries → length entries ≤ 1
-      → bytes ≡ frames old.journal.framing.seed old.journal.appender.place (payloads_of entries) → HasAdded has usable base kept loose entries new.journal)
+      → bytes ≡ frames old.journal.framing.seed old.journal.appender.offset (payloads_of entries) → HasAdded has usable base kept loose entries new.journal)
       → (old.journal.appender.sync ≡ Each → new.journal.appender.loose ≡ 0) → IsRecorded has usable later told old new
   recorded later told old new bytes tells on none = λ state kept loose at.
       let t = tells state at.represents in
@@ -142,9 +142,9 @@ module _ {F : Type 0} (has : F → List ℕ → List ℕ → Type 0) (usable : F
       )
 
   pub handed : (told : State → List Content) (old new : Durable F) (bytes : List ℕ)
-      → ((state : State) → Represents state old.bucket → bytes ≡ frames old.journal.framing.seed old.journal.appender.place (payloads_of (told_next old.journal (told state))))
+      → ((state : State) → Represents state old.bucket → bytes ≡ frames old.journal.framing.seed old.journal.appender.offset (payloads_of (told_next old.journal (told state))))
       → ((base : Base) (kept loose entries : List Entry) → Keeps has usable base kept loose old.journal
-      → bytes ≡ frames old.journal.framing.seed old.journal.appender.place (payloads_of entries) → IsLeft has old.journal.framing.seed base kept (loose ++ entries) new.journal.appender.file)
+      → bytes ≡ frames old.journal.framing.seed old.journal.appender.offset (payloads_of entries) → IsLeft has old.journal.framing.seed base kept (loose ++ entries) new.journal.appender.file)
       → IsHanded has usable told old new
   handed told old new bytes tells on = λ state kept loose at. on at.base kept loose (told_next old.journal (told state)) at.keeps (tells state at.represents)
 
@@ -170,13 +170,13 @@ module _ {F : Type 0} (has : F → List ℕ → List ℕ → Type 0) (usable : F
       )
 
 -- what is not stopped has a file that has not failed and has room
-pub not_stopped : {F : Type 0} (usable : F → Bool) (journal : Journal F) → is_stopped usable journal ≡ false → (usable journal.appender.file ≡ true) × (journal.appender.place < 2 ^ 62)
+pub not_stopped : {F : Type 0} (usable : F → Bool) (journal : Journal F) → is_stopped usable journal ≡ false → (usable journal.appender.file ≡ true) × (journal.appender.offset < 2 ^ 62)
 not_stopped usable journal is =
-    let parts = or_parts (not (usable journal.appender.file)) (nat_le 4611686018427387904 journal.appender.place) is in
-    (not-false (usable journal.appender.file) parts.0, omega (arith, leb-false 4611686018427387904 journal.appender.place parts.1))
+    let parts = or_parts (not (usable journal.appender.file)) (nat_le 4611686018427387904 journal.appender.offset) is in
+    (not-false (usable journal.appender.file) parts.0, omega (arith, leb-false 4611686018427387904 journal.appender.offset parts.1))
 
 -- a call of the file has failed
 pub stopped_by : {F T E : Type 0} (usable : F → Bool) (was : Bool) (journal : Journal F) (e : E) (result : Result T E) → result ≡ Err e → usable journal.appender.file ≡ (was && is_ok result) → is_stopped usable journal ≡ true
 stopped_by usable was journal e result is h =
     let failed : usable journal.appender.file ≡ false = h ∙ and_right was (is_ok result) (ap (λ r. is_ok r) is) in
-    ap (λ b. not b || nat_le 4611686018427387904 journal.appender.place) failed
+    ap (λ b. not b || nat_le 4611686018427387904 journal.appender.offset) failed

@@ -27,9 +27,9 @@ by_fault Unchanged here there = here refl
 by_fault Unknown here there = there refl
 
 module _ {F : Type 0} (has : F → List ℕ → List ℕ → Type 0) (usable : F → Bool) where
-  pub begins : (base : Base) (file : F) (seed place : ℕ) (bytes : List ℕ) (new : Journal F) → bytes ≡ opening seed base → place ≡ length bytes → has file bytes []
-      → (has file (file_of seed base []) [] → place ≡ length (file_of seed base []) → Keeps has usable base [] [] new) → Keeps has usable base [] [] new
-  begins base file seed place bytes new is long there on =
+  pub begins : (base : Base) (file : F) (seed offset : ℕ) (bytes : List ℕ) (new : Journal F) → bytes ≡ opening seed base → offset ≡ length bytes → has file bytes []
+      → (has file (file_of seed base []) [] → offset ≡ length (file_of seed base []) → Keeps has usable base [] [] new) → Keeps has usable base [] [] new
+  begins base file seed offset bytes new is long there on =
       let whole : bytes ≡ file_of seed base [] = is ∙ sym (append-nil (opening seed base)) in
       on (subst (λ (w : List ℕ). has file w []) whole there) (long ∙ ap length whole)
 

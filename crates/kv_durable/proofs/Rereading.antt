@@ -1,6 +1,6 @@
 -- What is found in the bytes of a file, and whether they show damage.
 use Rattle.std.proofs.Common.{◌≡◌, ℕ, Bool, List, length, drop, sym, ◌∙◌, subst}
-use Rattle.kv_frames.specs.Frames.{Splits, place_after}
+use Rattle.kv_frames.specs.Frames.{Splits, offset_after}
 use Rattle.kv_model.specs.Acts.{Act}
 use Rattle.kv_model.specs.Configuration.{Configuration, IsLegal}
 use Rattle.kv_store.specs.Standing.{StandsFor}
@@ -14,23 +14,23 @@ use Rattle.kv_durable.specs.Starts.{IsStarted}
 use Rattle.kv_durable.specs.declared.start.Started.{Started}
 use Rattle.kv_durable.proofs.Readings.{damage_shows, end_of_base, end_there, reads, stands, tells}
 
--- whatever base the bytes go on from, these entries are read of them, up to this place, and then this rest
+-- whatever base the bytes go on from, these entries are read of them, up to this offset, and then this rest
 pub record IsFound (config : Configuration) (bytes : List ℕ) (seed : ℕ) (payloads : List (List ℕ)) (checkpointed : Bool) (entries : List Entry) (rest tail : List ℕ) (end : ℕ) : Type 0 where
   pub tells : TellsBase config bytes payloads checkpointed
   pub read : (base : Base) → IsBaseOf config payloads base → Reads base bytes seed entries rest
   pub here : (base : Base) → IsBaseOf config payloads base → end ≡ length (file_of seed base entries)
   pub behind : tail ≡ rest
 
-module _ (config : Configuration) (bytes : List ℕ) (seed place : ℕ) (first front_rest : List ℕ) (begins : BeginsWith bytes seed (configuration_payload config) front_rest) (here : place ≡ length (beginning seed config)) (behind : first ≡ drop place bytes) (payloads : List (List ℕ)) (behind_start : List ℕ) (started : Started) (is : IsStarted config seed place first payloads behind_start started) (left : List ℕ) (is_left : left ≡ drop started.place bytes) (entries : List Entry) (rest : List ℕ) (end : ℕ) (tail : List ℕ) (splits : Splits seed started.place left (payloads_of entries) rest) (lawful : (before : List Act) → StandsFor before started.version → AreLawful started.version.config before entries) (ends : end ≡ place_after started.place (payloads_of entries)) (is_tail : tail ≡ drop end bytes) where
+module _ (config : Configuration) (bytes : List ℕ) (seed offset : ℕ) (first front_rest : List ℕ) (begins : BeginsWith bytes seed (configuration_payload config) front_rest) (here : offset ≡ length (beginning seed config)) (behind : first ≡ drop offset bytes) (payloads : List (List ℕ)) (behind_start : List ℕ) (started : Started) (is : IsStarted config seed offset first payloads behind_start started) (left : List ℕ) (is_left : left ≡ drop started.offset bytes) (entries : List Entry) (rest : List ℕ) (end : ℕ) (tail : List ℕ) (splits : Splits seed started.offset left (payloads_of entries) rest) (lawful : (before : List Act) → StandsFor before started.version → AreLawful started.version.config before entries) (ends : end ≡ offset_after started.offset (payloads_of entries)) (is_tail : tail ≡ drop end bytes) where
   pub found : IsFound config bytes seed payloads started.checkpointed entries rest tail end
   found =
-      let there = stands config bytes seed place first front_rest begins here behind payloads behind_start started is left is_left in
+      let there = stands config bytes seed offset first front_rest begins here behind payloads behind_start started is left is_left in
       record {
-        tells = tells config bytes seed place first front_rest begins here behind payloads behind_start started is;
-        read = λ base of. reads config bytes seed payloads started.place left there base of entries rest
+        tells = tells config bytes seed offset first front_rest begins here behind payloads behind_start started is;
+        read = λ base of. reads config bytes seed payloads started.offset left there base of entries rest
             (subst (λ (k : Configuration). AreLawful k (acts_before base) entries) (is.same ∙ sym of.same) (lawful (acts_before base) (is.stands base of))) splits;
-        here = λ base of. end_of_base config bytes seed payloads started.place left there base of entries end ends;
-        behind = is_tail ∙ (end_there config bytes seed payloads started.place left there entries rest end splits ends).1;
+        here = λ base of. end_of_base config bytes seed payloads started.offset left there base of entries end ends;
+        behind = is_tail ∙ (end_there config bytes seed payloads started.offset left there entries rest end splits ends).1;
       }
 
   -- where another reading of the bytes shows damage, this one does, and the other way

@@ -2,7 +2,7 @@
 use Rattle.std.proofs.Common.{◌≡◌, ℕ, Bool, true, false, List, [], ◌∷◌, ◌++◌, Option, Some, None, map, refl, sym, ap, ◌∙◌, subst}
 use Rattle.std.specs.Prelude.{Result, Ok, Err, IfErr}
 use Rattle.std.proofs.lemmas.Bool.{true≢false}
-use Rattle.kv_frames.specs.Frames.{ArePayloads, Splits, frames, place_after}
+use Rattle.kv_frames.specs.Frames.{ArePayloads, Splits, frames, offset_after}
 use Rattle.kv_model.specs.Acceptance.{IsLawful}
 use Rattle.kv_model.specs.Acts.{Act, Write}
 use Rattle.kv_model.specs.Configuration.{Configuration, IsLegal}
@@ -52,12 +52,12 @@ knows_fresh config checkpointed = (fresh config, record { same = refl; lawful = 
 
 pub plain_start : (config : Configuration) (seed at : ℕ) (bytes : List ℕ) (empty : Stored) → empty.config ≡ config → StandsFor [] empty
     → ((c : Checkpoint) (rest : List ℕ) → ArePayloads (checkpoint_payloads c) → bytes ≡ frames seed at (checkpoint_payloads c) ++ rest → ⊥)
-    → IsStarted config seed at bytes [] bytes (record { version = empty; place = at; checkpointed = false })
+    → IsStarted config seed at bytes [] bytes (record { version = empty; offset = at; checkpointed = false })
 plain_start config seed at bytes empty same stands none = record {
   same = same;
   whole = refl;
   fit = tt;
-  place = refl;
+  offset = refl;
   plain = λ _. refl;
   some = λ e _. true≢false (sym e);
   knows = knows_fresh config false;
@@ -74,13 +74,13 @@ module _ (config : Configuration) (seed at : ℕ) (bytes : List ℕ) (legal : Is
       let same = only acts rest b.lawful (subst ArePayloads (sym b.stands) fit) (whole ∙ ap (λ (ps : List (List ℕ)). frames seed at ps ++ rest) (sym b.stands)) in
       stands_again config acts version legal b.lawful (subst (λ (d : Checkpoint). IsRestored config d version) (sym same) is)
 
-  pub is_started : (version : Stored) (place : ℕ) → KnowsBase config (checkpoint_payloads c) true → IsRestored config c version → place ≡ place_after at (checkpoint_payloads c)
-      → IsStarted config seed at bytes (checkpoint_payloads c) rest (record { version = version; place = place; checkpointed = true })
-  is_started version place knows is there = record {
+  pub is_started : (version : Stored) (offset : ℕ) → KnowsBase config (checkpoint_payloads c) true → IsRestored config c version → offset ≡ offset_after at (checkpoint_payloads c)
+      → IsStarted config seed at bytes (checkpoint_payloads c) rest (record { version = version; offset = offset; checkpointed = true })
+  is_started version offset knows is there = record {
     same = is.same;
     whole = whole;
     fit = fit;
-    place = there;
+    offset = there;
     plain = λ e. absurd (true≢false e);
     some = λ _. not_nothing c;
     knows = knows;

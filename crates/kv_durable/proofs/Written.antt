@@ -76,13 +76,13 @@ abbrev FramesWrite : {F : Type 0} → Durable F → Request → List ℕ → Typ
 FramesWrite old request bytes = (revision : ℕ) → IsFrameOf old.journal (did (Wrote (write_for (asked request) revision))) bytes
 
 pub bytes_of : {F : Type 0} (old : Durable F) (request : Request) (bytes : List ℕ) → FramesWrite old request bytes → (state : State) → IsTaken request state
-    → bytes ≡ frames old.journal.framing.seed old.journal.appender.place (payloads_of (told_next old.journal (told_by request state)))
+    → bytes ≡ frames old.journal.framing.seed old.journal.appender.offset (payloads_of (told_next old.journal (told_by request state)))
 bytes_of old request bytes frame state taken =
-    subst (λ (cs : List Content). bytes ≡ frames old.journal.framing.seed old.journal.appender.place (payloads_of (told_next old.journal cs))) (sym (told_of request state taken))
+    subst (λ (cs : List Content). bytes ≡ frames old.journal.framing.seed old.journal.appender.offset (payloads_of (told_next old.journal cs))) (sym (told_of request state taken))
     (frame (length (writes_of state.acts) + 1)).are
 
 pub write_bytes : {F : Type 0} (old : Durable F) (request : Request) (version : Stored) (bytes : List ℕ) → Accepts old.bucket request version → FramesWrite old request bytes
-    → (state : State) → Represents state old.bucket → bytes ≡ frames old.journal.framing.seed old.journal.appender.place (payloads_of (told_next old.journal (told_by request state)))
+    → (state : State) → Represents state old.bucket → bytes ≡ frames old.journal.framing.seed old.journal.appender.offset (payloads_of (told_next old.journal (told_by request state)))
 write_bytes old request version bytes accepts frame state r =
     let wrote = accepted_from old.bucket request version state accepts r in
     bytes_of old request bytes frame state (wrote.0, wrote.1.0)

@@ -29,7 +29,7 @@ pub record Keeps {F : Type 0} (has : F → List ℕ → List ℕ → Type 0) (us
 
 -- nothing more is added to a file that has failed, or that has 2^62 bytes
 abbrev pub is_stopped : {F : Type 0} → (F → Bool) → Journal F → Bool
-is_stopped usable journal = not (usable journal.appender.file) || nat_le 4611686018427387904 journal.appender.place
+is_stopped usable journal = not (usable journal.appender.file) || nat_le 4611686018427387904 journal.appender.offset
 
 -- how many bytes an entry that is added next says are loose before it: where more than a gibibyte are, these are brought onto
 -- the disk first
@@ -47,8 +47,8 @@ abbrev pub told_next : {F : Type 0} → Journal F → List Content → List Entr
 told_next journal contents = entries_at (loose_ahead journal) contents
 
 -- where a journal ends behind the entries that tell this next
-abbrev pub place_behind : {F : Type 0} → Journal F → List Content → ℕ
-place_behind journal contents = journal.appender.place + length (frames journal.framing.seed journal.appender.place (payloads_of (told_next journal contents)))
+abbrev pub offset_behind : {F : Type 0} → Journal F → List Content → ℕ
+offset_behind journal contents = journal.appender.offset + length (frames journal.framing.seed journal.appender.offset (payloads_of (told_next journal contents)))
 
 -- these entries can be added behind those
 abbrev pub CanFollow : Base → (before entries : List Entry) → Type 0
@@ -68,7 +68,7 @@ HasEntries has seed base kept loose file = has file (file_of seed base kept) (fr
 
 -- the bytes are the frame of the entry that tells this next, which is a payload
 pub record IsFrameOf {F : Type 0} (journal : Journal F) (content : Content) (bytes : List ℕ) : Type 0 where
-  pub are : bytes ≡ frames journal.framing.seed journal.appender.place (payloads_of (told_next journal (content ∷ [])))
+  pub are : bytes ≡ frames journal.framing.seed journal.appender.offset (payloads_of (told_next journal (content ∷ [])))
   pub payload : IsPayload (payload_of (record { loose = loose_ahead journal; content = content }))
 
 -- Bytes were added to a journal: whatever entries it kept, if the bytes are the frame of one entry that can be added behind
@@ -76,12 +76,12 @@ pub record IsFrameOf {F : Type 0} (journal : Journal F) (content : Content) (byt
 abbrev pub AddsFrames : {F : Type 0} → (F → List ℕ → List ℕ → Type 0) → (F → Bool) → List ℕ → (old new : Journal F) → Type 0
 AddsFrames has usable bytes old new = (base : Base) (kept loose entries : List Entry) → Keeps has usable base kept loose old →
     CanFollow base (kept ++ loose) entries → length entries ≤ 1 →
-    bytes ≡ frames old.framing.seed old.appender.place (payloads_of entries) → HasAdded has usable base kept loose entries new
+    bytes ≡ frames old.framing.seed old.appender.offset (payloads_of entries) → HasAdded has usable base kept loose entries new
 
 -- bytes were not added, or in part
 abbrev pub LeavesFrames : {F : Type 0} → (F → List ℕ → List ℕ → Type 0) → (F → Bool) → List ℕ → (old : Journal F) → F → Type 0
 LeavesFrames has usable bytes old file = (base : Base) (kept loose entries : List Entry) → Keeps has usable base kept loose old →
-    bytes ≡ frames old.framing.seed old.appender.place (payloads_of entries) →
+    bytes ≡ frames old.framing.seed old.appender.offset (payloads_of entries) →
     IsLeft has old.framing.seed base kept (loose ++ entries) file
 
 -- the record of this request was added, and all is on the disk where that is due

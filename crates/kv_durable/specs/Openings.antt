@@ -66,7 +66,7 @@ pub record IsRecovered (config : Configuration) (bytes : List ℕ) (payloads : L
   pub knows : KnowsBase config payloads recovered.checkpointed
   pub reads : (base : Base) → IsBaseOf config payloads base → Reads base bytes recovered.framing.seed entries rest
   pub stands : (base : Base) → IsBaseOf config payloads base → StandsFor (acts_before base ++ acts_of entries) recovered.version
-  pub place : (base : Base) → IsBaseOf config payloads base → recovered.place ≡ length (file_of recovered.framing.seed base entries)
+  pub offset : (base : Base) → IsBaseOf config payloads base → recovered.offset ≡ length (file_of recovered.framing.seed base entries)
 
 -- A file with these bytes was opened: whatever base it goes on from, it was opened so.
 pub record IsReopenedOn {F : Type 0} (has : F → List ℕ → List ℕ → Type 0) (usable : F → Bool) (config : Configuration) (bytes : List ℕ) (durable : Durable F) (dropped : ℕ) (checkpointed : Bool) : Type 0 where
@@ -84,15 +84,15 @@ pub record IsFoundIn (config : Configuration) (bytes : List ℕ) (payloads : Lis
   pub knows : KnowsBase config payloads found.checkpointed
   pub reads : (base : Base) → IsBaseOf config payloads base → Reads base bytes found.framing.seed entries rest
   pub represents : (base : Base) → IsBaseOf config payloads base → Represents (state_of config (acts_before base ++ acts_of entries)) found.bucket
-  pub place : (base : Base) → IsBaseOf config payloads base → found.place ≡ length (file_of found.framing.seed base entries)
+  pub offset : (base : Base) → IsBaseOf config payloads base → found.offset ≡ length (file_of found.framing.seed base entries)
 
 -- what was found in bytes, of which an empty list is made a file of this seed: the bucket of these entries, which end at the
--- place, and how many bytes stand behind them
+-- offset, and how many bytes stand behind them
 pub record IsFound (config : Configuration) (seed : ℕ) (bytes : List ℕ) (payloads : List (List ℕ)) (entries : List Entry) (found : Found) : Type 0 where
   pub own : found.config.config ≡ config
   pub plain : found.checkpointed ≡ false → payloads ≡ []
   pub knows : KnowsBase config payloads found.checkpointed
   pub represents : (base : Base) → IsBaseOf config payloads base → Represents (state_of config (acts_before base ++ acts_of entries)) found.bucket
-  pub place : (base : Base) → IsBaseOf config payloads base → found.place ≡ length (file_of found.framing.seed base entries)
+  pub offset : (base : Base) → IsBaseOf config payloads base → found.offset ≡ length (file_of found.framing.seed base entries)
   pub new : bytes ≡ [] → (found.framing.seed ≡ seed) × (entries ≡ []) × (found.dropped ≡ 0) × (payloads ≡ []) × (found.checkpointed ≡ false)
   pub read : (bytes ≡ [] → ⊥) → (rest : List ℕ) × IsFoundIn config bytes payloads entries rest found

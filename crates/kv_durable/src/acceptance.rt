@@ -21,7 +21,7 @@ impl<F: JournalFile> Durable<F> {
     /// Adds the frames to the file, brings all onto the disk where that is due, and only then puts the version in place.
     pub(crate) fn keep(&mut self, prepared: Prepared) -> Result<(), FileFault>
         requires steps { (calls : List ACall) × LeadThere calls self.old.bucket (record self.old.bucket { version = prepared.next }) }
-        requires room { self.old.journal.appender.place < 2 ^ 62 }
+        requires room { self.old.journal.appender.offset < 2 ^ 62 }
         requires short { length prepared.frames.items < 2 ^ 33 }
         ensures bucket { OnOk result (self.new.bucket ≡ record self.old.bucket { version = prepared.next }) }
         ensures unchanged { OnErr result (self.new.bucket ≡ self.old.bucket) }

@@ -44,7 +44,7 @@ pub(crate) fn file_of(
 }
 
 impl<F: JournalFile> Durable<F> {
-    /// Replaces the file, where it lies in such a place, by one with this seed that has what the bucket stores, and none of the
+    /// Replaces the file, where it lies at such a location, by one with this seed that has what the bucket stores, and none of the
     /// acts that led to it. Choose the seed at random, and another for each file: a disk can leave blocks of the old file in
     /// the new one. Whatever a crash leaves, it is the old file or the whole new one, and both are of the same bucket.
     ///
@@ -52,7 +52,7 @@ impl<F: JournalFile> Durable<F> {
     /// its journal tells. After a fault whose outcome is not known, nothing more is written.
     ///
     /// It makes the new file in memory: a frame of each stored write, and one of the numbers.
-    pub fn checkpoint<P>(&mut self, place: &P, seed: u64) -> Result<(), DurableError>
+    pub fn checkpoint<P>(&mut self, location: &P, seed: u64) -> Result<(), DurableError>
     where
         F: ReplaceableFile<P>,
         ensures ok { OnOk result (IsReplaced F.has F.usable (λ state. state) self.old self.new) }
@@ -74,7 +74,7 @@ impl<F: JournalFile> Durable<F> {
     {
         let bucket = &self.bucket;
         self.journal
-            .replace_by_checkpoint(bucket.alloc(), place, seed, bucket.version())
+            .replace_by_checkpoint(bucket.alloc(), location, seed, bucket.version())
     }
 }
 
@@ -101,14 +101,14 @@ impl<F: JournalFile + Drop> Journal<F> {
         let other = Framing::new(seed);
         let bytes = file_of(alloc, &other, &self.config, version)?;
         let config = OwnConfig::copy_of(alloc, &self.config.config)?;
-        let place = bytes.len() as u64;
-        let journal = Journal::new(file, other, config, place, self.appender.mode());
+        let offset = bytes.len() as u64;
+        let journal = Journal::new(file, other, config, offset, self.appender.mode());
         Ok((journal, bytes))
     }
 }
 
 impl<F: JournalFile> Journal<F> {
-    /// Replaces the file, where it lies in such a place, by one with this seed that has what the version stores, as
+    /// Replaces the file, where it lies at such a location, by one with this seed that has what the version stores, as
     /// `Durable::checkpoint` does it of its bucket: for a layer that has the bucket and its journal side by side. The version is to
     /// be that of the bucket whose journal this is. Choose the seed as for `Durable::checkpoint`.
     ///
@@ -117,7 +117,7 @@ impl<F: JournalFile> Journal<F> {
     pub fn replace_by_checkpoint<P>(
         &mut self,
         alloc: Global,
-        place: &P,
+        location: &P,
         seed: u64,
         version: &Version,
     ) -> Result<(), DurableError>
@@ -146,7 +146,7 @@ impl<F: JournalFile> Journal<F> {
         self.may_add()?;
         let next = Framing::new(seed);
         let bytes = file_of(alloc, &next, &self.config, version)?;
-        self.replace(place, next, bytes)?;
+        self.replace(location, next, bytes)?;
         Ok(())
     }
 }

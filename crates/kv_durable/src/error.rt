@@ -20,7 +20,7 @@ pub enum DurableError {
     /// checkpoint that failed and left the old file in use.
     #[error("FileFault")]
     FileFault,
-    /// The file was damaged after it had come onto the disk, or is no journal. Its bytes are good up to this place.
+    /// The file was damaged after it had come onto the disk, or is no journal. Its bytes are good up to this offset.
     #[error("FileDamaged")]
     FileDamaged { at: u64 },
     /// Another process, or another opening in this one, has the file. A process that has ended has none.

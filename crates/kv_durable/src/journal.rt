@@ -28,17 +28,17 @@ pub struct Journal<F: JournalFile> {
 }
 
 impl<F: JournalFile> Journal<F> {
-    /// The journal of a file whose frames are written so, and that ends at this place, all of it on the disk.
+    /// The journal of a file whose frames are written so, and that ends at this offset, all of it on the disk.
     pub(crate) fn new(
         file: F,
         framing: Framing,
         config: OwnConfig,
-        place: u64,
+        offset: u64,
         sync: Sync,
     ) -> Journal<F>
         ensures keeps { (base : Base) (entries : List Entry) → framing.seed < 2 ^ 64 → config.config ≡ base.config → ArePayloads (base_payloads base) →
             IsLawfulBase base → CanFollow base [] entries → F.usable file ≡ true →
-            F.has file (file_of framing.seed base entries) [] → place ≡ length (file_of framing.seed base entries) →
+            F.has file (file_of framing.seed base entries) [] → offset ≡ length (file_of framing.seed base entries) →
             Keeps F.has F.usable base entries [] result }
         ensures framing { result.framing ≡ framing }
         ensures file { result.appender.file ≡ file }
@@ -47,7 +47,7 @@ impl<F: JournalFile> Journal<F> {
         Journal {
             framing,
             config,
-            appender: Appender::new(file, place, sync),
+            appender: Appender::new(file, offset, sync),
         }
     }
 
@@ -66,10 +66,10 @@ impl<F: JournalFile> Journal<F> {
     }
 
     /// Where the file ends.
-    pub fn place(&self) -> u64
-        ensures { result ≡ self.now.appender.place }
+    pub fn offset(&self) -> u64
+        ensures { result ≡ self.now.appender.offset }
     {
-        self.appender.place()
+        self.appender.offset()
     }
 
     /// The file, to which nothing more is added.
@@ -88,7 +88,7 @@ impl<F: JournalFile> Journal<F> {
     pub fn is_stopped(&self) -> bool
         ensures { result ≡ is_stopped F.usable self.now }
     {
-        !self.appender.file().is_usable() || self.appender.place() >= FULL
+        !self.appender.file().is_usable() || self.appender.offset() >= FULL
     }
 
     /// Refused where nothing more is added.
@@ -114,18 +114,18 @@ impl<F: JournalFile> Journal<F> {
     pub(crate) fn frame_of(&self, alloc: Global, payload: &[u8]) -> Result<Vec<u8>, AllocError>
         requires { IsPayload payload.now }
         ensures items { IfOk result
-            (λ v. v.items ≡ frames self.now.framing.seed self.now.appender.place (payload.now ∷ [])) }
+            (λ v. v.items ≡ frames self.now.framing.seed self.now.appender.offset (payload.now ∷ [])) }
         ensures short { IfOk result (λ v. length v.items < 2 ^ 33) }
     {
         let mut frame = Vec::with_capacity(alloc, 8 + payload.len())?;
         self.framing
-            .push_frame(&mut frame, self.appender.place(), payload)?;
+            .push_frame(&mut frame, self.appender.offset(), payload)?;
         Ok(frame)
     }
 
     /// Adds the frame of an entry, and brings all onto the disk where that is due.
     pub fn add(&mut self, bytes: &[u8]) -> Result<(), FileFault>
-        requires room { self.old.appender.place < 2 ^ 62 }
+        requires room { self.old.appender.offset < 2 ^ 62 }
         requires short { length bytes.now < 2 ^ 33 }
         ensures ok { OnOk result (AddsFrames F.has F.usable bytes.now self.old self.new) }
         ensures err { OnErr result (LeavesFrames F.has F.usable bytes.now self.old self.new.appender.file) }
@@ -152,7 +152,7 @@ impl<F: JournalFile> Journal<F> {
         ensures none { OnOk result (self.new.appender.loose ≡ 0) }
         ensures framing { self.new.framing ≡ self.old.framing }
         ensures sync { self.new.appender.sync ≡ self.old.appender.sync }
-        ensures place { self.new.appender.place ≡ self.old.appender.place }
+        ensures offset { self.new.appender.offset ≡ self.old.appender.offset }
         ensures usable { F.usable self.new.appender.file ≡ (F.usable self.old.appender.file && is_ok result) }
         ensures failed { OnErr result (F.usable self.old.appender.file ≡ true →
             F.faults self.old.appender.file < F.faults self.new.appender.file) }
@@ -163,7 +163,7 @@ impl<F: JournalFile> Journal<F> {
     /// Puts in the place of the file one that has these bytes, whose frames are written so.
     pub(crate) fn replace<P>(
         &mut self,
-        place: &P,
+        location: &P,
         framing: Framing,
         bytes: Vec<u8>,
     ) -> Result<(), ReplaceFault>
@@ -182,12 +182,12 @@ impl<F: JournalFile> Journal<F> {
             ⊎ HasEntries F.has framing.seed base [] [] self.new.appender.file }
         ensures stops { IsErrOf result Unknown → is_stopped F.usable self.new ≡ true }
         ensures stays { OnErr result (self.new.framing ≡ self.old.framing) }
-        ensures place { OnErr result (self.new.appender.place ≡ self.old.appender.place) }
+        ensures offset { OnErr result (self.new.appender.offset ≡ self.old.appender.offset) }
         ensures sync { self.new.appender.sync ≡ self.old.appender.sync }
         ensures failed { OnErr result (F.usable self.old.appender.file ≡ true →
             F.faults self.old.appender.file < F.faults self.new.appender.file) }
     {
-        match self.appender.replace(place, bytes) {
+        match self.appender.replace(location, bytes) {
             Ok(()) => {
                 self.framing = framing;
                 Ok(())

@@ -22,7 +22,7 @@ mod write;
 pub use durable::{Durable, NotDone};
 pub use error::{BatchError, DurableError};
 pub use journal::Journal;
-pub use kv_file::{JournalFile, OpenFault, ReplaceableFile, Sync, SystemFile, SystemPlace};
+pub use kv_file::{JournalFile, OpenFault, ReplaceableFile, Sync, SystemFile, SystemLocation};
 pub use open::Opened;
 pub use recovery::{Recovered, recover};
 pub use shrinking::Shrunk;

@@ -49,7 +49,7 @@ struct Found {
     bucket: Bucket,
     config: OwnConfig,
     framing: Framing,
-    place: u64,
+    offset: u64,
     dropped: u64,
     checkpointed: bool,
 }
@@ -82,7 +82,11 @@ fn beginning_of(alloc: Global, framing: &Framing, config: &Config) -> Result<Vec
 
 // Puts a file that has these bytes in the place of an empty one. A file that was added to could begin with a part of them behind
 // a crash.
-fn put_first<F: JournalFile, P>(file: &mut F, place: &P, bytes: Vec<u8>) -> Result<(), DurableError>
+fn put_first<F: JournalFile, P>(
+    file: &mut F,
+    location: &P,
+    bytes: Vec<u8>,
+) -> Result<(), DurableError>
 where
     F: ReplaceableFile<P>,
     ensures ok { OnOk result (F.usable file.old ≡ true → F.has file.old [] [] → F.has file.new bytes.items []) }
@@ -91,7 +95,7 @@ where
     ensures err { IfErr result (λ e. e ≡ FileFault) }
     ensures failed { OnErr result (F.usable file.old ≡ true → F.faults file.old < F.faults file.new) }
 {
-    match file.replace(place, bytes) {
+    match file.replace(location, bytes) {
         Ok(()) => Ok(()),
         Err(ReplaceFault::Unchanged | ReplaceFault::Unknown) => Err(DurableError::FileFault),
     }
@@ -102,14 +106,14 @@ fn begin_in<F: JournalFile, P>(
     alloc: Global,
     config: &Config,
     file: &mut F,
-    place: &P,
+    location: &P,
     seed: u64,
 ) -> Result<Found, DurableError>
 where
     F: ReplaceableFile<P>,
     requires { IsLegal config.now }
     ensures ok { IfOk result (λ found. Represents (empty config.now) found.bucket × (found.framing.seed ≡ seed)
-        × (found.place ≡ length (beginning seed config.now)) × (found.dropped ≡ 0) × (found.checkpointed ≡ false)
+        × (found.offset ≡ length (beginning seed config.now)) × (found.dropped ≡ 0) × (found.checkpointed ≡ false)
         × (found.config.config ≡ config.now)) }
     ensures file { OnOk result (F.usable file.old ≡ true → F.has file.old [] [] → F.has file.new (beginning seed config.now) []) }
     ensures usable { OnOk result (F.usable file.new ≡ F.usable file.old) }
@@ -125,12 +129,12 @@ where
     let framing = Framing::new(seed);
     let bytes = beginning_of(alloc, &framing, config)?;
     let end = bytes.len() as u64;
-    put_first(file, place, bytes)?;
+    put_first(file, location, bytes)?;
     Ok(Found {
         bucket,
         config: own,
         framing,
-        place: end,
+        offset: end,
         dropped: 0,
         checkpointed: false,
     })
@@ -151,7 +155,7 @@ fn go_on_in<F: JournalFile>(
     ensures torn { IfOk result (λ _. (base : Base) (seed : ℕ) (entries : List Entry) (rest : List ℕ) → base.config ≡ config.now →
         Reads base bytes.now seed entries rest → ShowsDamage seed (length (file_of seed base entries)) rest → ⊥) }
     ensures file { IfOk result (λ found. F.usable file.old ≡ true → (kept loose : List ℕ) → F.has file.old kept loose →
-        F.has file.new (take found.place (kept ++ loose)) []) }
+        F.has file.new (take found.offset (kept ++ loose)) []) }
     ensures usable { OnOk result (F.usable file.new ≡ F.usable file.old) }
     ensures damaged { IfErr result (λ e. IsDamaged e → (base : Base) (seed : ℕ) (entries : List Entry) (rest : List ℕ) →
         base.config ≡ config.now → Reads base bytes.now seed entries rest →
@@ -167,12 +171,12 @@ fn go_on_in<F: JournalFile>(
 {
     let own = OwnConfig::copy_of(alloc, config)?;
     let recovered = recover(alloc, config, bytes)?;
-    file.cut(recovered.place)?;
+    file.cut(recovered.offset)?;
     Ok(Found {
         bucket: Bucket::from_version(alloc, recovered.version),
         config: own,
         framing: recovered.framing,
-        place: recovered.place,
+        offset: recovered.offset,
         dropped: recovered.dropped,
         checkpointed: recovered.checkpointed,
     })
@@ -190,7 +194,7 @@ fn found_in<F: JournalFile, P>(
     alloc: Global,
     config: &Config,
     file: &mut F,
-    place: &P,
+    location: &P,
     seed: u64,
 ) -> Result<Found, DurableError>
 where
@@ -223,7 +227,7 @@ where
     let bytes = read_all(alloc, file)?;
     let text = bytes.as_slice();
     if has_none(text) {
-        return begin_in(alloc, config, file, place, seed);
+        return begin_in(alloc, config, file, location, seed);
     }
     go_on_in(alloc, config, file, text)
 }
@@ -236,18 +240,18 @@ fn opened_of<F: JournalFile>(file: F, found: Found, sync: Sync) -> Opened<F>
         × (result.durable.journal.appender.sync ≡ sync) }
     ensures keeps { (base : Base) (entries : List Entry) → found.framing.seed < 2 ^ 64 → found.config.config ≡ base.config →
         ArePayloads (base_payloads base) → IsLawfulBase base → CanFollow base [] entries → F.usable file ≡ true →
-        F.has file (file_of found.framing.seed base entries) [] → found.place ≡ length (file_of found.framing.seed base entries) →
+        F.has file (file_of found.framing.seed base entries) [] → found.offset ≡ length (file_of found.framing.seed base entries) →
         Keeps F.has F.usable base entries [] result.durable.journal }
 {
     let Found {
         bucket,
         config,
         framing,
-        place,
+        offset,
         dropped,
         checkpointed,
     } = found;
-    let journal = Journal::new(file, framing, config, place, sync);
+    let journal = Journal::new(file, framing, config, offset, sync);
     Opened {
         durable: Durable::from_parts(bucket, journal),
         dropped,
@@ -256,10 +260,10 @@ fn opened_of<F: JournalFile>(file: F, found: Found, sync: Sync) -> Opened<F>
 }
 
 impl<F: JournalFile> Durable<F> {
-    /// Opens the bucket of a file. An empty file, where it lies in such a place, is replaced by that of a new bucket, with this
+    /// Opens the bucket of a file. An empty file, where it lies at such a location, is replaced by that of a new bucket, with this
     /// seed: choose it at random, and another for each file. A crash meanwhile leaves the empty file, or all that a new one begins
-    /// with. Of any other file the seed and the place are not asked for; it has to be that of a bucket with this configuration.
-    /// What a crash left behind the last whole frame is cut off, and told; damage is refused with its place, and changes
+    /// with. Of any other file the seed and the location are not asked for; it has to be that of a bucket with this configuration.
+    /// What a crash left behind the last whole frame is cut off, and told; damage is refused with its offset, and changes
     /// nothing. The bucket has no watches, and all that it has is on the disk.
     ///
     /// Of a file that begins with a checkpoint the bytes do not tell which acts that stands in place of: the bucket is at the
@@ -272,7 +276,7 @@ impl<F: JournalFile> Durable<F> {
         alloc: Global,
         config: &Config,
         file: F,
-        place: &P,
+        location: &P,
         seed: u64,
         sync: Sync,
     ) -> Result<Opened<F>, NotDone<F>>
@@ -310,7 +314,7 @@ impl<F: JournalFile> Durable<F> {
         ensures never { IfErr result (λ r. r.error ≢ FileBusy) }
     {
         let mut file = file;
-        match found_in(alloc, config, &mut file, place, seed) {
+        match found_in(alloc, config, &mut file, location, seed) {
             Ok(found) => Ok(opened_of(file, found, sync)),
             Err(error) => Err(NotDone { error, file }),
         }

@@ -1,7 +1,7 @@
 //! The version that the bytes of a file stand for.
 
 ghost use Rattle.std.specs.Prelude.{◌≡◌, ◌≢◌, ◌+◌, ◌<◌, ◌≤◌, ◌^◌, ℕ, List, drop, length, IfErr, IfOk, IsErrOf};
-ghost use Rattle.kv_frames.specs.Frames.{Splits, place_after};
+ghost use Rattle.kv_frames.specs.Frames.{Splits, offset_after};
 ghost use Rattle.kv_keys.specs.Outcome.{Refuses};
 ghost use Rattle.kv_keys.specs.declared.error.KvError.{KvError as AnError};
 ghost use Rattle.kv_keys.specs.declared.error.KvError.TheVariants.{OutOfMemory};
@@ -35,7 +35,7 @@ pub struct Recovered {
     /// How its frames are written.
     pub framing: Framing,
     /// Where its last whole frame ends.
-    pub place: u64,
+    pub offset: u64,
     /// How many bytes stand behind that.
     pub dropped: u64,
     /// Whether it begins with a checkpoint.
@@ -47,7 +47,7 @@ fn begun_of(alloc: Global, bytes: &[u8], config: &Config) -> Result<Begun, Durab
     requires { length bytes.now < 2 ^ 63 }
     ensures ok { IfOk result (λ b. (rest : List ℕ)
         × BeginsWith bytes.now b.framing.seed (configuration_payload config.now) rest
-        × (b.place ≡ length (beginning b.framing.seed config.now))) }
+        × (b.offset ≡ length (beginning b.framing.seed config.now))) }
     ensures other { IsErrOf result OtherBucket → (seed : ℕ) × (payload : List ℕ) × (rest : List ℕ)
         × BeginsWith bytes.now seed payload rest × (payload ≢ configuration_payload config.now) }
     ensures damaged { IfErr result (λ e. IsDamaged e → (seed : ℕ) (payload rest : List ℕ) →
@@ -62,12 +62,12 @@ fn begun_of(alloc: Global, bytes: &[u8], config: &Config) -> Result<Begun, Durab
     }
 }
 
-// What stands behind this place.
-fn behind(bytes: &[u8], place: u64) -> &[u8]
-    requires { place ≤ length bytes.now }
-    ensures { result.now ≡ drop place bytes.now }
+// What stands behind this offset.
+fn behind(bytes: &[u8], offset: u64) -> &[u8]
+    requires { offset ≤ length bytes.now }
+    ensures { result.now ≡ drop offset bytes.now }
 {
-    &bytes[place as usize..]
+    &bytes[offset as usize..]
 }
 
 // The version that goes on from this one by the entries whose frames stand in the bytes.
@@ -83,7 +83,7 @@ fn replayed_of(
         × Splits framing.now.seed at bytes.now (payloads_of entries) rest
         × Extends version (acts_of entries) r.version
         × ((before : List Act) → StandsFor before version → AreLawful version.config before entries)
-        × (r.place ≡ place_after at (payloads_of entries))) }
+        × (r.offset ≡ offset_after at (payloads_of entries))) }
     ensures damaged { IfErr result (λ e. IsDamaged e → (before : List Act) (entries : List Entry) (rest : List ℕ) →
         StandsFor before version → AreLawful version.config before entries →
         Splits framing.now.seed at bytes.now (payloads_of entries) rest → ⊥) }
@@ -98,7 +98,7 @@ fn replayed_of(
 
 /// The version that the bytes of a file stand for, where they are those of a bucket with this configuration. What stands
 /// behind the last whole frame is a torn end, as far as the bytes can tell; where they tell that it was damaged after it had
-/// come onto the disk, it is refused with its place, and so are bytes that begin no journal, a checkpoint that is no
+/// come onto the disk, it is refused with its offset, and so are bytes that begin no journal, a checkpoint that is no
 /// bucket's, and an entry that cannot stand behind what is before it. It reads the bytes once, and makes each act again.
 ///
 /// Of a file that begins with a checkpoint the bytes do not tell which acts that stands in place of: whatever lawful acts it
@@ -119,22 +119,22 @@ pub fn recover(alloc: Global, config: &Config, bytes: &[u8]) -> Result<Recovered
 {
     let empty = Version::empty(alloc, config)?;
     let begun = begun_of(alloc, bytes, config)?;
-    let first = behind(bytes, begun.place);
+    let first = behind(bytes, begun.offset);
     let started = started_of(alloc, empty, config, &begun, first)?;
-    let start = started.place;
+    let start = started.offset;
     let checkpointed = started.checkpointed;
     let entries = behind(bytes, start);
     let replayed = replayed_of(alloc, started.version, &begun.framing, start, entries)?;
-    let place = replayed.place;
-    let rest = behind(bytes, place);
-    if shows_damage(&begun.framing, place, rest) {
-        return Err(DurableError::FileDamaged { at: place });
+    let offset = replayed.offset;
+    let rest = behind(bytes, offset);
+    if shows_damage(&begun.framing, offset, rest) {
+        return Err(DurableError::FileDamaged { at: offset });
     }
     let dropped = rest.len() as u64;
     Ok(Recovered {
         version: replayed.version,
         framing: begun.framing,
-        place,
+        offset,
         dropped,
         checkpointed,
     })

@@ -16,7 +16,7 @@ ghost use Rattle.kv_single.specs.Stepping.{IsStep};
 ghost use Rattle.kv_store.specs.Standing.{StandsFor};
 ghost use Rattle.kv_durable.specs.Bases.{Base, opening_size, replaced_by};
 ghost use Rattle.kv_durable.specs.Durables.{HasEither, IsAt, IsHanded, IsRecorded, IsRefusal, IsReplaced, checkpoint_at};
-ghost use Rattle.kv_durable.specs.Journals.{HasEntries, Keeps, is_stopped, place_behind};
+ghost use Rattle.kv_durable.specs.Journals.{HasEntries, Keeps, is_stopped, offset_behind};
 ghost use Rattle.kv_durable.specs.declared.error.DurableError.{DurableError as ARefusal};
 ghost use Rattle.kv_durable.specs.declared.error.DurableError.TheVariants.{FileFault, Refused};
 ghost use Rattle.kv_durable.specs.declared.shrinking.Shrunk.TheVariants.{Failed, Left, Replaced};
@@ -60,11 +60,11 @@ impl Shrunk {
 impl<F: JournalFile> Journal<F> {
     // Whether the file has more than twice so many bytes.
     fn has_twice(&self, bytes: usize) -> bool
-        ensures yes { result ≡ true → 2 * bytes < self.now.appender.place }
-        ensures no { result ≡ false → self.now.appender.place ≤ 2 * bytes }
+        ensures yes { result ≡ true → 2 * bytes < self.now.appender.offset }
+        ensures no { result ≡ false → self.now.appender.offset ≤ 2 * bytes }
     {
         let bytes = bytes as u64;
-        self.place().saturating_sub(bytes) > bytes
+        self.offset().saturating_sub(bytes) > bytes
     }
 
     /// Replaces the file as `replace_by_checkpoint` does, where it has more than twice the bytes of the new one, and tells whether
@@ -72,7 +72,7 @@ impl<F: JournalFile> Journal<F> {
     pub fn replace_if_large<P>(
         &mut self,
         alloc: Global,
-        place: &P,
+        location: &P,
         seed: u64,
         version: &Version,
     ) -> Result<bool, DurableError>
@@ -81,10 +81,10 @@ impl<F: JournalFile> Journal<F> {
         ensures left { result ≡ Ok false → self.new ≡ self.old }
         ensures small { result ≡ Ok false → (was : Base) (kept loose : List Entry) (acts : List Act) →
             Keeps F.has F.usable was kept loose self.old → StandsFor acts version.now → version.now.config ≡ was.config →
-            self.old.appender.place ≤ 2 * opening_size seed (replaced_by was.config acts) }
+            self.old.appender.offset ≤ 2 * opening_size seed (replaced_by was.config acts) }
         ensures large { (result ≡ Ok true) ⊎ (result ≡ Err FileFault) → (was : Base) (kept loose : List Entry) (acts : List Act) →
             Keeps F.has F.usable was kept loose self.old → StandsFor acts version.now → version.now.config ≡ was.config →
-            2 * opening_size seed (replaced_by was.config acts) < self.old.appender.place }
+            2 * opening_size seed (replaced_by was.config acts) < self.old.appender.offset }
         ensures replaced { result ≡ Ok true → (was : Base) (kept loose : List Entry) (acts : List Act) →
             Keeps F.has F.usable was kept loose self.old → StandsFor acts version.now → version.now.config ≡ was.config →
             Keeps F.has F.usable (replaced_by was.config acts) [] [] self.new }
@@ -98,7 +98,7 @@ impl<F: JournalFile> Journal<F> {
             ⊎ HasEntries F.has seed (replaced_by was.config acts) [] [] self.new.appender.file) }
         ensures refused { IfErr result (λ e. (x : AnError) → e ≡ Refused x → x ≡ OutOfMemory) }
         ensures untouched { IfErr result (λ e. (x : AnError) → e ≡ Refused x → self.new ≡ self.old) }
-        ensures fault { IsErrOf result FileFault → F.usable self.old.appender.file ≡ true → (2 ^ 62 ≤ self.new.appender.place)
+        ensures fault { IsErrOf result FileFault → F.usable self.old.appender.file ≡ true → (2 ^ 62 ≤ self.new.appender.offset)
             ⊎ (F.faults self.old.appender.file < F.faults self.new.appender.file) }
         ensures same { OnErr result (self.new.framing ≡ self.old.framing) }
         ensures no_other { IfErr result IsRefusal }
@@ -110,21 +110,21 @@ impl<F: JournalFile> Journal<F> {
             return Ok(false);
         }
         self.may_add()?;
-        self.replace(place, next, bytes)?;
+        self.replace(location, next, bytes)?;
         Ok(true)
     }
 }
 
 impl<F: JournalFile> Durable<F> {
     // Replaces the file where it has more than twice the bytes of the new one, and tells whether it did.
-    fn replace_large<P>(&mut self, place: &P, seed: u64) -> Result<bool, DurableError>
+    fn replace_large<P>(&mut self, location: &P, seed: u64) -> Result<bool, DurableError>
     where
         F: ReplaceableFile<P>,
         ensures left { result ≡ Ok false → self.new ≡ self.old }
         ensures small { result ≡ Ok false → (state : State) (kept loose : List Entry) → IsAt F.has F.usable state kept loose self.old →
-            self.old.journal.appender.place ≤ 2 * opening_size seed (checkpoint_at state) }
+            self.old.journal.appender.offset ≤ 2 * opening_size seed (checkpoint_at state) }
         ensures large { (result ≡ Ok true) ⊎ (result ≡ Err FileFault) → (state : State) (kept loose : List Entry) →
-            IsAt F.has F.usable state kept loose self.old → 2 * opening_size seed (checkpoint_at state) < self.old.journal.appender.place }
+            IsAt F.has F.usable state kept loose self.old → 2 * opening_size seed (checkpoint_at state) < self.old.journal.appender.offset }
         ensures replaced { result ≡ Ok true → IsReplaced F.has F.usable (λ state. state) self.old self.new }
         ensures seed { result ≡ Ok true → self.new.journal.framing.seed ≡ seed }
         ensures none { result ≡ Ok true → self.new.journal.appender.waiting ≡ 0 }
@@ -137,7 +137,7 @@ impl<F: JournalFile> Durable<F> {
             ⊎ HasEntries F.has seed (checkpoint_at state) [] [] self.new.journal.appender.file) }
         ensures refused { IfErr result (λ e. (x : AnError) → e ≡ Refused x → x ≡ OutOfMemory) }
         ensures untouched { IfErr result (λ e. (x : AnError) → e ≡ Refused x → self.new ≡ self.old) }
-        ensures fault { IsErrOf result FileFault → F.usable self.old.journal.appender.file ≡ true → (2 ^ 62 ≤ self.new.journal.appender.place)
+        ensures fault { IsErrOf result FileFault → F.usable self.old.journal.appender.file ≡ true → (2 ^ 62 ≤ self.new.journal.appender.offset)
             ⊎ (F.faults self.old.journal.appender.file < F.faults self.new.journal.appender.file) }
         ensures same { OnErr result (self.new.journal.framing ≡ self.old.journal.framing) }
         ensures no_other { IfErr result IsRefusal }
@@ -145,7 +145,7 @@ impl<F: JournalFile> Durable<F> {
     {
         let bucket = &self.bucket;
         self.journal
-            .replace_if_large(bucket.alloc(), place, seed, bucket.version())
+            .replace_if_large(bucket.alloc(), location, seed, bucket.version())
     }
 
     /// Compacts to the floor, as `compact` does. Where the file then has more than twice the bytes of a new one, it is replaced
@@ -159,7 +159,7 @@ impl<F: JournalFile> Durable<F> {
     pub fn compact_and_checkpoint<P>(
         &mut self,
         floor: u64,
-        place: &P,
+        location: &P,
         seed: u64,
     ) -> Result<Shrunk, DurableError>
     where
@@ -170,10 +170,10 @@ impl<F: JournalFile> Durable<F> {
         ensures every { result ≡ Ok Left → (n : ℕ) → self.old.journal.appender.sync ≡ Every n → 0 < n →
             self.new.journal.appender.waiting < n }
         ensures small { result ≡ Ok Left → (state : State) (kept loose : List Entry) → IsAt F.has F.usable state kept loose self.old →
-            place_behind self.old.journal (did (ACompaction floor) ∷ []) ≤ 2 * opening_size seed (checkpoint_at (after state (Compact floor))) }
+            offset_behind self.old.journal (did (ACompaction floor) ∷ []) ≤ 2 * opening_size seed (checkpoint_at (after state (Compact floor))) }
         ensures large { (result ≡ Ok Replaced) ⊎ (result ≡ Ok (Failed FileFault)) → (state : State) (kept loose : List Entry) →
             IsAt F.has F.usable state kept loose self.old →
-            2 * opening_size seed (checkpoint_at (after state (Compact floor))) < place_behind self.old.journal (did (ACompaction floor) ∷ []) }
+            2 * opening_size seed (checkpoint_at (after state (Compact floor))) < offset_behind self.old.journal (did (ACompaction floor) ∷ []) }
         ensures replaced { result ≡ Ok Replaced → IsReplaced F.has F.usable (λ state. after state (Compact floor)) self.old self.new }
         ensures seed { result ≡ Ok Replaced → self.new.journal.framing.seed ≡ seed }
         ensures none { result ≡ Ok Replaced → self.new.journal.appender.waiting ≡ 0 }
@@ -183,7 +183,7 @@ impl<F: JournalFile> Durable<F> {
             (λ _. did (ACompaction floor) ∷ []) seed self.old self.new.journal.appender.file }
         ensures memory { (x : AnError) → result ≡ Ok (Failed (Refused x)) → (x ≡ OutOfMemory) × IsRecorded F.has F.usable
             (λ state. after state (Compact floor)) (λ _. did (ACompaction floor) ∷ []) self.old self.new }
-        ensures failed { result ≡ Ok (Failed FileFault) → (2 ^ 62 ≤ self.new.journal.appender.place)
+        ensures failed { result ≡ Ok (Failed FileFault) → (2 ^ 62 ≤ self.new.journal.appender.offset)
             ⊎ (F.faults self.old.journal.appender.file < F.faults self.new.journal.appender.file) }
         ensures no_other_failure { (e : ARefusal) → result ≡ Ok (Failed e) → IsRefusal e }
         ensures refused { IfErr result (λ e. (x : AnError) → e ≡ Refused x → (state : State) →
@@ -200,7 +200,7 @@ impl<F: JournalFile> Durable<F> {
         ensures sync { self.new.journal.appender.sync ≡ self.old.journal.appender.sync }
     {
         self.compact(floor)?;
-        let replaced = self.replace_large(place, seed);
+        let replaced = self.replace_large(location, seed);
         Ok(Shrunk::of(replaced))
     }
 }

@@ -24,7 +24,7 @@ use std::alloc::Global;
 #[derive(Drop)]
 pub(crate) struct Started {
     pub version: Version,
-    pub place: u64,
+    pub offset: u64,
     pub checkpointed: bool,
 }
 
@@ -38,20 +38,20 @@ fn restored_of(
 ) -> Result<Started, DurableError>
     requires stands { StandsFor [] empty }
     requires config { empty.config ≡ config.now }
-    requires few { begun.now.place + length bytes.now < 2 ^ 64 }
+    requires few { begun.now.offset + length bytes.now < 2 ^ 64 }
     requires checkpoint { (entries : List Entry) (rest : List ℕ) →
-        Splits begun.now.framing.seed begun.now.place bytes.now (payloads_of entries) rest → ⊥ }
+        Splits begun.now.framing.seed begun.now.offset bytes.now (payloads_of entries) rest → ⊥ }
     ensures ok { IfOk result (λ s. (payloads : List (List ℕ)) × (rest : List ℕ)
-        × IsStarted config.now begun.now.framing.seed begun.now.place bytes.now payloads rest s) }
+        × IsStarted config.now begun.now.framing.seed begun.now.offset bytes.now payloads rest s) }
     ensures damaged { IfErr result (λ e. IsDamaged e → (acts : List Act) (rest : List ℕ) → IsLawful config.now acts →
         ArePayloads (checkpoint_payloads (checkpoint_of config.now acts)) →
-        bytes.now ≡ frames begun.now.framing.seed begun.now.place (checkpoint_payloads (checkpoint_of config.now acts)) ++ rest → ⊥) }
+        bytes.now ≡ frames begun.now.framing.seed begun.now.offset (checkpoint_payloads (checkpoint_of config.now acts)) ++ rest → ⊥) }
     ensures err { IfErr result (λ e. (e ≢ FileFault) × (e ≢ FileBusy) × (e ≢ OtherBucket) × ((x : AnError) → e ≡ Refused x → x ≡ OutOfMemory)) }
 {
-    match restore(alloc, empty, config, &begun.framing, begun.place, bytes) {
+    match restore(alloc, empty, config, &begun.framing, begun.offset, bytes) {
         Ok(restored) => Ok(Started {
             version: restored.version,
-            place: restored.place,
+            offset: restored.offset,
             checkpointed: true,
         }),
         Err(ReplayError::OutOfMemory) => Err(DurableError::Refused(KvError::OutOfMemory)),
@@ -69,22 +69,22 @@ pub(crate) fn started_of(
 ) -> Result<Started, DurableError>
     requires stands { StandsFor [] empty }
     requires config { empty.config ≡ config.now }
-    requires few { begun.now.place + length bytes.now < 2 ^ 64 }
+    requires few { begun.now.offset + length bytes.now < 2 ^ 64 }
     ensures ok { IfOk result (λ s. (payloads : List (List ℕ)) × (rest : List ℕ)
-        × IsStarted config.now begun.now.framing.seed begun.now.place bytes.now payloads rest s) }
+        × IsStarted config.now begun.now.framing.seed begun.now.offset bytes.now payloads rest s) }
     ensures no_checkpoint { IfErr result (λ e. IsDamaged e → (acts : List Act) (rest : List ℕ) → IsLawful config.now acts →
         ArePayloads (checkpoint_payloads (checkpoint_of config.now acts)) →
-        bytes.now ≡ frames begun.now.framing.seed begun.now.place (checkpoint_payloads (checkpoint_of config.now acts)) ++ rest → ⊥) }
+        bytes.now ≡ frames begun.now.framing.seed begun.now.offset (checkpoint_payloads (checkpoint_of config.now acts)) ++ rest → ⊥) }
     ensures no_entries { IfErr result (λ e. IsDamaged e → (entries : List Entry) (rest : List ℕ) →
-        Splits begun.now.framing.seed begun.now.place bytes.now (payloads_of entries) rest → ⊥) }
+        Splits begun.now.framing.seed begun.now.offset bytes.now (payloads_of entries) rest → ⊥) }
     ensures err { IfErr result (λ e. (e ≢ FileFault) × (e ≢ FileBusy) × (e ≢ OtherBucket) × ((x : AnError) → e ≡ Refused x → x ≡ OutOfMemory)) }
 {
-    if begins_checkpoint(&begun.framing, begun.place, bytes) {
+    if begins_checkpoint(&begun.framing, begun.offset, bytes) {
         return restored_of(alloc, empty, config, begun, bytes);
     }
     Ok(Started {
         version: empty,
-        place: begun.place,
+        offset: begun.offset,
         checkpointed: false,
     })
 }

@@ -32,7 +32,7 @@ impl<N: LiveName, F: JournalFile> DurableKeeper<N, F> {
     /// Adds the frame to the file, brings all onto the disk where that is due, and only then publishes the act.
     pub(crate) fn keep<R: Wait>(&mut self, rt: &R, framed: Framed) -> Result<(), FileFault>
         requires next { ComesNext N.opening.config self.old.keeper framed.next }
-        requires room { self.old.journal.appender.place < 2 ^ 62 }
+        requires room { self.old.journal.appender.offset < 2 ^ 62 }
         requires short { length framed.frame.items < 2 ^ 33 }
         ensures keeper { OnOk result
             (self.new.keeper ≡ kept_with self.old.keeper (framed.next.act ∷ []) framed.next.version) }
@@ -63,7 +63,7 @@ impl<N: LiveName, F: JournalFile> DurableKeeper<N, F> {
         framed: FramedBatch,
     ) -> Result<BatchReceipt<N>, FileFault>
         requires next { ComeNext N.opening.config self.old.keeper requests.now framed.next }
-        requires room { self.old.journal.appender.place < 2 ^ 62 }
+        requires room { self.old.journal.appender.offset < 2 ^ 62 }
         requires short { length framed.frame.items < 2 ^ 33 }
         ensures keeper { OnOk result
             (self.new.keeper ≡ kept_with self.old.keeper (acts_from framed.next.first requests.now) framed.next.version) }

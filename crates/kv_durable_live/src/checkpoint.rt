@@ -21,7 +21,7 @@ impl<N: LiveName, F: JournalFile> DurableKeeper<N, F> {
     /// meanwhile, since the lock is held.
     ///
     /// A later opening begins what it publishes with other acts, of which the same is stored.
-    pub fn checkpoint<P>(&mut self, place: &P, seed: u64) -> Result<(), DurableError>
+    pub fn checkpoint<P>(&mut self, location: &P, seed: u64) -> Result<(), DurableError>
     where
         F: ReplaceableFile<P>,
         ensures ok { OnOk result (IsReplaced F.has F.usable (λ state. state)
@@ -46,6 +46,6 @@ impl<N: LiveName, F: JournalFile> DurableKeeper<N, F> {
     {
         let bucket = self.keeper.bucket();
         self.journal
-            .replace_by_checkpoint(bucket.alloc(), place, seed, bucket.version())
+            .replace_by_checkpoint(bucket.alloc(), location, seed, bucket.version())
     }
 }

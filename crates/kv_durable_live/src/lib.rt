@@ -18,7 +18,7 @@ pub use keeper::DurableKeeper;
 pub use kv_bucket::{BatchReceipt, Feed, LiveName, Mark, Reader, Receipt};
 pub use kv_durable::{
     BatchError, DurableError, Journal, JournalFile, NotDone, ReplaceableFile, Shrunk, Sync,
-    SystemFile, SystemPlace,
+    SystemFile, SystemLocation,
 };
 pub use live::DurableLive;
 pub use open::Opened;

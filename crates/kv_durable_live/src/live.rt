@@ -7,7 +7,7 @@ ghost use Rattle.kv_bucket.specs.Histories.{IsPublishedHistory};
 ghost use Rattle.kv_bucket.specs.Keeping.{CompactsSomewhere, IsSomewhere, PublishesWrite, RefusedSomewhere, UncompactedSomewhere, WritesSomewhere};
 ghost use Rattle.kv_durable.specs.Durables.{IsRefusal};
 ghost use Rattle.kv_durable.specs.declared.error.BatchError.TheVariants as batches;
-ghost use Rattle.kv_durable.specs.declared.error.DurableError.TheVariants.{FileFault, Refused};
+ghost use Rattle.kv_durable.specs.declared.error.DurableError.TheVariants.{Refused};
 ghost use Rattle.kv_keys.specs.declared.error.KvError.{KvError as AnError};
 ghost use Rattle.kv_model.specs.Acceptance.{IsLawful};
 ghost use Rattle.kv_model.specs.Acts.{Act};
@@ -16,11 +16,12 @@ ghost use Rattle.kv_model.specs.declared.batch.BatchRefused.{BatchRefused as ARe
 
 use crate::keeper::DurableKeeper;
 use kv_bucket::{LiveName, Notifier, Receipt};
-use kv_durable::{BatchError, DurableError, JournalFile, NotDone, ReplaceableFile, Shrunk};
+use kv_durable::{BatchError, DurableError, JournalFile, NotDone};
 use kv_model::Request;
 use std::sync::{Mutex, MutexGuard, Wait};
 
-/// The durable bucket of the opening N. Threads share it by reference. It is not `Drop`: end it by `close`.
+/// The durable bucket of the opening N. Threads share it by reference. It has the calls of a `Live`; what concerns its file alone, as
+/// checkpoints and syncs, are calls of its keeper, for which `lock` waits. It is not `Drop`: end it by `close`.
 pub struct DurableLive<N: LiveName, F: JournalFile> {
     pub(crate) keeper: Mutex<DurableKeeper<N, F>>,
     /// It tells the readers that sleep.
@@ -90,23 +91,6 @@ fn compact_on<N: LiveName, F: JournalFile, R: Wait>(
 {
     keeper.keeper();
     keeper.compact(rt, floor)
-}
-
-// The same, and replaces the file where it is large.
-fn compact_and_checkpoint_on<N: LiveName, F: ReplaceableFile<P>, P, R: Wait>(
-    rt: &R,
-    keeper: &mut DurableKeeper<N, F>,
-    floor: u64,
-    place: &P,
-    seed: u64,
-) -> Result<Shrunk, DurableError>
-    ensures ok { OnOk result (CompactsSomewhere N.opening.config floor) }
-    ensures refused { IfErr result (λ e. (x : AnError) → e ≡ Refused x →
-        UncompactedSomewhere N.opening.config floor x) }
-    ensures no_other { IfErr result IsRefusal }
-{
-    keeper.keeper();
-    keeper.compact_and_checkpoint(rt, floor, place, seed)
 }
 
 impl<N: LiveName, F: JournalFile> DurableLive<N, F> {
@@ -179,42 +163,6 @@ impl<N: LiveName, F: JournalFile> DurableLive<N, F> {
     {
         let mut keeper = self.keeper.lock(rt);
         compact_on(rt, &mut *keeper, floor)
-    }
-
-    /// Compacts to the floor, and replaces the file where it is large, as `DurableKeeper::compact_and_checkpoint` does.
-    pub fn compact_and_checkpoint<P, R: Wait>(
-        &self,
-        rt: &R,
-        floor: u64,
-        place: &P,
-        seed: u64,
-    ) -> Result<Shrunk, DurableError>
-    where
-        F: ReplaceableFile<P>,
-        ensures ok { OnOk result (CompactsSomewhere N.opening.config floor) }
-        ensures refused { IfErr result (λ e. (x : AnError) → e ≡ Refused x →
-            UncompactedSomewhere N.opening.config floor x) }
-        ensures no_other { IfErr result IsRefusal }
-    {
-        let mut keeper = self.keeper.lock(rt);
-        compact_and_checkpoint_on(rt, &mut *keeper, floor, place, seed)
-    }
-
-    /// Replaces the file by a checkpoint, as `DurableKeeper::checkpoint` does. It has the lock until that is on the disk: writes wait,
-    /// and reads of what is published do not.
-    pub fn checkpoint<P, R: Wait>(&self, rt: &R, place: &P, seed: u64) -> Result<(), DurableError>
-    where
-        F: ReplaceableFile<P>,
-        ensures no_other { IfErr result IsRefusal }
-    {
-        self.keeper.lock(rt).checkpoint(place, seed)
-    }
-
-    /// Brings all that was accepted onto the disk. Where the file fails, or has failed, it is a FileFault, and no other.
-    pub fn sync<R: Wait>(&self, rt: &R) -> Result<(), DurableError>
-        ensures err { IfErr result (λ e. e ≡ FileFault) }
-    {
-        self.keeper.lock(rt).sync()
     }
 
     /// Tells those who wait, and those who will, that no write comes any more: their waits end once they have seen all that was

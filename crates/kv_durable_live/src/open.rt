@@ -104,7 +104,7 @@ fn of_read<F: JournalFile>(
 }
 
 impl<F: JournalFile> DurableLive<Brand, F> {
-    /// Opens the bucket of a file, for 1 to 32 readers. An empty file, where it lies in such a place, is replaced by that of a new
+    /// Opens the bucket of a file, for 1 to 32 readers. An empty file, where it lies at such a location, is replaced by that of a new
     /// bucket, with this seed, and any other goes on, as `Durable::open` does it: what is published begins with the acts that the
     /// file has. The configuration and the number of readers are checked before the file is touched.
     ///
@@ -114,7 +114,7 @@ impl<F: JournalFile> DurableLive<Brand, F> {
         alloc: Global,
         config: &Config,
         file: F,
-        place: &P,
+        location: &P,
         seed: u64,
         sync: Sync,
         readers: usize,
@@ -150,7 +150,7 @@ impl<F: JournalFile> DurableLive<Brand, F> {
             });
         }
         let before = Snapshot::of(&file);
-        match Durable::open(alloc, config, file, place, seed, sync) {
+        match Durable::open(alloc, config, file, location, seed, sync) {
             Ok(read) => of_read(alloc, config, &before, read, readers),
             Err(refused) => Err(refused),
         }

@@ -5,7 +5,7 @@ ghost use Rattle.kv_bucket.specs.Keeping as keeping;
 ghost use Rattle.kv_bucket.specs.Keeping.{IsKeptStep};
 ghost use Rattle.kv_durable.specs.Bases.{opening_size};
 ghost use Rattle.kv_durable.specs.Durables.{HasEither, IsAt, IsHanded, IsRecorded, IsRefusal, IsReplaced, checkpoint_at};
-ghost use Rattle.kv_durable.specs.Journals.{HasEntries, is_stopped, place_behind};
+ghost use Rattle.kv_durable.specs.Journals.{HasEntries, is_stopped, offset_behind};
 ghost use Rattle.kv_durable.specs.declared.error.DurableError.{DurableError as ARefusal};
 ghost use Rattle.kv_durable.specs.declared.error.DurableError.TheVariants.{FileFault, Refused};
 ghost use Rattle.kv_durable.specs.declared.shrinking.Shrunk.TheVariants.{Failed, Left, Replaced};
@@ -28,17 +28,17 @@ use std::sync::Wait;
 
 impl<N: LiveName, F: JournalFile> DurableKeeper<N, F> {
     // Replaces the file where it has more than twice the bytes of the new one, and tells whether it did.
-    fn replace_large<P>(&mut self, place: &P, seed: u64) -> Result<bool, DurableError>
+    fn replace_large<P>(&mut self, location: &P, seed: u64) -> Result<bool, DurableError>
     where
         F: ReplaceableFile<P>,
         ensures keeper { self.new.keeper ≡ self.old.keeper }
         ensures left { result ≡ Ok false → self.new ≡ self.old }
         ensures small { result ≡ Ok false → (state : State) (kept loose : List Entry) →
             IsAt F.has F.usable state kept loose (durable_of self.old.keeper self.old.journal) →
-            self.old.journal.appender.place ≤ 2 * opening_size seed (checkpoint_at state) }
+            self.old.journal.appender.offset ≤ 2 * opening_size seed (checkpoint_at state) }
         ensures large { (result ≡ Ok true) ⊎ (result ≡ Err FileFault) → (state : State) (kept loose : List Entry) →
             IsAt F.has F.usable state kept loose (durable_of self.old.keeper self.old.journal) →
-            2 * opening_size seed (checkpoint_at state) < self.old.journal.appender.place }
+            2 * opening_size seed (checkpoint_at state) < self.old.journal.appender.offset }
         ensures replaced { result ≡ Ok true → IsReplaced F.has F.usable (λ state. state)
             (durable_of self.old.keeper self.old.journal) (durable_of self.new.keeper self.new.journal) }
         ensures seed { result ≡ Ok true → self.new.journal.framing.seed ≡ seed }
@@ -52,7 +52,7 @@ impl<N: LiveName, F: JournalFile> DurableKeeper<N, F> {
             ⊎ HasEntries F.has seed (checkpoint_at state) [] [] self.new.journal.appender.file) }
         ensures refused { IfErr result (λ e. (x : AnError) → e ≡ Refused x → x ≡ OutOfMemory) }
         ensures untouched { IfErr result (λ e. (x : AnError) → e ≡ Refused x → self.new ≡ self.old) }
-        ensures fault { IsErrOf result FileFault → F.usable self.old.journal.appender.file ≡ true → (2 ^ 62 ≤ self.new.journal.appender.place)
+        ensures fault { IsErrOf result FileFault → F.usable self.old.journal.appender.file ≡ true → (2 ^ 62 ≤ self.new.journal.appender.offset)
             ⊎ (F.faults self.old.journal.appender.file < F.faults self.new.journal.appender.file) }
         ensures same { OnErr result (self.new.journal.framing ≡ self.old.journal.framing) }
         ensures no_other { IfErr result IsRefusal }
@@ -60,7 +60,7 @@ impl<N: LiveName, F: JournalFile> DurableKeeper<N, F> {
     {
         let bucket = self.keeper.bucket();
         self.journal
-            .replace_if_large(bucket.alloc(), place, seed, bucket.version())
+            .replace_if_large(bucket.alloc(), location, seed, bucket.version())
     }
 
     /// Compacts to the floor, as `compact` does. Where the file then has more than twice the bytes of a new one, it is replaced
@@ -70,7 +70,7 @@ impl<N: LiveName, F: JournalFile> DurableKeeper<N, F> {
         &mut self,
         rt: &R,
         floor: u64,
-        place: &P,
+        location: &P,
         seed: u64,
     ) -> Result<Shrunk, DurableError>
     where
@@ -83,10 +83,10 @@ impl<N: LiveName, F: JournalFile> DurableKeeper<N, F> {
             self.new.journal.appender.waiting < n }
         ensures small { result ≡ Ok Left → (state : State) (kept loose : List Entry) →
             IsAt F.has F.usable state kept loose (durable_of self.old.keeper self.old.journal) →
-            place_behind self.old.journal (did (ACompaction floor) ∷ []) ≤ 2 * opening_size seed (checkpoint_at (after state (Compact floor))) }
+            offset_behind self.old.journal (did (ACompaction floor) ∷ []) ≤ 2 * opening_size seed (checkpoint_at (after state (Compact floor))) }
         ensures large { (result ≡ Ok Replaced) ⊎ (result ≡ Ok (Failed FileFault)) → (state : State) (kept loose : List Entry) →
             IsAt F.has F.usable state kept loose (durable_of self.old.keeper self.old.journal) →
-            2 * opening_size seed (checkpoint_at (after state (Compact floor))) < place_behind self.old.journal (did (ACompaction floor) ∷ []) }
+            2 * opening_size seed (checkpoint_at (after state (Compact floor))) < offset_behind self.old.journal (did (ACompaction floor) ∷ []) }
         ensures replaced { result ≡ Ok Replaced → IsReplaced F.has F.usable (λ state. after state (Compact floor))
             (durable_of self.old.keeper self.old.journal) (durable_of self.new.keeper self.new.journal) }
         ensures seed { result ≡ Ok Replaced → self.new.journal.framing.seed ≡ seed }
@@ -99,7 +99,7 @@ impl<N: LiveName, F: JournalFile> DurableKeeper<N, F> {
         ensures memory { (x : AnError) → result ≡ Ok (Failed (Refused x)) → (x ≡ OutOfMemory) × IsRecorded F.has F.usable
             (λ state. after state (Compact floor)) (λ _. did (ACompaction floor) ∷ [])
             (durable_of self.old.keeper self.old.journal) (durable_of self.new.keeper self.new.journal) }
-        ensures failed { result ≡ Ok (Failed FileFault) → (2 ^ 62 ≤ self.new.journal.appender.place)
+        ensures failed { result ≡ Ok (Failed FileFault) → (2 ^ 62 ≤ self.new.journal.appender.offset)
             ⊎ (F.faults self.old.journal.appender.file < F.faults self.new.journal.appender.file) }
         ensures no_other_failure { (e : ARefusal) → result ≡ Ok (Failed e) → IsRefusal e }
         ensures refused { IfErr result (λ e. (x : AnError) → e ≡ Refused x → (state : State) →
@@ -117,7 +117,7 @@ impl<N: LiveName, F: JournalFile> DurableKeeper<N, F> {
         ensures sync { self.new.journal.appender.sync ≡ self.old.journal.appender.sync }
     {
         self.compact(rt, floor)?;
-        let replaced = self.replace_large(place, seed);
+        let replaced = self.replace_large(location, seed);
         Ok(Shrunk::of(replaced))
     }
 }

@@ -54,7 +54,8 @@ pub fn shrink<N: LiveName, R: Wait>(
     live: &Shared<N>,
     floor: u64,
 ) -> Result<Shrunk, DurableError> {
-    live.compact_and_checkpoint(rt, floor, &(), NEXT_SEED)
+    live.lock(rt)
+        .compact_and_checkpoint(rt, floor, &(), NEXT_SEED)
 }
 
 pub fn write_alone(

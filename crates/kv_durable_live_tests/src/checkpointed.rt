@@ -107,7 +107,7 @@ impl<R: Wait + Abort> Test<R> for Replaces {
     ) -> Result<(), DurableError> {
         writes(rt, alloc, live, "a", 1)?;
         writes(rt, alloc, live, "a", 2)?;
-        live.checkpoint(rt, &(), NEXT_SEED)?;
+        live.lock(rt).checkpoint(&(), NEXT_SEED)?;
         see(rt, readers, 2)?;
         writes(rt, alloc, live, "b", 3)
     }

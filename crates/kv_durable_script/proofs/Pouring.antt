@@ -3,7 +3,7 @@ use Rattle.std.proofs.Common.{◌≡◌, ℕ, ◌+◌, List, [], ◌∷◌, ◌+
 use Rattle.std.specs.List.{AllByRecursion}
 use Rattle.std.specs.Io.KnownBytes.{Appends}
 use Rattle.std.proofs.KnownBytes.{Appends-nil, Appends-trans}
-use Rattle.kv_frames.specs.Frames.{BeginsWhole, IsPayload, Splits, frame, frames, place_after}
+use Rattle.kv_frames.specs.Frames.{BeginsWhole, IsPayload, Splits, frame, frames, offset_after}
 use Rattle.kv_frames.proofs.Reading.{behind}
 use Rattle.kv_journal.specs.Entries.{Entry, payload_of, payloads_of}
 use Rattle.kv_replay.specs.inside.Written.{Pours, Puts}
@@ -14,9 +14,9 @@ use Rattle.kv_durable_script.specs.inside.Dumpable.{CanDumpEntry}
 use Rattle.kv_durable_script.proofs.Telling.{lines_text-append}
 
 -- of the entries some are left, whose frames stand in the bytes that are left; the lines of the others wait or went
-pub record HasPoured (seed place : ℕ) (bytes rest : List ℕ) (entries : List Entry) (held : Option (List ℕ)) (before : List ℕ) (holds : Option (List ℕ)) (out : List ℕ) : Type 0 where
+pub record HasPoured (seed offset : ℕ) (bytes rest : List ℕ) (entries : List Entry) (held : Option (List ℕ)) (before : List ℕ) (holds : Option (List ℕ)) (out : List ℕ) : Type 0 where
   pub left : List Entry
-  pub splits : Splits seed place bytes (payloads_of left) rest
+  pub splits : Splits seed offset bytes (payloads_of left) rest
   pub can : AllByRecursion CanDumpEntry left
   pub text : List ℕ
   pub parts : text ++ dump_text left ≡ dump_text entries
@@ -34,11 +34,11 @@ none_poured seed at bytes rest entries held out splits can = record {
 }
 
 -- the entry whose frame stands there
-next_entry : (seed place : ℕ) (bytes rest payload after : List ℕ) (left : List Entry) → Splits seed place bytes (payloads_of left) rest → AllByRecursion CanDumpEntry left → IsPayload payload → bytes ≡ frame seed place payload ++ after
-    → (x : Entry) × (xs : List Entry) × (left ≡ x ∷ xs) × (payload_of x ≡ payload) × CanDumpEntry x × AllByRecursion CanDumpEntry xs × Splits seed (place + (8 + length payload)) after (payloads_of xs) rest
-next_entry seed place bytes rest payload after [] splits can is found = absurd (splits.ended (payload, after, is, sym splits.whole ∙ found))
-next_entry seed place bytes rest payload after (x ∷ xs) splits can is found =
-    let b = behind seed place payload (payload_of x) after rest (payloads_of xs) is splits.each.0 (sym found ∙ splits.whole) in
+next_entry : (seed offset : ℕ) (bytes rest payload after : List ℕ) (left : List Entry) → Splits seed offset bytes (payloads_of left) rest → AllByRecursion CanDumpEntry left → IsPayload payload → bytes ≡ frame seed offset payload ++ after
+    → (x : Entry) × (xs : List Entry) × (left ≡ x ∷ xs) × (payload_of x ≡ payload) × CanDumpEntry x × AllByRecursion CanDumpEntry xs × Splits seed (offset + (8 + length payload)) after (payloads_of xs) rest
+next_entry seed offset bytes rest payload after [] splits can is found = absurd (splits.ended (payload, after, is, sym splits.whole ∙ found))
+next_entry seed offset bytes rest payload after (x ∷ xs) splits can is found =
+    let b = behind seed offset payload (payload_of x) after rest (payloads_of xs) is splits.each.0 (sym found ∙ splits.whole) in
     let same : payload ≡ payload_of x = b.0 in (
       x,
       xs,
@@ -49,16 +49,16 @@ next_entry seed place bytes rest payload after (x ∷ xs) splits can is found =
       record {
         whole = b.1;
         each = splits.each.1;
-        ended = subst (λ (p : List ℕ). BeginsWhole seed (place_after (place + (8 + length p)) (payloads_of xs)) rest → ⊥) (sym same) splits.ended;
+        ended = subst (λ (p : List ℕ). BeginsWhole seed (offset_after (offset + (8 + length p)) (payloads_of xs)) rest → ⊥) (sym same) splits.ended;
       },
     )
 
-pub one_more_poured : (seed place : ℕ) (bytes rest payload after : List ℕ) (entries : List Entry) (held mid holds : Option (List ℕ)) (before waited out waits : List ℕ)
-    → HasPoured seed place bytes rest entries held before mid waited → IsPayload payload × (bytes ≡ frame seed place payload ++ after)
+pub one_more_poured : (seed offset : ℕ) (bytes rest payload after : List ℕ) (entries : List Entry) (held mid holds : Option (List ℕ)) (before waited out waits : List ℕ)
+    → HasPoured seed offset bytes rest entries held before mid waited → IsPayload payload × (bytes ≡ frame seed offset payload ++ after)
     → ((entry : Entry) → payload_of entry ≡ payload → CanDumpEntry entry → out ≡ waited ++ lines_text (content_lines entry.content)) → Pours [] mid out holds waits
-    → HasPoured seed (place + (8 + length payload)) after rest entries held before holds waits
-one_more_poured seed place bytes rest payload after entries held mid holds before waited out waits r found appends pours =
-    let next = next_entry seed place bytes rest payload after r.left r.splits r.can found.0 found.1 in
+    → HasPoured seed (offset + (8 + length payload)) after rest entries held before holds waits
+one_more_poured seed offset bytes rest payload after entries held mid holds before waited out waits r found appends pours =
+    let next = next_entry seed offset bytes rest payload after r.left r.splits r.can found.0 found.1 in
     let x = next.0 in
     let lines = lines_text (content_lines x.content) in
     let made : Pours lines mid waited mid out = pours_out lines mid waited out (appends x next.3 next.4) in
@@ -74,19 +74,19 @@ one_more_poured seed place bytes rest payload after entries held mid holds befor
     }
 
 -- what went so far is a beginning of all
-pub part_poured : (seed place : ℕ) (bytes rest : List ℕ) (entries : List Entry) (held : Option (List ℕ)) (before : List ℕ) (holds : Option (List ℕ)) (out : List ℕ)
-    → HasPoured seed place bytes rest entries held before holds out → Puts (before ++ dump_text entries) held holds
-part_poured seed place bytes rest entries held before holds out r =
+pub part_poured : (seed offset : ℕ) (bytes rest : List ℕ) (entries : List Entry) (held : Option (List ℕ)) (before : List ℕ) (holds : Option (List ℕ)) (out : List ℕ)
+    → HasPoured seed offset bytes rest entries held before holds out → Puts (before ++ dump_text entries) held holds
+part_poured seed offset bytes rest entries held before holds out r =
     subst (λ (t : List ℕ). Puts (before ++ t) held holds) r.parts
     (puts_more r.text (dump_text r.left) held holds before (puts_gone r.text held holds before out r.poured))
 
 -- the sink failed behind one more
-pub fault_poured : (seed place : ℕ) (bytes rest payload after : List ℕ) (entries : List Entry) (held mid holds : Option (List ℕ)) (before waited out : List ℕ)
-    → HasPoured seed place bytes rest entries held before mid waited → IsPayload payload × (bytes ≡ frame seed place payload ++ after)
+pub fault_poured : (seed offset : ℕ) (bytes rest payload after : List ℕ) (entries : List Entry) (held mid holds : Option (List ℕ)) (before waited out : List ℕ)
+    → HasPoured seed offset bytes rest entries held before mid waited → IsPayload payload × (bytes ≡ frame seed offset payload ++ after)
     → ((entry : Entry) → payload_of entry ≡ payload → CanDumpEntry entry → out ≡ waited ++ lines_text (content_lines entry.content)) → (n : ℕ) × Appends mid holds (take n out)
     → Puts (before ++ dump_text entries) held holds
-fault_poured seed place bytes rest payload after entries held mid holds before waited out r found appends part =
-    let next = next_entry seed place bytes rest payload after r.left r.splits r.can found.0 found.1 in
+fault_poured seed offset bytes rest payload after entries held mid holds before waited out r found appends part =
+    let next = next_entry seed offset bytes rest payload after r.left r.splits r.can found.0 found.1 in
     let x = next.0 in
     let lines = lines_text (content_lines x.content) in
     let made : Pours lines mid waited mid out = pours_out lines mid waited out (appends x next.3 next.4) in
@@ -97,19 +97,19 @@ fault_poured seed place bytes rest payload after entries held mid holds before w
     subst (λ (t : List ℕ). Puts (before ++ t) held holds) all
     (puts_more (r.text ++ lines) (dump_text next.1) held holds before (puts_waiting (r.text ++ lines) held mid holds before out went part))
 
-pub all_poured : (seed place : ℕ) (bytes rest : List ℕ) (entries : List Entry) (held : Option (List ℕ)) (before : List ℕ) (holds : Option (List ℕ)) (out : List ℕ)
-    → HasPoured seed place bytes rest entries held before holds out → (BeginsWhole seed place bytes → ⊥) → Pours (dump_text entries) held before holds out
-all_poured seed place bytes rest entries held before holds out r none = by r.left refl
+pub all_poured : (seed offset : ℕ) (bytes rest : List ℕ) (entries : List Entry) (held : Option (List ℕ)) (before : List ℕ) (holds : Option (List ℕ)) (out : List ℕ)
+    → HasPoured seed offset bytes rest entries held before holds out → (BeginsWhole seed offset bytes → ⊥) → Pours (dump_text entries) held before holds out
+all_poured seed offset bytes rest entries held before holds out r none = by r.left refl
   where
     by : (left : List Entry) → r.left ≡ left → Pours (dump_text entries) held before holds out
     by [] is = subst (λ (t : List ℕ). Pours t held before holds out) (sym (append-nil r.text) ∙ ap (λ (es : List Entry). r.text ++ dump_text es) (sym is) ∙ r.parts) r.poured
     by (x ∷ xs) is =
-        let splits = subst (λ (es : List Entry). Splits seed place bytes (payloads_of es) rest) is r.splits in
+        let splits = subst (λ (es : List Entry). Splits seed offset bytes (payloads_of es) rest) is r.splits in
         absurd (none (
           payload_of x,
-          frames seed (place + (8 + length (payload_of x))) (payloads_of xs) ++ rest,
+          frames seed (offset + (8 + length (payload_of x))) (payloads_of xs) ++ rest,
           splits.each.0,
-          splits.whole ∙ append_assoc (frame seed place (payload_of x)) (frames seed (place + (8 + length (payload_of x))) (payloads_of xs)) rest,
+          splits.whole ∙ append_assoc (frame seed offset (payload_of x)) (frames seed (offset + (8 + length (payload_of x))) (payloads_of xs)) rest,
         ))
 
 -- and what waits goes

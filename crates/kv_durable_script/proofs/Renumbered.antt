@@ -104,7 +104,7 @@ pub but_revisions : (to : ℕ → ℕ) (ws : List Write) → AreSameButRevisions
 but_revisions to [] = refl
 but_revisions to (w ∷ ws) = ap (λ (vs : List Write). at_revision 0 w ∷ vs) (but_revisions to ws)
 
--- ---- revisions by place
+-- ---- revisions by index
 
 -- the revision that a write with this one gets
 abbrev pub number_of : ℕ → List Write → ℕ → ℕ
@@ -147,7 +147,7 @@ map_agree : (f g : Write → Write) (ws : List Write) → ((w : Write) → Conta
 map_agree f g [] same = refl
 map_agree f g (w ∷ ws) same = ap (λ (v : Write). v ∷ map f ws) (same w (Contains-here w ws)) ∙ ap (λ (vs : List Write). g w ∷ vs) (map_agree f g ws (λ v m. same v (Contains-there w ws v m)))
 
--- where the revisions rise, each gets its place
+-- where the revisions rise, each gets its index
 pub renumbered_is : (last : ℕ) (ws : List Write) → IsStrictlyIncreasing (revisions ws) → renumbered last ws ≡ map (moved (number_of last ws)) ws
 renumbered_is last [] rise = refl
 renumbered_is last (w ∷ ws) rise =

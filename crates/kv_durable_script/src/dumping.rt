@@ -29,7 +29,7 @@ use kv_model::Config;
 use kv_replay::{Output, pour_many};
 use std::alloc::Global;
 
-// Makes the lines of the entries whose frames stand in the bytes, the first of them at this place, up to the first frame that
+// Makes the lines of the entries whose frames stand in the bytes, the first of them at this offset, up to the first frame that
 // is not whole. They wait, and are written where they are many.
 fn pour_entries<K: Output>(
     alloc: Global,
@@ -49,12 +49,12 @@ fn pour_entries<K: Output>(
     ensures write_fault { IsErrOf result WriteFault → K.failed_between sink.old sink.new }
     ensures fault { IfErr result IsWriteOrMemory }
 {
-    let mut place = at;
+    let mut offset = at;
     let mut rest = bytes;
-    while let Some((payload, after)) = framing.frame_at(place, rest) {
+    while let Some((payload, after)) = framing.frame_at(offset, rest) {
         push_entry(alloc, out, payload)?;
         pour_many(out, sink)?;
-        place += 8 + payload.len() as u64;
+        offset += 8 + payload.len() as u64;
         rest = after;
     }
     Ok(())
@@ -82,12 +82,12 @@ fn write_entries<K: Output>(
     sink.write(&out)
 }
 
-// What stands behind this place.
-fn behind(bytes: &[u8], place: u64) -> &[u8]
-    requires { place ≤ length bytes.now }
-    ensures { result.now ≡ drop place bytes.now }
+// What stands behind this offset.
+fn behind(bytes: &[u8], offset: u64) -> &[u8]
+    requires { offset ≤ length bytes.now }
+    ensures { result.now ≡ drop offset bytes.now }
 {
-    &bytes[place as usize..]
+    &bytes[offset as usize..]
 }
 
 // Writes the script of bytes that begin with no checkpoint, which was recovered of them.
@@ -110,8 +110,8 @@ fn write_plain<K: Output>(
     let Ok(begun) = begin(alloc, bytes, config) else {
         return Err(KvError::OutOfMemory);
     };
-    let entries = behind(bytes, begun.place);
-    write_entries(alloc, &begun.framing, begun.place, entries, sink)
+    let entries = behind(bytes, begun.offset);
+    write_entries(alloc, &begun.framing, begun.offset, entries, sink)
 }
 
 /// Writes the script of the bytes of a file: the commands of its entries, one a line, in order. `put` has its value in base64;

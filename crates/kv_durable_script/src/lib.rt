@@ -12,7 +12,7 @@ mod target;
 pub use dumping::dump;
 pub use kv_durable::{
     Durable, DurableError, JournalFile, NotDone, OpenFault, Opened, ReplaceableFile, Sync,
-    SystemFile, SystemPlace,
+    SystemFile, SystemLocation,
 };
 pub use running::{Finished, run_durable};
 pub use shrinking::{Compacts, InPlace, Replacing};

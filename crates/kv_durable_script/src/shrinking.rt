@@ -37,11 +37,11 @@ impl<F: JournalFile> Compacts<F> for InPlace {
     }
 }
 
-/// Compactions behind which a file that lies in this place is replaced by a checkpoint, where it has more than twice the bytes
+/// Compactions behind which a file that lies at this location is replaced by a checkpoint, where it has more than twice the bytes
 /// of the new one.
 #[derive(Drop)]
 pub struct Replacing<'a, P, S> {
-    pub place: &'a P,
+    pub location: &'a P,
     /// Each new file has a number from here.
     pub seeds: &'a S,
 }
@@ -66,7 +66,7 @@ where
         let Some(seed) = self.seed() else {
             return InPlace.compact(durable, floor);
         };
-        durable.compact_and_checkpoint(floor, self.place, seed)?;
+        durable.compact_and_checkpoint(floor, self.location, seed)?;
         Ok(())
     }
 }

@@ -44,10 +44,10 @@ fn is_refused_at_second(rt: &impl Abort, told: Result<u64, BatchError>) {
 fn a_batch_is_refused_whole_once(rt: &impl Abort, alloc: Global) -> Result<(), DurableError> {
     let mut bucket = opened(alloc, empty(alloc), Sync::Asked)?.durable;
     step(alloc, &mut bucket, 0)?;
-    let place = bucket.journal().place();
+    let offset = bucket.journal().offset();
     let told = put_and_create(alloc, &mut bucket)?;
     is_refused_at_second(rt, told);
-    equal(rt, bucket.journal().place(), place);
+    equal(rt, bucket.journal().offset(), offset);
     equal(rt, bucket.bucket().version().revision(), 1);
     Ok(())
 }
@@ -109,12 +109,12 @@ fn damaged(rt: &impl Abort, alloc: Global, bucket: &Bucket) -> Result<Vec<u8>, A
 // Behind the batch stands one more write.
 fn damage_in_a_long_batch_is_told_once(rt: &impl Abort, alloc: Global) -> Result<(), DurableError> {
     let mut bucket = opened(alloc, empty(alloc), Sync::Each)?.durable;
-    let place = bucket.journal().place();
+    let offset = bucket.journal().offset();
     put_long(alloc, &mut bucket)?;
     step(alloc, &mut bucket, 0)?;
     let bytes = damaged(rt, alloc, &bucket)?;
     match reopened(alloc, &bytes) {
-        Err(DurableError::FileDamaged { at }) => equal(rt, at, place),
+        Err(DurableError::FileDamaged { at }) => equal(rt, at, offset),
         Err(error) => return Err(error),
         Ok(_) => panic!(rt; "a damaged batch was taken for a torn one"),
     }

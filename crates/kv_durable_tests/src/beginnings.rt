@@ -26,7 +26,7 @@ pub(crate) struct Course {
 // Notes the version that a bucket has now, and where its bytes end.
 fn note(course: &mut Course, bucket: &Bucket) -> Result<(), DurableError> {
     push(&mut course.versions, bucket.bucket().version().snapshot()?)?;
-    push(&mut course.ends, bucket.journal().place() as usize)?;
+    push(&mut course.ends, bucket.journal().offset() as usize)?;
     Ok(())
 }
 

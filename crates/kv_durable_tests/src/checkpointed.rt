@@ -59,7 +59,7 @@ fn comes_back(rt: &impl Abort, alloc: Global, steps: usize) -> Result<(), Durabl
     checkpoint(&mut bucket)?;
     let mut second = same_again(rt, alloc, &bucket, true)?;
     equal(rt, second.journal().seed(), NEXT_SEED);
-    equal(rt, second.journal().place(), bucket.journal().place());
+    equal(rt, second.journal().offset(), bucket.journal().offset());
     both_go_on(rt, alloc, &mut bucket, &mut second, steps)?;
     same_again(rt, alloc, &bucket, true)?;
     Ok(())

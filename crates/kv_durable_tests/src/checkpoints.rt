@@ -66,7 +66,7 @@ fn comes_back(
     match restored(alloc, config, &framing, &bytes)? {
         Some(restored) => {
             assert!(rt; is_same(version, &restored.version));
-            equal(rt, restored.place, bytes.len() as u64);
+            equal(rt, restored.offset, bytes.len() as u64);
         }
         None => assert!(rt; false),
     }

@@ -111,7 +111,7 @@ fn replayed(alloc: Global, bytes: &[u8]) -> Result<Result<Replayed, ReplayError>
         Ok(begun) => begun,
         Err(_) => return Err(KvError::BadConfig),
     };
-    if begun.place as usize != FIRST {
+    if begun.offset as usize != FIRST {
         return Err(KvError::ValueTooLarge);
     }
     let version = Version::empty(alloc, &config)?;
@@ -129,7 +129,7 @@ fn the_sample_is_read_once(rt: &impl Abort, alloc: Global) -> Result<(), KvError
     let Ok(read) = replayed(alloc, &bytes)? else {
         return Err(KvError::ValueTooLarge);
     };
-    equal(rt, read.place, END as u64);
+    equal(rt, read.offset, END as u64);
     equal(
         rt,
         read.version.status(),
@@ -168,7 +168,7 @@ fn read_of(rt: &impl Abort, alloc: Global, bytes: &[u8]) -> Result<(usize, bool)
     let Ok(read) = replayed(alloc, bytes)? else {
         return Err(KvError::ValueTooLarge);
     };
-    let end = read.place as usize;
+    let end = read.offset as usize;
     assert!(rt; end <= bytes.len() && bytes.len() < 1000);
     let damaged = shows_damage(&Framing::new(SEED), end as u64, &bytes[end..]);
     Ok((end, damaged))
@@ -194,7 +194,7 @@ fn a_torn_file_is_its_whole_entries(rt: HostRuntime) -> Result<(), Fail> {
     Ok(())
 }
 
-// The sample with a bit of the byte at this place turned.
+// The sample with a bit of the byte at this offset turned.
 fn is_damaged_at(rt: &impl Abort, alloc: Global, at: usize) -> Result<(), KvError> {
     let mut bytes = sample(alloc)?;
     let Some(byte) = bytes.get_mut(at) else {

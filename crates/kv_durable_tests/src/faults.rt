@@ -143,7 +143,7 @@ fn a_fault_stops(rt: HostRuntime) -> Result<(), Fail> {
 fn what_is_refused_is_not_there_once(rt: &impl Abort, alloc: Global) -> Result<(), DurableError> {
     let mut bucket = opened(alloc, empty(alloc), Sync::Asked)?.durable;
     step(alloc, &mut bucket, 0)?;
-    let place = bucket.journal().place();
+    let offset = bucket.journal().offset();
     let exists = write(&mut bucket, &create(alloc, "app.port", "1")?);
     equal(rt, exists, Err(DurableError::Refused(KvError::KeyExists)));
     equal(
@@ -151,7 +151,7 @@ fn what_is_refused_is_not_there_once(rt: &impl Abort, alloc: Global) -> Result<(
         compact(&mut bucket, 2),
         Err(DurableError::Refused(KvError::BadFloor)),
     );
-    equal(rt, bucket.journal().place(), place);
+    equal(rt, bucket.journal().offset(), offset);
     assert!(rt; !bucket.journal().file().loose().is_empty());
     sync(&mut bucket)?;
     assert!(rt; bucket.journal().file().loose().is_empty());

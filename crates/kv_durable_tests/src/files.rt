@@ -19,7 +19,7 @@ const LOOSE: &[(Sync, &[usize])] = &[
 
 // Adds ten bytes, and answers whether that went well.
 fn add<F: JournalFile>(appender: &mut Appender<F>) -> bool {
-    appender.place() < 1000 && appender.add(b"ten bytes.").is_ok()
+    appender.offset() < 1000 && appender.add(b"ten bytes.").is_ok()
 }
 
 fn syncs_as_told(rt: &impl Abort, alloc: Global, sync: Sync, loose: &[usize]) {

@@ -34,9 +34,9 @@ fn compacted(alloc: Global, writes: u64) -> Result<Bucket, DurableError> {
 // What comes of the file behind so many writes, as the rule has it.
 fn wanted(alloc: Global, writes: u64) -> Result<Shrunk, DurableError> {
     let mut bucket = compacted(alloc, writes)?;
-    let large = bucket.journal().place();
+    let large = bucket.journal().offset();
     checkpoint(&mut bucket)?;
-    if large > bucket.journal().place().saturating_mul(2) {
+    if large > bucket.journal().offset().saturating_mul(2) {
         return Ok(Shrunk::Replaced);
     }
     Ok(Shrunk::Left)

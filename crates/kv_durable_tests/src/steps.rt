@@ -78,7 +78,7 @@ fn create_in(
     write(bucket, &create(alloc, key, value)?)
 }
 
-// Why a batch was not done, without its place.
+// Why a batch was not done, without its index.
 pub(crate) fn without_place(error: BatchError) -> DurableError {
     match error {
         BatchError::Refused(refused) => DurableError::Refused(refused.error),

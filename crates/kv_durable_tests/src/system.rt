@@ -3,7 +3,7 @@
 use crate::acts::put_in;
 use crate::equal::equal;
 use kv_durable::{Durable, DurableError, OpenFault, Opened, Sync, SystemFile};
-use kv_file::{JournalFile, ReplaceFault, ReplaceableFile, SystemPlace};
+use kv_file::{JournalFile, ReplaceFault, ReplaceableFile, SystemLocation};
 use kv_model::Config;
 use kv_test_tools::twice;
 use std::alloc::Global;
@@ -27,14 +27,14 @@ fn new_path(rt: &HostRuntime) -> Result<String, DurableError> {
     Ok(format!(in rt.alloc(); "{}/kv-{number}.journal", folder.as_str())?)
 }
 
-// The bucket of a file that lies in this place.
+// The bucket of a file that lies at this location.
 fn opened_in(
     alloc: Global,
     file: SystemFile,
-    place: &SystemPlace<HostRuntime>,
+    location: &SystemLocation<HostRuntime>,
 ) -> Result<Opened<SystemFile>, DurableError> {
     let config = Config::named(alloc, "settings")?;
-    match Durable::open(alloc, &config, file, place, 7, Sync::Each) {
+    match Durable::open(alloc, &config, file, location, 7, Sync::Each) {
         Ok(opened) => Ok(opened),
         Err(refused) => Err(refused.error),
     }
@@ -42,13 +42,13 @@ fn opened_in(
 
 fn opened(rt: &HostRuntime, alloc: Global, path: &str) -> Result<Opened<SystemFile>, DurableError> {
     let next = format!(in alloc; "{path}.next")?;
-    let place = SystemPlace {
+    let location = SystemLocation {
         rt,
         path,
         next: next.as_str(),
     };
     let file = SystemFile::open(rt, path)?;
-    opened_in(alloc, file, &place)
+    opened_in(alloc, file, &location)
 }
 
 // Writes twice, and answers where the file ends.
@@ -56,7 +56,7 @@ fn write_twice(rt: &HostRuntime, alloc: Global, path: &str) -> Result<u64, Durab
     let mut bucket = opened(rt, alloc, path)?.durable;
     put_in(alloc, &mut bucket, "app.port", "80")?;
     put_in(alloc, &mut bucket, "app.host", "kv")?;
-    Ok(bucket.journal().place())
+    Ok(bucket.journal().offset())
 }
 
 // What was written is there again, once nothing has the file any more.
@@ -132,9 +132,9 @@ fn replaced(
     path: &str,
     next: &str,
 ) -> Result<Result<(), ReplaceFault>, DurableError> {
-    let place = SystemPlace { rt, path, next };
+    let location = SystemLocation { rt, path, next };
     let new = Vec::from_slice(alloc, b"new")?;
-    Ok(file.replace(&place, new))
+    Ok(file.replace(&location, new))
 }
 
 // The file at this path has these bytes, whoever has it open.

@@ -11,7 +11,7 @@ use std::alloc::Global;
 use std::process::Abort;
 use std::test::Fail;
 
-// The first frame of the checkpoint stands at this place.
+// The first frame of the checkpoint stands at this offset.
 const PLACE: u64 = 40;
 
 // A stored write: its revision, its kind (1 is a put, 2 a delete, 3 a purge), and its key, of one letter.

@@ -6,5 +6,5 @@ use Rattle.kv_file.specs.declared.appender.Appender.{Appender}
 pub record Has {F : Type 0} (has : F → List ℕ → List ℕ → Type 0) (usable : F → Bool) (kept loose : List ℕ) (appender : Appender F) : Type 0 where
   pub is_usable : usable appender.file ≡ true
   pub file : has appender.file kept loose
-  pub place : appender.place ≡ length (kept ++ loose)
+  pub offset : appender.offset ≡ length (kept ++ loose)
   pub count : appender.loose ≡ length loose

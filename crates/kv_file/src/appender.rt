@@ -29,16 +29,16 @@ pub struct Appender<F: JournalFile> {
     file: F,
     sync: Sync,
     // Where the file ends.
-    place: u64,
+    offset: u64,
     loose: u64,
     // How often it was added to since the last sync.
     waiting: u64,
 }
 
 impl<F: JournalFile> Appender<F> {
-    /// What adds to a file that ends at this place, all of it on the disk.
-    pub fn new(file: F, place: u64, sync: Sync) -> Appender<F>
-        ensures has { (kept : List ℕ) → F.usable file ≡ true → F.has file kept [] → place ≡ length kept →
+    /// What adds to a file that ends at this offset, all of it on the disk.
+    pub fn new(file: F, offset: u64, sync: Sync) -> Appender<F>
+        ensures has { (kept : List ℕ) → F.usable file ≡ true → F.has file kept [] → offset ≡ length kept →
             Has F.has F.usable kept [] result }
         ensures sync { result.sync ≡ sync }
         ensures file { result.file ≡ file }
@@ -47,7 +47,7 @@ impl<F: JournalFile> Appender<F> {
         Appender {
             file,
             sync,
-            place,
+            offset,
             loose: 0,
             waiting: 0,
         }
@@ -67,7 +67,7 @@ impl<F: JournalFile> Appender<F> {
         let Appender {
             file,
             sync: _,
-            place: _,
+            offset: _,
             loose: _,
             waiting: _,
         } = self;
@@ -82,10 +82,10 @@ impl<F: JournalFile> Appender<F> {
     }
 
     /// Where the file ends.
-    pub fn place(&self) -> u64
-        ensures { result ≡ self.now.place }
+    pub fn offset(&self) -> u64
+        ensures { result ≡ self.now.offset }
     {
-        self.place
+        self.offset
     }
 
     // Whether what was added has to be on the disk now.
@@ -119,7 +119,7 @@ impl<F: JournalFile> Appender<F> {
         ensures count { OnOk result ((self.new.loose ≡ 0) × (self.new.waiting ≡ 0)) }
         ensures err { OnErr result ((kept loose : List ℕ) → Has F.has F.usable kept loose self.old →
             F.has self.new.file kept loose) }
-        ensures place { self.new.place ≡ self.old.place }
+        ensures offset { self.new.offset ≡ self.old.offset }
         ensures same { self.new.sync ≡ self.old.sync }
         ensures usable { F.usable self.new.file ≡ (F.usable self.old.file && is_ok result) }
         ensures faults { F.faults self.old.file ≤ F.faults self.new.file }
@@ -140,7 +140,7 @@ impl<F: JournalFile> Appender<F> {
         ensures few { OnOk result (self.new.loose ≤ 1073741824) }
         ensures err { OnErr result ((kept loose : List ℕ) → Has F.has F.usable kept loose self.old →
             F.has self.new.file kept loose) }
-        ensures place { self.new.place ≡ self.old.place }
+        ensures offset { self.new.offset ≡ self.old.offset }
         ensures same { self.new.sync ≡ self.old.sync }
         ensures usable { F.usable self.new.file ≡ (F.usable self.old.file && is_ok result) }
         ensures faults { F.faults self.old.file ≤ F.faults self.new.file }
@@ -155,7 +155,7 @@ impl<F: JournalFile> Appender<F> {
 
     // Adds bytes, and leaves them loose.
     fn append(&mut self, bytes: &[u8]) -> Result<(), FileFault>
-        requires room { self.old.place < 2 ^ 62 }
+        requires room { self.old.offset < 2 ^ 62 }
         requires few { self.old.loose ≤ 1073741824 }
         requires short { length bytes.now < 2 ^ 33 }
         ensures ok { OnOk result ((kept loose : List ℕ) → Has F.has F.usable kept loose self.old →
@@ -170,7 +170,7 @@ impl<F: JournalFile> Appender<F> {
             F.faults self.old.file < F.faults self.new.file) }
     {
         self.file.append(bytes)?;
-        self.place += bytes.len() as u64;
+        self.offset += bytes.len() as u64;
         self.loose += bytes.len() as u64;
         self.waiting = self.waiting.saturating_add(1);
         Ok(())
@@ -179,7 +179,7 @@ impl<F: JournalFile> Appender<F> {
     /// Adds bytes at the end, and brings all onto the disk where that is due. It asks for fewer than 2^33 bytes, and for a
     /// file of fewer than 2^62.
     pub fn add(&mut self, bytes: &[u8]) -> Result<(), FileFault>
-        requires room { self.old.place < 2 ^ 62 }
+        requires room { self.old.offset < 2 ^ 62 }
         requires short { length bytes.now < 2 ^ 33 }
         ensures ok { OnOk result ((kept loose : List ℕ) → Has F.has F.usable kept loose self.old →
             (k : List ℕ) × (l : List ℕ) × Adds kept loose bytes.now k l × Has F.has F.usable k l self.new
@@ -204,7 +204,7 @@ impl<F: JournalFile> Appender<F> {
     }
 
     /// Puts these bytes in the place of all that the file has, all of them on the disk.
-    pub fn replace<P>(&mut self, place: &P, bytes: Vec<u8>) -> Result<(), ReplaceFault>
+    pub fn replace<P>(&mut self, location: &P, bytes: Vec<u8>) -> Result<(), ReplaceFault>
     where
         F: ReplaceableFile<P>,
         ensures ok { OnOk result ((kept loose : List ℕ) → Has F.has F.usable kept loose self.old →
@@ -216,7 +216,7 @@ impl<F: JournalFile> Appender<F> {
             F.has self.new.file kept loose ⊎ F.has self.new.file bytes.items [] }
         ensures stays { IsErrOf result Unchanged → F.usable self.new.file ≡ F.usable self.old.file }
         ensures stops { IsErrOf result Unknown → F.usable self.new.file ≡ false }
-        ensures place { OnErr result (self.new.place ≡ self.old.place) }
+        ensures offset { OnErr result (self.new.offset ≡ self.old.offset) }
         ensures count { OnErr result (self.new.waiting ≡ self.old.waiting) }
         ensures same { self.new.sync ≡ self.old.sync }
         ensures faults { F.faults self.old.file ≤ F.faults self.new.file }
@@ -224,8 +224,8 @@ impl<F: JournalFile> Appender<F> {
             F.faults self.old.file < F.faults self.new.file) }
     {
         let len = bytes.len() as u64;
-        self.file.replace(place, bytes)?;
-        self.place = len;
+        self.file.replace(location, bytes)?;
+        self.offset = len;
         self.loose = 0;
         self.waiting = 0;
         Ok(())

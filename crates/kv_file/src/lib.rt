@@ -12,4 +12,4 @@ pub use appender::{Appender, Sync};
 pub use file::{FileFault, JournalFile, ReadFault};
 pub use memory::{MemoryFile, Torn};
 pub use replace::{ReplaceFault, ReplaceableFile};
-pub use system::{OpenFault, SystemFile, SystemPlace};
+pub use system::{OpenFault, SystemFile, SystemLocation};

@@ -14,11 +14,11 @@ pub enum ReplaceFault {
     Unknown,
 }
 
-/// A file that can be replaced as a whole, where it lies in such a place.
+/// A file that can be replaced as a whole, where it lies at such a location.
 pub trait ReplaceableFile<P>: JournalFile {
     /// Puts these bytes in the place of all that the file has, and brings them onto the disk. Whatever a crash leaves
     /// meanwhile, it leaves of what the file had, or it leaves all of these bytes.
-    fn replace(&mut self, place: &P, bytes: Vec<u8>) -> Result<(), ReplaceFault>
+    fn replace(&mut self, location: &P, bytes: Vec<u8>) -> Result<(), ReplaceFault>
         ensures ok { OnOk result (Self.usable self.old ≡ true → (kept loose : List ℕ) → Self.has self.old kept loose →
             Self.has self.new bytes.items []) }
         ensures unchanged { IsErrOf result Unchanged → (kept loose : List ℕ) → Self.has self.old kept loose →

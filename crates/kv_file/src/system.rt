@@ -59,7 +59,7 @@ pub struct SystemFile {
 
 /// Where a file of the system lies.
 #[derive(Drop)]
-pub struct SystemPlace<'a, R> {
+pub struct SystemLocation<'a, R> {
     pub rt: &'a R,
     /// The path that it was opened with.
     pub path: &'a str,
@@ -120,15 +120,15 @@ fn written<R: Files<File = File>>(
 
 // A file with these bytes in the place of the one that lies there. It is locked before it has that name.
 fn put_in_place<R: Files<File = File>>(
-    place: &SystemPlace<'_, R>,
+    location: &SystemLocation<'_, R>,
     file: &File,
     bytes: &[u8],
 ) -> Result<File, OpenFault> {
-    if !is_there(place.rt, place.path, file)? {
+    if !is_there(location.rt, location.path, file)? {
         return Err(OpenFault::Failed);
     }
-    let next = written(place.rt, place.next, file, bytes)?;
-    fs::rename(place.rt, place.next, place.path)?;
+    let next = written(location.rt, location.next, file, bytes)?;
+    fs::rename(location.rt, location.next, location.path)?;
     Ok(next)
 }
 
@@ -244,16 +244,20 @@ impl JournalFile for SystemFile {
 }
 
 // The new file is written, synced and locked before it takes the name of the old one, whose lock goes behind that.
-impl<'a, R: Files<File = File>> ReplaceableFile<SystemPlace<'a, R>> for SystemFile {
-    fn replace(&mut self, place: &SystemPlace<'a, R>, bytes: Vec<u8>) -> Result<(), ReplaceFault> {
+impl<'a, R: Files<File = File>> ReplaceableFile<SystemLocation<'a, R>> for SystemFile {
+    fn replace(
+        &mut self,
+        location: &SystemLocation<'a, R>,
+        bytes: Vec<u8>,
+    ) -> Result<(), ReplaceFault> {
         if self.broken {
             return Err(ReplaceFault::Unknown);
         }
-        let Ok(next) = put_in_place(place, &self.file, &bytes) else {
+        let Ok(next) = put_in_place(location, &self.file, &bytes) else {
             return Err(self.stay());
         };
         self.file = next;
-        if sync_folder(place.rt, place.path).is_err() {
+        if sync_folder(location.rt, location.path).is_err() {
             self.broken = true;
             return Err(ReplaceFault::Unknown);
         }

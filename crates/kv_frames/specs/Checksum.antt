@@ -19,7 +19,7 @@ with_byte crc byte = shifted_by 8 (bit_xor crc byte)
 abbrev pub crc32c : List ℕ → ℕ
 crc32c bytes = bit_xor (fold with_byte 0xFFFFFFFF bytes) 0xFFFFFFFF
 
--- The checksum of a payload in its place: of the file's seed, of where the frame begins, and of the payload. So a frame
--- counts only in the file, and at the place, that it was written for.
+-- The checksum of a payload at its offset: of the file's seed, of where the frame begins, and of the payload. So a frame
+-- counts only in the file, and at the offset, that it was written for.
 unfoldable pub checksum : (seed at : ℕ) → List ℕ → ℕ
 checksum seed at payload = crc32c (to_be_bytes w64 seed ++ (to_be_bytes w64 at ++ payload))

@@ -8,15 +8,15 @@ use Rattle.kv_frames.specs.Checksum.{checksum}
 abbrev pub frame : (seed at : ℕ) → List ℕ → List ℕ
 frame seed at payload = to_be_bytes w32 (length payload) ++ (to_be_bytes w32 (checksum seed at payload) ++ payload)
 
--- the frames of these payloads, one behind the other, where the first begins at this place
+-- the frames of these payloads, one behind the other, where the first begins at this offset
 abbrev pub frames : (seed at : ℕ) → List (List ℕ) → List ℕ
 frames seed at [] = []
 frames seed at (p ∷ ps) = frame seed at p ++ frames seed (at + (8 + length p)) ps
 
--- the place behind them
-abbrev pub place_after : ℕ → List (List ℕ) → ℕ
-place_after at [] = at
-place_after at (p ∷ ps) = place_after (at + (8 + length p)) ps
+-- the offset behind them
+abbrev pub offset_after : ℕ → List (List ℕ) → ℕ
+offset_after at [] = at
+offset_after at (p ∷ ps) = offset_after (at + (8 + length p)) ps
 
 -- a payload has 1 to 4,294,967,295 bytes
 abbrev pub IsPayload : List ℕ → Type 0
@@ -33,4 +33,4 @@ BeginsWhole seed at bytes = (payload : List ℕ) × (rest : List ℕ) × IsPaylo
 pub record Splits (seed at : ℕ) (bytes : List ℕ) (payloads : List (List ℕ)) (rest : List ℕ) : Type 0 where
   pub whole : bytes ≡ frames seed at payloads ++ rest
   pub each : ArePayloads payloads
-  pub ended : BeginsWhole seed (place_after at payloads) rest → ⊥
+  pub ended : BeginsWhole seed (offset_after at payloads) rest → ⊥

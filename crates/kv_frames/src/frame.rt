@@ -39,7 +39,7 @@ impl Framing {
         }
     }
 
-    /// Adds the frame of a payload that begins at this place of the file.
+    /// Adds the frame of a payload that begins at this offset of the file.
     pub fn push_frame(&self, out: &mut Vec<u8>, at: u64, payload: &[u8]) -> Result<(), AllocError>
         requires { IsPayload payload.now }
         ensures { OnOk result (out.new.items ≡ out.old.items ++ frame self.now.seed at payload.now) }
@@ -50,7 +50,7 @@ impl Framing {
         Ok(())
     }
 
-    /// The payload of the whole frame at the front, which begins at this place of the file, and what stands behind it;
+    /// The payload of the whole frame at the front, which begins at this offset of the file, and what stands behind it;
     /// none where no whole frame stands there: too few bytes, no payload, or another checksum.
     pub fn frame_at<'a>(&self, at: u64, bytes: &'a [u8]) -> Option<(&'a [u8], &'a [u8])>
         ensures some { IfSome result

@@ -48,7 +48,7 @@ impl Crc32c {
         self.with_bytes(u32::MAX, bytes) ^ u32::MAX
     }
 
-    /// The checksum of a payload whose frame begins at this place of the file with this seed.
+    /// The checksum of a payload whose frame begins at this offset of the file with this seed.
     #[tactic(auto, unfolding(crate::specs::Checksum::checksum))]
     pub(crate) fn checksum(&self, seed: u64, at: u64, payload: &[u8]) -> u32
         ensures { result ≡ checksum seed at payload.now }

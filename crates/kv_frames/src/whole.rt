@@ -7,7 +7,7 @@ use crate::frame::Framing;
 use std::alloc::{AllocError, Global};
 
 impl Framing {
-    /// The payloads of the whole frames from the front on, where the first begins at this place of the file, and the rest,
+    /// The payloads of the whole frames from the front on, where the first begins at this offset of the file, and the rest,
     /// at whose front no whole frame stands.
     pub fn read_frames<'a>(
         &self,
@@ -19,11 +19,11 @@ impl Framing {
         ensures { IfOk result (λ r. Splits self.now.seed at bytes.now (map (λ p. p.items) r.0.items) r.1.now) }
     {
         let mut payloads = Vec::new(alloc);
-        let mut place = at;
+        let mut offset = at;
         let mut rest = bytes;
-        while let Some((payload, after)) = self.frame_at(place, rest) {
+        while let Some((payload, after)) = self.frame_at(offset, rest) {
             payloads.push(Vec::from_slice(alloc, payload)?)?;
-            place += 8 + payload.len() as u64;
+            offset += 8 + payload.len() as u64;
             rest = after;
         }
         Ok((payloads, rest))

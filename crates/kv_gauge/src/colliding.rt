@@ -1,7 +1,7 @@
 //! Keys of one place, as somebody can choose them who knows the hash.
 
 use crate::fault::{Answer, Fault, check};
-use crate::keys::{VALUE, keys_by, place, puts};
+use crate::keys::{VALUE, index, keys_by, puts};
 use crate::plan::Plan;
 use crate::reading;
 use crate::series::{Name, Series};
@@ -49,7 +49,7 @@ fn keys(alloc: Global, from: usize, to: usize) -> Result<Vec<Key>, Fault> {
 
 // Some of so many keys, spread over them.
 fn spread(alloc: Global, count: usize, asked: usize) -> Result<Vec<Key>, Fault> {
-    keys_by(alloc, 0, asked, |turn| key(alloc, place(turn, count)))
+    keys_by(alloc, 0, asked, |turn| key(alloc, index(turn, count)))
 }
 
 // That they really share a place.

@@ -49,7 +49,7 @@ pub fn keys(alloc: Global, from: usize, to: usize) -> Result<Vec<Key>, Fault> {
 }
 
 /// A number among so many, spread over them.
-pub fn place(turn: usize, count: usize) -> usize
+pub fn index(turn: usize, count: usize) -> usize
     ensures { 0 < count → result < count }
 {
     if count == 0 {
@@ -60,7 +60,7 @@ pub fn place(turn: usize, count: usize) -> usize
 
 /// Some keys among so many, spread over them, in the order in which they are asked for.
 pub fn spread(alloc: Global, count: usize, asked: usize) -> Result<Vec<Key>, Fault> {
-    keys_by(alloc, 0, asked, |turn| key(alloc, place(turn, count)))
+    keys_by(alloc, 0, asked, |turn| key(alloc, index(turn, count)))
 }
 
 /// A put of these bytes to a key.

@@ -39,8 +39,8 @@ pub struct Series {
 
 // The value that so many percent of all are not above.
 fn at(tenths: &[u64], percent: usize) -> u64 {
-    let place = tenths.len().saturating_mul(percent) / 100;
-    match tenths.get(place) {
+    let index = tenths.len().saturating_mul(percent) / 100;
+    match tenths.get(index) {
         Some(found) => *found,
         None => tenths.last().copied().unwrap_or(0),
     }

@@ -1,8 +1,8 @@
 -- Entries that are done again, one after the other.
 use Rattle.std.proofs.Common.{◌≡◌, ℕ, ◌+◌, List, [], ◌∷◌, ◌++◌, length, refl, sym, ap, ◌∙◌, subst, append_assoc, append-nil}
 use Rattle.std.proofs.lemmas.List.{map-append}
-use Rattle.kv_frames.specs.Frames.{frame, frames, place_after, IsPayload, ArePayloads, BeginsWhole, Splits}
-use Rattle.kv_frames.proofs.Reading.{ArePayloads-push, behind, one_more, place_after-append}
+use Rattle.kv_frames.specs.Frames.{frame, frames, offset_after, IsPayload, ArePayloads, BeginsWhole, Splits}
+use Rattle.kv_frames.proofs.Reading.{ArePayloads-push, behind, one_more, offset_after-append}
 use Rattle.kv_frames.proofs.Tails.{written}
 use Rattle.kv_model.specs.Acts.{Act}
 use Rattle.kv_model.specs.Configuration.{Configuration}
@@ -20,11 +20,11 @@ acts_of-append (x ∷ xs) ys =
 pub acts_of-push : (xs : List Entry) (x : Entry) → acts_of (xs ++ x ∷ []) ≡ acts_of xs ++ acts_in x.content
 acts_of-push xs x = acts_of-append xs (x ∷ []) ∙ ap (λ (more : List Act). acts_of xs ++ more) (append-nil (acts_in x.content))
 
--- the entries are read and done again up to this place, and no others that could be added have these payloads
-pub record IsReplayed (first : Stored) (seed at : ℕ) (bytes : List ℕ) (entries : List Entry) (place : ℕ) (rest : List ℕ) (version : Stored) : Type 0 where
+-- the entries are read and done again up to this offset, and no others that could be added have these payloads
+pub record IsReplayed (first : Stored) (seed at : ℕ) (bytes : List ℕ) (entries : List Entry) (offset : ℕ) (rest : List ℕ) (version : Stored) : Type 0 where
   pub whole : bytes ≡ frames seed at (payloads_of entries) ++ rest
   pub each : ArePayloads (payloads_of entries)
-  pub here : place ≡ place_after at (payloads_of entries)
+  pub here : offset ≡ offset_after at (payloads_of entries)
   pub extends : Extends first (acts_of entries) version
   pub lawful : (before : List Act) → StandsFor before first → AreLawful first.config before entries
   pub only : (before : List Act) (others : List Entry) → StandsFor before first → AreLawful first.config before others → payloads_of others ≡ payloads_of entries → others ≡ entries
@@ -74,16 +74,16 @@ lawful_push config before [] a each one = (subst (λ (xs : List Act). IsLawfulEn
 lawful_push config before (y ∷ ys) a each one =
     (each.0, lawful_push config (before ++ acts_in y.content) ys a each.1 (subst (λ (xs : List Act). IsLawfulEntry config xs a) (sym (append_assoc before (acts_in y.content) (acts_of ys))) one))
 
-pub goes_on : (first : Stored) (seed at : ℕ) (bytes : List ℕ) (entries : List Entry) (place : ℕ) (rest : List ℕ) (version : Stored) (p after : List ℕ) (entry : Entry) (new : Stored)
-    → IsReplayed first seed at bytes entries place rest version → IsPayload p → rest ≡ frame seed place p ++ after → RedoesEntry p entry version new → new.config ≡ version.config
-    → IsReplayed first seed at bytes (entries ++ entry ∷ []) (place + (8 + length p)) after new
-goes_on first seed at bytes entries place rest version p after entry new r is found redoes kept =
+pub goes_on : (first : Stored) (seed at : ℕ) (bytes : List ℕ) (entries : List Entry) (offset : ℕ) (rest : List ℕ) (version : Stored) (p after : List ℕ) (entry : Entry) (new : Stored)
+    → IsReplayed first seed at bytes entries offset rest version → IsPayload p → rest ≡ frame seed offset p ++ after → RedoesEntry p entry version new → new.config ≡ version.config
+    → IsReplayed first seed at bytes (entries ++ entry ∷ []) (offset + (8 + length p)) after new
+goes_on first seed at bytes entries offset rest version p after entry new r is found redoes kept =
     let same : payloads_of (entries ++ entry ∷ []) ≡ payloads_of entries ++ p ∷ [] = map-append payload_of entries (entry ∷ []) ∙ ap (λ (z : List ℕ). payloads_of entries ++ z ∷ []) redoes.has in
     record {
-      whole = subst (λ (ps : List (List ℕ)). bytes ≡ frames seed at ps ++ after) (sym same) (one_more seed at place bytes rest (payloads_of entries) p after r.whole r.here found);
+      whole = subst (λ (ps : List (List ℕ)). bytes ≡ frames seed at ps ++ after) (sym same) (one_more seed at offset bytes rest (payloads_of entries) p after r.whole r.here found);
       each = subst ArePayloads (sym same) (ArePayloads-push (payloads_of entries) p r.each is);
-      here = subst (λ (ps : List (List ℕ)). place + (8 + length p) ≡ place_after at ps) (sym same)
-          (ap (λ (n : ℕ). n + (8 + length p)) r.here ∙ sym (place_after-append at (payloads_of entries) (p ∷ [])));
+      here = subst (λ (ps : List (List ℕ)). offset + (8 + length p) ≡ offset_after at ps) (sym same)
+          (ap (λ (n : ℕ). n + (8 + length p)) r.here ∙ sym (offset_after-append at (payloads_of entries) (p ∷ [])));
       extends = record {
         config = kept ∙ r.extends.config;
         on = λ before stands. subst (λ (xs : List Act). StandsFor xs new)
@@ -110,22 +110,22 @@ goes_on first seed at bytes entries place rest version p after entry new r is fo
         cc
 
 -- where the next entry can't be done again, no entries that could be added have these payloads
-pub is_damaged : (first : Stored) (seed at : ℕ) (bytes : List ℕ) (entries : List Entry) (place : ℕ) (rest : List ℕ) (version : Stored) (p after : List ℕ)
-    → IsReplayed first seed at bytes entries place rest version → IsPayload p → rest ≡ frame seed place p ++ after
+pub is_damaged : (first : Stored) (seed at : ℕ) (bytes : List ℕ) (entries : List Entry) (offset : ℕ) (rest : List ℕ) (version : Stored) (p after : List ℕ)
+    → IsReplayed first seed at bytes entries offset rest version → IsPayload p → rest ≡ frame seed offset p ++ after
     → ((so_far : List Act) → StandsFor so_far version → (entry : Entry) → payload_of entry ≡ p → IsLawfulEntry version.config so_far entry → ⊥)
     → (before : List Act) (others : List Entry) (left : List ℕ) → StandsFor before first → AreLawful first.config before others → Splits seed at bytes (payloads_of others) left → ⊥
-is_damaged first seed at bytes entries place rest version p after r is found none before others left stands lawful splits =
+is_damaged first seed at bytes entries offset rest version p after r is found none before others left stands lawful splits =
     let read = subst (λ (w : List ℕ). Splits seed at w (payloads_of others) left) r.whole splits in
     let more = written seed at (payloads_of entries) (payloads_of others) rest left r.each read in
     ends more.0 more.1 more.2
   where
-    ends : (more : List (List ℕ)) → payloads_of others ≡ payloads_of entries ++ more → Splits seed (place_after at (payloads_of entries)) rest more left → ⊥
+    ends : (more : List (List ℕ)) → payloads_of others ≡ payloads_of entries ++ more → Splits seed (offset_after at (payloads_of entries)) rest more left → ⊥
     ends [] same split =
-        let here : BeginsWhole seed place left = (p, after, is, sym split.whole ∙ found) in
+        let here : BeginsWhole seed offset left = (p, after, is, sym split.whole ∙ found) in
         split.ended (subst (λ (n : ℕ). BeginsWhole seed n left) r.here here)
     ends (m ∷ ms) same split =
         let there = subst (λ (n : ℕ). rest ≡ frames seed n (m ∷ ms) ++ left) (sym r.here) split.whole in
-        let b = behind seed place p m after left ms is split.each.0 (sym found ∙ there) in
+        let b = behind seed offset p m after left ms is split.each.0 (sym found ∙ there) in
         let t = parted others (payloads_of entries) m ms same in
         let ys = t.0 in
         let parts = t.3 in
@@ -135,10 +135,10 @@ is_damaged first seed at bytes entries place rest version p after r is found non
         let here : IsLawfulEntry version.config (before ++ acts_of entries) t.1 = subst (λ (config : Configuration). IsLawfulEntry config (before ++ acts_of entries) t.1) (sym r.extends.config) accepted in
         none (before ++ acts_of entries) (r.extends.on before stands) t.1 (parts.this ∙ sym b.0) here
 
--- a place where reading stops
-pub stops : (first : Stored) (seed at : ℕ) (bytes : List ℕ) (entries : List Entry) (place : ℕ) (rest : List ℕ) (version : Stored) (p after : List ℕ)
-    → IsReplayed first seed at bytes entries place rest version → IsPayload p → rest ≡ frame seed place p ++ after → StopsAt seed at bytes place
-stops first seed at bytes entries place rest version p after r is found = record {
+-- an offset where reading stops
+pub stops : (first : Stored) (seed at : ℕ) (bytes : List ℕ) (entries : List Entry) (offset : ℕ) (rest : List ℕ) (version : Stored) (p after : List ℕ)
+    → IsReplayed first seed at bytes entries offset rest version → IsPayload p → rest ≡ frame seed offset p ++ after → StopsAt seed at bytes offset
+stops first seed at bytes entries offset rest version p after r is found = record {
   entries = entries;
   rest = rest;
   before = r.whole;

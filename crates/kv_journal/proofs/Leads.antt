@@ -2,7 +2,7 @@
 use Rattle.std.proofs.Common.{◌≡◌, ℕ, List, ◌++◌, ◌≤◌, length, subst, sym, arith}
 use Rattle.std.specs.Prelude.{◌&&◌, nat_le}
 use Rattle.std.proofs.lemmas.Bool.{and_parts, leb-true}
-use Rattle.kv_frames.specs.Frames.{ArePayloads, frames, place_after}
+use Rattle.kv_frames.specs.Frames.{ArePayloads, frames, offset_after}
 use Rattle.kv_model.specs.Acceptance.{IsLawful}
 use Rattle.kv_model.specs.Acts.{Act, Write}
 use Rattle.kv_model.specs.Configuration.{Configuration, IsLegal}
@@ -46,10 +46,10 @@ of_no_acts config seed at bytes c legal only not acts rest lawful each whole =
 
 -- a version that has what such a checkpoint tells has what acts have stored whose checkpoint it is
 pub led_to : (config : Configuration) (seed at : ℕ) (bytes : List ℕ) (c : Checkpoint) (rest : List ℕ) → IsLegal config → bytes ≡ frames seed at (checkpoint_payloads c) ++ rest → ArePayloads (checkpoint_payloads c) → IsOnly config seed at bytes c
-    → IsReachable config c.writes c.last c.values c.floor → (version : Stored) → IsRestored config c version → (place : ℕ) → place ≡ place_after at (checkpoint_payloads c)
+    → IsReachable config c.writes c.last c.values c.floor → (version : Stored) → IsRestored config c version → (offset : ℕ) → offset ≡ offset_after at (checkpoint_payloads c)
     → (acts : List Act) × (left : List ℕ) × IsLawful config acts × ArePayloads (checkpoint_payloads (checkpoint_of config acts)) × (bytes ≡ frames seed at (checkpoint_payloads (checkpoint_of config acts)) ++ left)
-    × IsRestored config (checkpoint_of config acts) version × (place ≡ place_after at (checkpoint_payloads (checkpoint_of config acts))) × IsOnly config seed at bytes (checkpoint_of config acts)
-led_to config seed at bytes c rest legal whole each only r version is place there =
+    × IsRestored config (checkpoint_of config acts) version × (offset ≡ offset_after at (checkpoint_payloads (checkpoint_of config acts))) × IsOnly config seed at bytes (checkpoint_of config acts)
+led_to config seed at bytes c rest legal whole each only r version is offset there =
     let found = acts_of_parts config c legal r in
     let same = sym found.2 in (
       found.0,
@@ -58,6 +58,6 @@ led_to config seed at bytes c rest legal whole each only r version is place ther
       subst (λ (d : Checkpoint). ArePayloads (checkpoint_payloads d)) same each,
       subst (λ (d : Checkpoint). bytes ≡ frames seed at (checkpoint_payloads d) ++ rest) same whole,
       subst (λ (d : Checkpoint). IsRestored config d version) same is,
-      subst (λ (d : Checkpoint). place ≡ place_after at (checkpoint_payloads d)) same there,
+      subst (λ (d : Checkpoint). offset ≡ offset_after at (checkpoint_payloads d)) same there,
       subst (λ (d : Checkpoint). IsOnly config seed at bytes d) same only,
     )

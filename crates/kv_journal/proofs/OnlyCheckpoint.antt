@@ -45,14 +45,14 @@ same_parts c ws last values floor sealed w l v f s =
     ∙ ap (λ (n : ℕ). made ws last values n c.sealed) f
     ∙ ap (λ (b : Bool). made ws last values floor b) s
 
-pub only_this : (config : Configuration) (seed at : ℕ) (bytes : List ℕ) (ws : List Write) (place : ℕ) (rest : List ℕ) → AreFirst seed at bytes ws place rest → IsLegal config
-    → (p after : List ℕ) → IsPayload p → rest ≡ frame seed place p ++ after → ((w : Write) → IsRecordableAct (Wrote w) → w.revision < 2 ^ 32 → stored_payload w ≡ p → ⊥)
+pub only_this : (config : Configuration) (seed at : ℕ) (bytes : List ℕ) (ws : List Write) (offset : ℕ) (rest : List ℕ) → AreFirst seed at bytes ws offset rest → IsLegal config
+    → (p after : List ℕ) → IsPayload p → rest ≡ frame seed offset p ++ after → ((w : Write) → IsRecordableAct (Wrote w) → w.revision < 2 ^ 32 → stored_payload w ≡ p → ⊥)
     → (last values floor : ℕ) (sealed : Bool) → last < 2 ^ 64 → values < 2 ^ 64 → floor < 2 ^ 64 → p ≡ settled_payload (numbers_record last values floor sealed)
     → IsOnly config seed at bytes (record { writes = ws; last = last; values = values; floor = floor; sealed = sealed })
 unfolding made
-only_this config seed at bytes ws place rest are legal p after fits found none last values floor sealed hl hv hf is = λ acts left lawful each whole.
+only_this config seed at bytes ws offset rest are legal p after fits found none last values floor sealed hl hv hf is = λ acts left lawful each whole.
     let c = checkpoint_of config acts in
-    let next = none_next seed at bytes ws place rest p after are fits found none (stored_writes config.history acts) (numbers_payload c) left (begins config acts legal lawful seed at bytes left each whole) (all_recordable config acts legal lawful) in
+    let next = none_next seed at bytes ws offset rest p after are fits found none (stored_writes config.history acts) (numbers_payload c) left (begins config acts legal lawful seed at bytes left each whole) (all_recordable config acts legal lawful) in
     let fit = numbers_fit config acts legal lawful in
     let floor_fits : floor_of acts < 2 ^ 64 = omega (arith, floor_within config acts lawful, fit.0) in
     let same = same_numbers c.last c.values c.floor last values floor c.sealed sealed fit.0 fit.1 floor_fits hl hv hf (sym next.1 ∙ is) in

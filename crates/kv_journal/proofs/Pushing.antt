@@ -2,8 +2,8 @@
 use Rattle.std.proofs.Common.{◌≡◌, ℕ, ◌+◌, ◌<◌, Bool, List, [], ◌∷◌, ◌++◌, length, map, take, get_or, sym, ap, ◌∙◌, subst, append_assoc, append-nil, length-append}
 use Rattle.std.specs.Prelude.{Result, Ok, Err, OnOk}
 use Rattle.std.proofs.lemmas.List.{map-append, take_more}
-use Rattle.kv_frames.specs.Frames.{ArePayloads, IsPayload, frame, frames, place_after}
-use Rattle.kv_frames.proofs.Reading.{frames-append, place_is}
+use Rattle.kv_frames.specs.Frames.{ArePayloads, IsPayload, frame, frames, offset_after}
+use Rattle.kv_frames.proofs.Reading.{frames-append, offset_is}
 use Rattle.kv_model.specs.Acts.{Act, Write, writes_of, floor_of}
 use Rattle.kv_model.specs.Compaction.{stored_writes}
 use Rattle.kv_model.specs.Retained.{retained}
@@ -21,9 +21,9 @@ payloads_append (p ∷ ps) qs h k = (h.0, payloads_append ps qs h.1 k)
 pub more_frames : (seed : ℕ) (old mid new : List ℕ) (ps qs : List (List ℕ)) → mid ≡ old ++ frames seed (length old) ps → new ≡ mid ++ frames seed (length mid) qs → new ≡ old ++ frames seed (length old) (ps ++ qs)
 more_frames seed old mid new ps qs one two =
     let first = frames seed (length old) ps in
-    let there : length mid ≡ place_after (length old) ps = ap length one ∙ length-append old first ∙ sym (place_is seed (length old) ps) in
-    two ∙ ap (λ (n : ℕ). mid ++ frames seed n qs) there ∙ ap (λ (xs : List ℕ). xs ++ frames seed (place_after (length old) ps) qs) one
-    ∙ append_assoc old first (frames seed (place_after (length old) ps) qs) ∙ ap (λ (xs : List ℕ). old ++ xs) (sym (frames-append seed (length old) ps qs))
+    let there : length mid ≡ offset_after (length old) ps = ap length one ∙ length-append old first ∙ sym (offset_is seed (length old) ps) in
+    two ∙ ap (λ (n : ℕ). mid ++ frames seed n qs) there ∙ ap (λ (xs : List ℕ). xs ++ frames seed (offset_after (length old) ps) qs) one
+    ∙ append_assoc old first (frames seed (offset_after (length old) ps) qs) ∙ ap (λ (xs : List ℕ). old ++ xs) (sym (frames-append seed (length old) ps qs))
 
 -- that of one payload
 pub one_frame : {E : Type 0} (r : Result (Unit {0}) E) (seed : ℕ) (old new payload wanted : List ℕ) (at : ℕ) → payload ≡ wanted → at ≡ length old

@@ -53,40 +53,40 @@ pub record Begins (seed at : ℕ) (bytes : List ℕ) (ds : List Write) (n r : Li
   pub whole : bytes ≡ frames seed at (map stored_payload ds ++ n ∷ []) ++ r
 
 -- what it has behind the writes that are put back so far
-pub record Remains (seed : ℕ) (ds : List Write) (n r : List ℕ) (ws : List Write) (place : ℕ) (rest : List ℕ) : Type 0 where
+pub record Remains (seed : ℕ) (ds : List Write) (n r : List ℕ) (ws : List Write) (offset : ℕ) (rest : List ℕ) : Type 0 where
   pub more : List Write
   pub all : ds ≡ ws ++ more
-  pub behind : rest ≡ frames seed place (map stored_payload more ++ n ∷ []) ++ r
+  pub behind : rest ≡ frames seed offset (map stored_payload more ++ n ∷ []) ++ r
 
 -- each such checkpoint begins with these writes
-abbrev pub AreFirst : (seed at : ℕ) → List ℕ → List Write → (place : ℕ) → List ℕ → Type 0
-AreFirst seed at bytes ws place rest = (ds : List Write) (n r : List ℕ) → Begins seed at bytes ds n r → Remains seed ds n r ws place rest
+abbrev pub AreFirst : (seed at : ℕ) → List ℕ → List Write → (offset : ℕ) → List ℕ → Type 0
+AreFirst seed at bytes ws offset rest = (ds : List Write) (n r : List ℕ) → Begins seed at bytes ds n r → Remains seed ds n r ws offset rest
 
 pub none_first : (seed at : ℕ) (bytes : List ℕ) → AreFirst seed at bytes [] at bytes
 none_first seed at bytes ds n r b = record { more = ds; all = refl; behind = b.whole }
 
-module _ (seed at : ℕ) (bytes : List ℕ) (ws : List Write) (place : ℕ) (rest p after : List ℕ) (are : AreFirst seed at bytes ws place rest) (fits : IsPayload p) (found : rest ≡ frame seed place p ++ after) where
+module _ (seed at : ℕ) (bytes : List ℕ) (ws : List Write) (offset : ℕ) (rest p after : List ℕ) (are : AreFirst seed at bytes ws offset rest) (fits : IsPayload p) (found : rest ≡ frame seed offset p ++ after) where
   -- the next payload is that of the next write, or that of the numbers
   pub next_is : (ds : List Write) (n r : List ℕ) → Begins seed at bytes ds n r →
-      ((m : Write) × (ms : List Write) × (ds ≡ ws ++ m ∷ ms) × (p ≡ stored_payload m) × (after ≡ frames seed (place + (8 + length p)) (told ms n) ++ r))
+      ((m : Write) × (ms : List Write) × (ds ≡ ws ++ m ∷ ms) × (p ≡ stored_payload m) × (after ≡ frames seed (offset + (8 + length p)) (told ms n) ++ r))
       ⊎ ((ds ≡ ws) × (p ≡ n))
   next_is ds n r b = by (are ds n r b)
     where
-      by : Remains seed ds n r ws place rest → ((m : Write) × (ms : List Write) × (ds ≡ ws ++ m ∷ ms) × (p ≡ stored_payload m) × (after ≡ frames seed (place + (8 + length p)) (told ms n) ++ r)) ⊎ ((ds ≡ ws) × (p ≡ n))
+      by : Remains seed ds n r ws offset rest → ((m : Write) × (ms : List Write) × (ds ≡ ws ++ m ∷ ms) × (p ≡ stored_payload m) × (after ≡ frames seed (offset + (8 + length p)) (told ms n) ++ r)) ⊎ ((ds ≡ ws) × (p ≡ n))
       by rem = cases rem.more rem.all rem.behind
         where
-          cases : (more : List Write) → ds ≡ ws ++ more → rest ≡ frames seed place (map stored_payload more ++ n ∷ []) ++ r
-              → ((m : Write) × (ms : List Write) × (ds ≡ ws ++ m ∷ ms) × (p ≡ stored_payload m) × (after ≡ frames seed (place + (8 + length p)) (told ms n) ++ r)) ⊎ ((ds ≡ ws) × (p ≡ n))
+          cases : (more : List Write) → ds ≡ ws ++ more → rest ≡ frames seed offset (map stored_payload more ++ n ∷ []) ++ r
+              → ((m : Write) × (ms : List Write) × (ds ≡ ws ++ m ∷ ms) × (p ≡ stored_payload m) × (after ≡ frames seed (offset + (8 + length p)) (told ms n) ++ r)) ⊎ ((ds ≡ ws) × (p ≡ n))
           cases [] all there =
               let same : ds ≡ ws = all ∙ append-nil ws in
               let is_payload = at_payload (map stored_payload ds) [] n b.each in
-              inr (same, (behind seed place p n after r [] fits is_payload (sym found ∙ there)).0)
+              inr (same, (behind seed offset p n after r [] fits is_payload (sym found ∙ there)).0)
           cases (m ∷ ms) all there =
               let is_payload = at_payload (map stored_payload ws) (told ms n) (stored_payload m) (subst ArePayloads (ap (λ (es : List Write). told es n) all ∙ told_parts ws m ms n) b.each) in
-              let both = behind seed place p (stored_payload m) after r (told ms n) fits is_payload (sym found ∙ there) in
+              let both = behind seed offset p (stored_payload m) after r (told ms n) fits is_payload (sym found ∙ there) in
               inl (m, ms, all, both.0, both.1)
 
-  pub one_first : (w : Write) → stored_payload w ≡ p → w.revision < 2 ^ 32 → AreFirst seed at bytes (ws ++ w ∷ []) (place + (8 + length p)) after
+  pub one_first : (w : Write) → stored_payload w ≡ p → w.revision < 2 ^ 32 → AreFirst seed at bytes (ws ++ w ∷ []) (offset + (8 + length p)) after
   one_first w is small ds n r b =
       elim (next_is ds n r b) [
         | inl there ↦
@@ -116,17 +116,17 @@ module _ (seed at : ℕ) (bytes : List ℕ) (ws : List Write) (place : ℕ) (res
       ]
 
 -- a whole frame stands there
-pub some_next : (seed at : ℕ) (bytes : List ℕ) (ws : List Write) (place : ℕ) (rest : List ℕ) → AreFirst seed at bytes ws place rest → (ds : List Write) (n r : List ℕ) → Begins seed at bytes ds n r → BeginsWhole seed place rest
-some_next seed at bytes ws place rest are ds n r b = by (are ds n r b)
+pub some_next : (seed at : ℕ) (bytes : List ℕ) (ws : List Write) (offset : ℕ) (rest : List ℕ) → AreFirst seed at bytes ws offset rest → (ds : List Write) (n r : List ℕ) → Begins seed at bytes ds n r → BeginsWhole seed offset rest
+some_next seed at bytes ws offset rest are ds n r b = by (are ds n r b)
   where
-    by : Remains seed ds n r ws place rest → BeginsWhole seed place rest
+    by : Remains seed ds n r ws offset rest → BeginsWhole seed offset rest
     by rem = cases rem.more rem.all rem.behind
       where
-        cases : (more : List Write) → ds ≡ ws ++ more → rest ≡ frames seed place (map stored_payload more ++ n ∷ []) ++ r → BeginsWhole seed place rest
-        cases [] all there = (n, r, at_payload (map stored_payload ds) [] n b.each, there ∙ append_assoc (frame seed place n) [] r)
+        cases : (more : List Write) → ds ≡ ws ++ more → rest ≡ frames seed offset (map stored_payload more ++ n ∷ []) ++ r → BeginsWhole seed offset rest
+        cases [] all there = (n, r, at_payload (map stored_payload ds) [] n b.each, there ∙ append_assoc (frame seed offset n) [] r)
         cases (m ∷ ms) all there =
             let is_payload = at_payload (map stored_payload ws) (told ms n) (stored_payload m) (subst ArePayloads (ap (λ (es : List Write). told es n) all ∙ told_parts ws m ms n) b.each) in
-            (stored_payload m, frames seed (place + (8 + length (stored_payload m))) (told ms n) ++ r, is_payload, there ∙ append_assoc (frame seed place (stored_payload m)) (frames seed (place + (8 + length (stored_payload m))) (told ms n)) r)
+            (stored_payload m, frames seed (offset + (8 + length (stored_payload m))) (told ms n) ++ r, is_payload, there ∙ append_assoc (frame seed offset (stored_payload m)) (frames seed (offset + (8 + length (stored_payload m))) (told ms n)) r)
 
 -- ---- what lawful acts leave stored
 
@@ -176,7 +176,7 @@ module _ (config : Configuration) (acts : List Act) (legal : IsLegal config) (la
 
 -- ---- so its reading does not end before its end
 
-pub not_cut_short : (config : Configuration) (seed at : ℕ) (bytes : List ℕ) (ws : List Write) (place : ℕ) (rest : List ℕ) → AreFirst seed at bytes ws place rest → IsLegal config → (BeginsWhole seed place rest → ⊥)
+pub not_cut_short : (config : Configuration) (seed at : ℕ) (bytes : List ℕ) (ws : List Write) (offset : ℕ) (rest : List ℕ) → AreFirst seed at bytes ws offset rest → IsLegal config → (BeginsWhole seed offset rest → ⊥)
     → (acts : List Act) (r : List ℕ) → IsLawful config acts → ArePayloads (checkpoint_payloads (checkpoint_of config acts)) → bytes ≡ frames seed at (checkpoint_payloads (checkpoint_of config acts)) ++ r → ⊥
-not_cut_short config seed at bytes ws place rest are legal none acts r lawful each whole =
-    none (some_next seed at bytes ws place rest are (stored_writes config.history acts) (numbers_payload (checkpoint_of config acts)) r (begins config acts legal lawful seed at bytes r each whole))
+not_cut_short config seed at bytes ws offset rest are legal none acts r lawful each whole =
+    none (some_next seed at bytes ws offset rest are (stored_writes config.history acts) (numbers_payload (checkpoint_of config acts)) r (begins config acts legal lawful seed at bytes r each whole))

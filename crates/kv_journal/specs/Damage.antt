@@ -7,7 +7,7 @@ use Rattle.kv_frames.specs.Frames.{IsPayload, frame}
 abbrev pub longest_frame : ℕ
 longest_frame = 1048845
 
--- so far behind the bad place frames are looked for
+-- so far behind the bad offset frames are looked for
 abbrev pub search_length : ℕ
 search_length = 2097152
 
@@ -19,7 +19,7 @@ loose_in payload = from_be_bytes w32 (take 4 payload)
 abbrev pub told_end : List ℕ → ℕ
 told_end bytes = 8 + from_be_bytes w32 (take 4 bytes)
 
--- so far behind the beginning of the bytes, which lie at this place of the file, stands the whole frame of an entry, at the
+-- so far behind the beginning of the bytes, which lie at this offset of the file, stands the whole frame of an entry, at the
 -- front of what is seen there, and says that the beginning was on the disk when it was added
 pub record IsOnDiskBy (seed at : ℕ) (bytes seen : List ℕ) (n : ℕ) (payload rest : List ℕ) : Type 0 where
   pub behind : 0 < n

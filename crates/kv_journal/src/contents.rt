@@ -1,7 +1,7 @@
 //! What the frames of a checkpoint tell, one after the other.
 
 ghost use Rattle.std.specs.Prelude.{◌≡◌, ◌+◌, ◌<◌, ◌^◌, ◌++◌, ℕ, List, length, IfErr, IfOk, MatchOption};
-ghost use Rattle.kv_frames.specs.Frames.{ArePayloads, frames, place_after};
+ghost use Rattle.kv_frames.specs.Frames.{ArePayloads, frames, offset_after};
 ghost use Rattle.kv_model.specs.Acceptance.{IsLawful};
 ghost use Rattle.kv_model.specs.Acts.{Act, Wrote, Write as AWrite};
 ghost use Rattle.kv_model.specs.Configuration.{Configuration, IsLegal};
@@ -25,7 +25,7 @@ use std::alloc::{AllocError, Global};
 pub(crate) struct Contents {
     pub writes: Vec<(u64, Request)>,
     pub numbers: Numbers,
-    pub place: u64,
+    pub offset: u64,
 }
 
 // The request of the write whose record this is.
@@ -64,7 +64,7 @@ fn write_in(alloc: Global, payload: &[u8]) -> Result<Option<(u64, Request)>, All
 }
 
 impl Contents {
-    /// Those of the checkpoint whose frames stand at the front of the bytes, the first at this place. Where they tell of none, it
+    /// Those of the checkpoint whose frames stand at the front of the bytes, the first at this offset. Where they tell of none, it
     /// is the frame from which on they do.
     pub(crate) fn of(
         alloc: Global,
@@ -76,33 +76,33 @@ impl Contents {
         ensures ok { IfOk result (λ c. (rest : List ℕ)
             × (bytes.now ≡ frames framing.now.seed at (checkpoint_payloads (checkpoint_told c)) ++ rest)
             × ArePayloads (checkpoint_payloads (checkpoint_told c))
-            × (c.place ≡ place_after at (checkpoint_payloads (checkpoint_told c)))
+            × (c.offset ≡ offset_after at (checkpoint_payloads (checkpoint_told c)))
             × ((config : Configuration) → IsLegal config → IsOnly config framing.now.seed at bytes.now (checkpoint_told c))) }
         ensures damaged { IfErr result (λ e. IsDamaged e → (config : Configuration) (acts : List Act) (rest : List ℕ) →
             IsLegal config → IsLawful config acts → ArePayloads (checkpoint_payloads (checkpoint_of config acts)) →
             bytes.now ≡ frames framing.now.seed at (checkpoint_payloads (checkpoint_of config acts)) ++ rest → ⊥) }
     {
         let mut writes = Vec::new(alloc);
-        let mut place = at;
+        let mut offset = at;
         let mut rest = bytes;
-        while let Some((payload, after)) = framing.frame_at(place, rest) {
+        while let Some((payload, after)) = framing.frame_at(offset, rest) {
             match write_in(alloc, payload)? {
                 Some(write) => writes.push(write)?,
                 None => {
                     let Some(numbers) = numbers_in(payload) else {
-                        return Err(ReplayError::Damaged { at: place });
+                        return Err(ReplayError::Damaged { at: offset });
                     };
-                    let place = place + 8 + payload.len() as u64;
+                    let offset = offset + 8 + payload.len() as u64;
                     return Ok(Contents {
                         writes,
                         numbers,
-                        place,
+                        offset,
                     });
                 }
             }
-            place += 8 + payload.len() as u64;
+            offset += 8 + payload.len() as u64;
             rest = after;
         }
-        Err(ReplayError::Damaged { at: place })
+        Err(ReplayError::Damaged { at: offset })
     }
 }

@@ -49,8 +49,8 @@ fn lower(revisions: &[u64], revision: u64) -> u64
     ensures { result ≡ length (filter (λ r. nat_lt r revision) revisions.now) }
 {
     match revisions.binary_search(&revision) {
-        Ok(place) => place as u64,
-        Err(place) => place as u64,
+        Ok(index) => index as u64,
+        Err(index) => index as u64,
     }
 }
 

@@ -86,7 +86,7 @@ fn is_shown_next(framing: &Framing, at: u64, bytes: &[u8]) -> bool
 }
 
 /// Whether the bytes, at whose beginning no whole frame stands, were damaged after they had come onto the disk: whether a
-/// whole frame stands further on that says so of the place where they begin. It looks at the place where the frame before it
+/// whole frame stands further on that says so of the offset where they begin. It looks at the offset where the frame before it
 /// ends by its length, and else at most two mebibytes ahead.
 pub fn shows_damage(framing: &Framing, at: u64, bytes: &[u8]) -> bool
     requires { at + length bytes.now < 2 ^ 64 }

@@ -26,7 +26,7 @@ pub enum BeginningError {
 #[derive(Drop)]
 pub struct Begun {
     pub framing: Framing,
-    pub place: u64,
+    pub offset: u64,
 }
 
 const MAGIC: &[u8] = b"vilgoued\x01";
@@ -109,7 +109,7 @@ pub fn begin(alloc: Global, bytes: &[u8], config: &Config) -> Result<Begun, Begi
     requires { length bytes.now < 2 ^ 63 }
     ensures ok { IfOk result (λ b. (rest : List ℕ)
         × BeginsWith bytes.now b.framing.seed (configuration_payload config.now) rest
-        × (b.place ≡ length (beginning b.framing.seed config.now))) }
+        × (b.offset ≡ length (beginning b.framing.seed config.now))) }
     ensures other { IsErrOf result OtherBucket → (seed : ℕ) × (payload : List ℕ) × (rest : List ℕ)
         × BeginsWith bytes.now seed payload rest × (payload ≢ configuration_payload config.now) }
     ensures none { IsErrOf result NoJournal → (seed : ℕ) (payload rest : List ℕ) →
@@ -126,8 +126,8 @@ pub fn begin(alloc: Global, bytes: &[u8], config: &Config) -> Result<Begun, Begi
         return Err(BeginningError::OutOfMemory);
     };
     if is_same(payload, wanted.as_slice()) {
-        let place = 17 + 8 + payload.len() as u64;
-        return Ok(Begun { framing, place });
+        let offset = 17 + 8 + payload.len() as u64;
+        return Ok(Begun { framing, offset });
     }
     Err(BeginningError::OtherBucket)
 }

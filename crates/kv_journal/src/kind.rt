@@ -17,7 +17,7 @@ fn tells_checkpoint(payload: &[u8]) -> bool
     *kind == 7 || *kind == 8
 }
 
-/// Whether the bytes, which lie at this place of a file, begin with a checkpoint, or else with entries or with nothing whole.
+/// Whether the bytes, which lie at this offset of a file, begin with a checkpoint, or else with entries or with nothing whole.
 pub fn begins_checkpoint(framing: &Framing, at: u64, bytes: &[u8]) -> bool
     ensures yes { result ≡ true → (entries : List Entry) (rest : List ℕ) →
         Splits framing.now.seed at bytes.now (payloads_of entries) rest → ⊥ }

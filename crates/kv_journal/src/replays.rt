@@ -1,7 +1,7 @@
 //! The version that a file stands for.
 
 ghost use Rattle.std.specs.Prelude.{◌≡◌, ◌+◌, ◌<◌, ◌^◌, ℕ, List, length, IfErr, IfOk};
-ghost use Rattle.kv_frames.specs.Frames.{Splits, place_after};
+ghost use Rattle.kv_frames.specs.Frames.{Splits, offset_after};
 ghost use Rattle.kv_model.specs.Acts.{Act};
 ghost use Rattle.kv_store.specs.Standing.{StandsFor};
 ghost use Rattle.kv_journal.specs.Entries.{AreLawful, Entry, acts_of, payloads_of};
@@ -17,7 +17,7 @@ use std::alloc::{AllocError, AllocFailed, Global};
 pub enum ReplayError {
     /// A request for memory was refused.
     OutOfMemory,
-    /// The frame at this place has its right checksum, and tells nothing that can stand behind the entries before it.
+    /// The frame at this offset has its right checksum, and tells nothing that can stand behind the entries before it.
     Damaged { at: u64 },
 }
 
@@ -47,11 +47,11 @@ impl<T: Drop> From<AllocFailed<T>> for ReplayError {
 #[derive(Drop)]
 pub struct Replayed {
     pub version: Version,
-    pub place: u64,
+    pub offset: u64,
 }
 
 /// Does again, from this version on, what the entries tell whose frames stand in the bytes, up to the first frame that is
-/// not whole. The first begins at this place of the file.
+/// not whole. The first begins at this offset of the file.
 pub fn replay(
     alloc: Global,
     version: Version,
@@ -65,24 +65,24 @@ pub fn replay(
         × Splits framing.now.seed at bytes.now (payloads_of entries) rest
         × Extends version (acts_of entries) r.version
         × ((before : List Act) → StandsFor before version → AreLawful version.config before entries)
-        × (r.place ≡ place_after at (payloads_of entries))) }
+        × (r.offset ≡ offset_after at (payloads_of entries))) }
     // A file of entries that could be added is not refused as damaged.
     ensures damaged { IfErr result (λ e. IsDamaged e → (before : List Act) (entries : List Entry) (rest : List ℕ) →
         StandsFor before version → AreLawful version.config before entries →
         Splits framing.now.seed at bytes.now (payloads_of entries) rest → ⊥) }
-    ensures place { IfErr result (λ e. TellsWhere framing.now.seed at bytes.now e) }
+    ensures offset { IfErr result (λ e. TellsWhere framing.now.seed at bytes.now e) }
 {
     let mut version = version;
-    let mut place = at;
+    let mut offset = at;
     let mut rest = bytes;
-    while let Some((payload, after)) = framing.frame_at(place, rest) {
+    while let Some((payload, after)) = framing.frame_at(offset, rest) {
         match redo(alloc, &mut version, payload) {
             Ok(true) => {}
-            Ok(false) => return Err(ReplayError::Damaged { at: place }),
+            Ok(false) => return Err(ReplayError::Damaged { at: offset }),
             Err(_) => return Err(ReplayError::OutOfMemory),
         }
-        place += 8 + payload.len() as u64;
+        offset += 8 + payload.len() as u64;
         rest = after;
     }
-    Ok(Replayed { version, place })
+    Ok(Replayed { version, offset })
 }

@@ -1,7 +1,7 @@
 //! A version from a checkpoint.
 
 ghost use Rattle.std.specs.Prelude.{◌≡◌, ◌+◌, ◌<◌, ◌^◌, ◌++◌, [], ℕ, List, length, IfErr, IfOk};
-ghost use Rattle.kv_frames.specs.Frames.{ArePayloads, frames, place_after};
+ghost use Rattle.kv_frames.specs.Frames.{ArePayloads, frames, offset_after};
 ghost use Rattle.kv_model.specs.Acceptance.{IsLawful};
 ghost use Rattle.kv_model.specs.Acts.{Act};
 ghost use Rattle.kv_store.specs.Standing.{StandsFor};
@@ -17,7 +17,7 @@ use kv_model::Config;
 use kv_store::Version;
 use std::alloc::Global;
 
-/// The version of the checkpoint whose frames stand at the front of the bytes, the first at this place, and where they end.
+/// The version of the checkpoint whose frames stand at the front of the bytes, the first at this offset, and where they end.
 /// There are acts whose checkpoint it is, and it has what they have stored. Bytes that begin with the checkpoint of no acts are
 /// damaged: at the first frame that tells nothing of one, or at the front. `empty` is the bucket's empty version.
 ///
@@ -38,7 +38,7 @@ pub fn restore(
         × ArePayloads (checkpoint_payloads (checkpoint_of config.now acts))
         × (bytes.now ≡ frames framing.now.seed at (checkpoint_payloads (checkpoint_of config.now acts)) ++ rest)
         × IsRestored config.now (checkpoint_of config.now acts) r.version
-        × (r.place ≡ place_after at (checkpoint_payloads (checkpoint_of config.now acts)))
+        × (r.offset ≡ offset_after at (checkpoint_payloads (checkpoint_of config.now acts)))
         × IsOnly config.now framing.now.seed at bytes.now (checkpoint_of config.now acts)) }
     // That of a bucket is not refused as damaged.
     ensures damaged { IfErr result (λ e. IsDamaged e → (acts : List Act) (rest : List ℕ) → IsLawful config.now acts →
@@ -52,7 +52,7 @@ pub fn restore(
     match reached(alloc, empty, config, &contents) {
         Ok(Some(version)) => Ok(Replayed {
             version,
-            place: contents.place,
+            offset: contents.offset,
         }),
         Ok(None) => Err(ReplayError::Damaged { at }),
         Err(_) => Err(ReplayError::OutOfMemory),

@@ -9,7 +9,7 @@ use Rattle.kv_model.specs.Requests.{Asked}
 use Rattle.kv_model.specs.State.{State}
 use Rattle.kv_model.specs.declared.batch.BatchRefused.{BatchRefused}
 
--- what follows an accepted write: the writes of the rest behind it; or the refusal of the rest, whose place is one further
+-- what follows an accepted write: the writes of the rest behind it; or the refusal of the rest, whose index is one further
 abbrev pub behind_one : Write → Result (List Write) BatchRefused → Result (List Write) BatchRefused
 behind_one w (Ok ws) = Ok (w ∷ ws)
 behind_one w (Err refused) = Err (record { at = refused.at + 1; error = refused.error })
@@ -18,7 +18,7 @@ abbrev pub and_rest : Result Write KvError → (Write → Result (List Write) Ba
 and_rest (Err error) rest = Err (record { at = 0; error = error })
 and_rest (Ok w) rest = behind_one w (rest w)
 
--- the writes that requests append, each judged behind those before it, or the first refusal and its place from 0
+-- the writes that requests append, each judged behind those before it, or the first refusal and its index from 0
 abbrev pub accept_all : Configuration → List Asked → List Act → Result (List Write) BatchRefused
 accept_all config [] acts = Ok []
 accept_all config (asked ∷ more) acts = and_rest (accept config asked acts)

@@ -7,7 +7,7 @@ use thiserror::Error;
 #[derive(Clone, Copy, Debug, PartialEq, Eq, Error)]
 #[error("{error} at {at}")]
 pub struct BatchRefused {
-    /// The place of the request that was refused, from 0. Those before it would have been accepted.
+    /// The index of the request that was refused, from 0. Those before it would have been accepted.
     pub at: usize,
     /// What it is refused with behind those before it. `OutOfMemory` where memory was refused while it was done: then
     /// it would have been accepted too.

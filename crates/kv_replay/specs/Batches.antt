@@ -16,7 +16,7 @@ abbrev pub behind_ask : Asked → Result (List Asked) BatchRefused → Result (L
 behind_ask asked (Ok more) = Ok (asked ∷ more)
 behind_ask asked (Err refused) = Err (record { at = refused.at + 1; error = refused.error })
 
--- the writes that lines ask for, or the first of them that asks for none: its place, from 0, and why
+-- the writes that lines ask for, or the first of them that asks for none: its index, from 0, and why
 abbrev pub all_asked : Asks → Result (List Asked) BatchRefused
 all_asked [] = Ok []
 all_asked (Err error ∷ asks) = Err (record { at = 0; error = error })
@@ -27,7 +27,7 @@ abbrev pub outcome : State → Result (List Asked) BatchRefused → Result (List
 outcome s (Err refused) = Err refused
 outcome s (Ok requests) = accept_all s.config requests s.acts
 
--- the one line that answers a batch: the revisions of all its writes, or a refusal with its place, from 1
+-- the one line that answers a batch: the revisions of all its writes, or a refusal with its number, from 1
 abbrev pub outcome_text : Result (List Write) BatchRefused → List ℕ
 outcome_text (Ok ws) = revisions_text (map (λ w. w.revision) ws)
 outcome_text (Err refused) = batch_refusal_text (refused.at + 1) refused.error

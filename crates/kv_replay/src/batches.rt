@@ -21,29 +21,29 @@ use kv_script::{append_batch_refusal, append_revisions};
 use kv_single::Request;
 use std::alloc::Global;
 
-/// The place from 1 of the request at a place from 0 of so many.
-fn place_of(at: usize, count: usize) -> u64
+/// The number from 1 of the line at this index from 0 of so many.
+fn number_of(at: usize, count: usize) -> u64
     ensures { at < count → result ≡ at + 1 }
 {
     if at < count { at as u64 + 1 } else { 0 }
 }
 
-/// A batch that the bucket refused, by the place of its line from 1.
+/// A batch that the bucket refused, by the number of its line from 1.
 fn answer_refused(
     alloc: Global,
-    place: u64,
+    number: u64,
     error: KvError,
     out: &mut Vec<u8>,
 ) -> Result<(), KvError>
     ensures cause { OnOk result (error ≢ OutOfMemory) }
-    ensures ok { OnOk result (out.new.items ≡ out.old.items ++ batch_refusal_text place error) }
+    ensures ok { OnOk result (out.new.items ≡ out.old.items ++ batch_refusal_text number error) }
     ensures err { OnErr result (out.new.items ≡ out.old.items) }
     ensures memory { IfErr result (λ e. e ≡ OutOfMemory) }
 {
     match error {
         KvError::OutOfMemory => Err(KvError::OutOfMemory),
         other => {
-            append_batch_refusal(alloc, out, place, other)?;
+            append_batch_refusal(alloc, out, number, other)?;
             Ok(())
         }
     }
@@ -75,8 +75,8 @@ fn answer_requests<T: Target>(
             Ok(())
         }
         Err(refused) => {
-            let place = place_of(refused.at, requests.len());
-            answer_refused(alloc, place, refused.error, out)
+            let number = number_of(refused.at, requests.len());
+            answer_refused(alloc, number, refused.error, out)
         }
     }
 }

@@ -11,14 +11,14 @@ eqb-true : (a b : ℕ) → a ≡ b → (a == b) ≡ true
 eqb-true a b e = grind (arith, e)
 
 -- behind others
-dealt_to-append : {X : Type 0} (workers worker place : ℕ) (xs : List X) (x : X)
-    → dealt_to workers worker place (xs ++ x ∷ []) ≡ dealt_to workers worker place xs ++ cond (((place + length xs) % workers) == worker) (x ∷ []) []
-dealt_to-append {X} workers worker place [] x =
-    let same : place + 0 ≡ place = omega arith in rw same refl
-dealt_to-append {X} workers worker place (y ∷ ys) x =
-    let same : place + suc (length ys) ≡ (place + 1) + length ys = omega arith in
-    let rest = dealt_to-append workers worker (place + 1) ys x in
-    elim (cases_Bool ((place % workers) == worker)) [
+dealt_to-append : {X : Type 0} (workers worker index : ℕ) (xs : List X) (x : X)
+    → dealt_to workers worker index (xs ++ x ∷ []) ≡ dealt_to workers worker index xs ++ cond (((index + length xs) % workers) == worker) (x ∷ []) []
+dealt_to-append {X} workers worker index [] x =
+    let same : index + 0 ≡ index = omega arith in rw same refl
+dealt_to-append {X} workers worker index (y ∷ ys) x =
+    let same : index + suc (length ys) ≡ (index + 1) + length ys = omega arith in
+    let rest = dealt_to-append workers worker (index + 1) ys x in
+    elim (cases_Bool ((index % workers) == worker)) [
       | inl here ↦ rw (here, same) (ap (λ t. y ∷ t) rest)
       | inr there ↦ rw (there, same) rest
     ]

@@ -2,12 +2,12 @@
 use Rattle.std.specs.Prelude.{ℕ, ◌+◌, ◌%◌, ◌==◌, if◌then◌else◌, List, [], ◌∷◌, map}
 use Rattle.std.specs.List.{range_with_len}
 
--- those whose place leaves the worker's number where it is divided by the number of workers; the first has this place
+-- those whose index leaves the worker's number where it is divided by the number of workers; the first has this index
 abbrev pub dealt_to : {X : Type 0} → ℕ → ℕ → ℕ → List X → List X
-dealt_to {X} workers worker place [] = []
-dealt_to {X} workers worker place (x ∷ xs) =
-    if (place % workers) == worker then x ∷ dealt_to workers worker (place + 1) xs else
-    dealt_to workers worker (place + 1) xs
+dealt_to {X} workers worker index [] = []
+dealt_to {X} workers worker index (x ∷ xs) =
+    if (index % workers) == worker then x ∷ dealt_to workers worker (index + 1) xs else
+    dealt_to workers worker (index + 1) xs
 
 -- what each worker is dealt, worker by worker from 0
 abbrev pub dealt : {X : Type 0} → ℕ → List X → List (List X)

@@ -8,7 +8,7 @@ use Rattle.kv_durable.specs.declared.error.DurableError.{DurableError}
 use Rattle.kv_durable.specs.declared.error.DurableError.TheVariants.{FileDamaged, Refused}
 use Rattle.kv_run.specs.Arguments.{Wanted}
 
--- the line that names an error: of damage with the place up to which the file is good
+-- the line that names an error: of damage with the offset up to which the file is good
 abbrev pub file_fault_text : DurableError → Text
 file_fault_text (FileDamaged at) = codes "kvbucket: FileDamaged at byte " ++ (decimal at ++ 10 ∷ [])
 file_fault_text error = codes "kvbucket: " ++ (durable_name error ++ 10 ∷ [])

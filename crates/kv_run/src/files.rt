@@ -18,7 +18,7 @@ use crate::arguments::Arguments;
 use crate::clashes::{accuse, clash, when_of};
 use crate::telling::{fail, tell_torn};
 use kv_durable_script::{
-    Durable, DurableError, Finished, Opened, Replacing, Sync as When, SystemFile, SystemPlace,
+    Durable, DurableError, Finished, Opened, Replacing, Sync as When, SystemFile, SystemLocation,
     dump, run_durable,
 };
 use kv_keys::KvError;
@@ -62,7 +62,7 @@ fn file_of<T: Files<File = File>>(
 {
     let file = SystemFile::open(rt, path)?;
     match rt.canonicalize(alloc, path) {
-        Ok(place) => Ok((file, place.into_string())),
+        Ok(path) => Ok((file, path.into_string())),
         Err(error) if error.kind() == ErrorKind::OutOfMemory => {
             Err(DurableError::Refused(KvError::OutOfMemory))
         }
@@ -70,20 +70,20 @@ fn file_of<T: Files<File = File>>(
     }
 }
 
-/// Opens the bucket of a file that lies in this place.
+/// Opens the bucket of a file that lies at this location.
 fn open<T: Files<File = File> + RandomSource>(
     alloc: Global,
     config: &Config,
     file: SystemFile,
-    place: &SystemPlace<'_, T>,
+    location: &SystemLocation<'_, T>,
     when: When,
 ) -> Result<Opened<SystemFile>, DurableError>
     requires legal { IsLegal config.now × (configure config.now ≡ Ok config.now) }
     ensures ok { IfOk result (λ o. (acts : List Act) × Represents (state_of config.now acts) o.durable.bucket) }
     ensures err { IfErr result (λ e. IsUnbegun config.now e) }
 {
-    let seed = seed(place.rt)?;
-    match Durable::open(alloc, config, file, place, seed, when) {
+    let seed = seed(location.rt)?;
+    match Durable::open(alloc, config, file, location, seed, when) {
         Ok(opened) => Ok(opened),
         Err(refused) => Err(refused.error),
     }
@@ -123,7 +123,7 @@ fn run<T: Files<File = File> + RandomSource, R: Input, W: Output, F: Output>(
     let when = when_of(arguments.sync()).unwrap_or(When::Each);
     let (file, real) = file_of(rt, alloc, path)?;
     let next = path_beside(alloc, real.as_str())?;
-    let place = SystemPlace {
+    let location = SystemLocation {
         rt,
         path: real.as_str(),
         next: next.as_str(),
@@ -132,11 +132,11 @@ fn run<T: Files<File = File> + RandomSource, R: Input, W: Output, F: Output>(
         durable,
         dropped,
         ..
-    } = open(alloc, &config, file, &place, when)?;
+    } = open(alloc, &config, file, &location, when)?;
     tell_torn(alloc, dropped, "dropped", path, faults)?;
     let mut source = Bounded::new(reader, READ_CALLS);
     let replacing = Replacing {
-        place: &place,
+        location: &location,
         seeds: rt,
     };
     let Finished { file: _, result } = run_durable(

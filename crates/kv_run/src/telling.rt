@@ -12,7 +12,7 @@ use kv_keys::KvError;
 use kv_replay::Output;
 use std::alloc::{AllocError, Global};
 
-/// The line that names damage, with the place up to which the file is good.
+/// The line that names damage, with the offset up to which the file is good.
 fn damage_line(alloc: Global, at: u64) -> Result<String, AllocError>
     ensures { IfOk result (λ line. string_bytes line ≡ file_fault_text (FileDamaged at)) }
 {

@@ -145,10 +145,10 @@ pub worker_refusal_line : (worker : ℕ) (error : KvError) → line (compact_tex
 unfolding serde_json_on_literals worker_refusal_text
 worker_refusal_line worker error = ap line (refusal_compact error (worker_field worker) (worker_members worker) (refl, refl, tt))
 
-pub batch_refusal_line : (place : ℕ) (error : KvError) → line (compact_text (object (told_fields (Some place) error None))) ≡ batch_refusal_text place error
+pub batch_refusal_line : (number : ℕ) (error : KvError) → line (compact_text (object (told_fields (Some number) error None))) ≡ batch_refusal_text number error
 unfolding serde_json_on_literals batch_refusal_text
-batch_refusal_line place error =
-    ap line (compact-object (told_fields (Some place) error None) ((codes "at", decimal place) ∷ refusal_members error [])
+batch_refusal_line number error =
+    ap line (compact-object (told_fields (Some number) error None) ((codes "at", decimal number) ∷ refusal_members error [])
     (refl, refl, (refl, refl, (refl, refl, detail_are error no_members [] tt))))
 
 numbers_are : (ns : List ℕ) → AreItems (number_items ns) (map decimal ns)

@@ -155,9 +155,9 @@ refusal_text error = line (object_text (refusal_members error []))
 unfoldable pub revisions_text : List ℕ → List ℕ
 revisions_text revisions = line (object_text (one (codes "revisions") (array_text (map decimal revisions))))
 
--- a batch that is refused for the line at this place, from 1
+-- a batch that is refused for the line of this number, from 1
 unfoldable pub batch_refusal_text : ℕ → KvError → List ℕ
-batch_refusal_text place error = line (object_text ((codes "at", decimal place) ∷ refusal_members error []))
+batch_refusal_text number error = line (object_text ((codes "at", decimal number) ∷ refusal_members error []))
 
 -- an accepted write of a worker of a race
 unfoldable pub told_text : ℕ → ℕ → List ℕ

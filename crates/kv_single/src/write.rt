@@ -68,7 +68,7 @@ impl Bucket {
     /// revision of the first write; the others have those from there on. Of no requests nothing is done, and the last
     /// revision is answered.
     ///
-    /// Where one is refused the answer is its place and what it is refused with behind those before it, the first
+    /// Where one is refused the answer is its index and what it is refused with behind those before it, the first
     /// reason that fits, want of memory last. Then nothing has changed, no revision is used, and each watch is as it
     /// was. Want of memory is told at the request during which memory was refused: this one, and those before it, would
     /// have been accepted.

@@ -230,7 +230,7 @@ pub extern "C" fn kv_batch_size(alloc: Global, batch: &mut Handle, size: &mut us
     done
 }
 
-// The code of the refusal of a batch. The place of the request that is refused is handed out, and its key's last revision, if
+// The code of the refusal of a batch. The index of the request that is refused is handed out, and its key's last revision, if
 // the refusal tells that.
 fn refuse_batch(refused: BatchRefused, revision: &mut u64, at: &mut usize) -> u64
     ensures code { result ≡ code_of refused.error }
@@ -242,7 +242,7 @@ fn refuse_batch(refused: BatchRefused, revision: &mut u64, at: &mut usize) -> u6
     refuse_write(refused.error, revision)
 }
 
-// Does all that is asked, and hands out the revision of the first write; or hands out the place of the one that is refused,
+// Does all that is asked, and hands out the revision of the first write; or hands out the index of the one that is refused,
 // and where its key's last revision is another one, that.
 #[tactic(auto, using(crate::proofs::Refusing::no_fault, crate::proofs::Refusing::not_made))]
 fn write_all(bucket: &mut Ringed, requests: &[Request], revision: &mut u64, at: &mut usize) -> u64
@@ -407,7 +407,7 @@ fn write_all_to(
 
 /// Makes all that is gathered in one step, or nothing of it: each write is judged behind those before it. The revision
 /// of the first is handed out, or the last one so far where nothing is gathered, and then the batch is empty. Where a
-/// write is refused its place is handed out, from 0, and where its key's last revision is another one, that; the bucket
+/// write is refused its index is handed out, from 0, and where its key's last revision is another one, that; the bucket
 /// and the batch are as they were. Where the call is made on a bucket with a file, the batch is as it was too.
 #[unsafe(no_mangle)]
 pub extern "C" fn kv_make_batch(

@@ -152,8 +152,8 @@ fn open_file(
 
 /// Opens the bucket of a file that has these bytes, under the number of an opening as `kv_open_as` does; of no bytes it is that of
 /// a new bucket, with this seed. It waits for the shell: what a new file begins with is to be written, and else what stands behind
-/// the place is to be cut off, which a crash had left: so many bytes are handed out. Where the file is refused as damaged, the
-/// place is handed out up to which its bytes are good.
+/// the offset is to be cut off, which a crash had left: so many bytes are handed out. Where the file is refused as damaged, the
+/// offset is handed out up to which its bytes are good.
 ///
 /// With `sync` 1 each act is on the disk when its call answers, with 0 what was accepted when `kv_sync` or `kv_close` does,
 /// else each of so many acts.
@@ -179,7 +179,7 @@ pub extern "C" fn kv_open_bytes_as(
         IsOpeningCode result (configure (configured name.now limits.now)) }
     ensures refused { ¬ (result ≡ 38) → handle.new.slot.held ≡ handle.old.slot.held }
     ensures untold { ¬ (result ≡ 38) → dropped.new ≡ dropped.old }
-    ensures place_untold { ¬ (result ≡ 23) → at.new ≡ at.old }
+    ensures offset_untold { ¬ (result ≡ 23) → at.new ≡ at.old }
     ensures open_already { IsTrue (is_some handle.old.slot.held) → result ≡ 34 }
     ensures damaged { result ≡ 23 → ShowDamage (configured name.now limits.now) bytes.now }
     ensures other { result ≡ 25 → AreOfAnother (configured name.now limits.now) bytes.now }

@@ -21,7 +21,7 @@ fn no_requests(alloc: Global, workers: usize) -> Result<Vec<Vec<Request>>, KvErr
     Ok(scripts)
 }
 
-/// Deals requests to workers, one after another in turn: worker `i` gets those whose place leaves `i` where it is
+/// Deals requests to workers, one after another in turn: worker `i` gets those whose index leaves `i` where it is
 /// divided by the number of workers.
 pub fn deal(
     alloc: Global,

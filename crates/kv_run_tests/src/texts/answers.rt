@@ -27,7 +27,7 @@ enum Answer {
     Place(u32),
     Told { worker: u64, revision: u64 },
     Refusal(KvError),
-    BatchRefusal { place: u64, error: KvError },
+    BatchRefusal { number: u64, error: KvError },
     WorkerRefusal { worker: u64, error: KvError },
 }
 
@@ -110,28 +110,28 @@ const ANSWERS: &[(Answer, &str)] = &[
     ),
     (
         Answer::BatchRefusal {
-            place: 2,
+            number: 2,
             error: KvError::BadKey,
         },
         "{\"at\":2,\"code\":4,\"error\":\"BadKey\"}\n",
     ),
     (
         Answer::BatchRefusal {
-            place: 10,
+            number: 10,
             error: LAST,
         },
         "{\"at\":10,\"code\":11,\"error\":\"WrongLastRevision\",\"last\":0}\n",
     ),
     (
         Answer::BatchRefusal {
-            place: 1,
+            number: 1,
             error: BEHIND,
         },
         "{\"at\":1,\"code\":20,\"error\":\"WatchBehind\",\"watch\":4}\n",
     ),
     (
         Answer::BatchRefusal {
-            place: 1,
+            number: 1,
             error: LAGGED,
         },
         "{\"at\":1,\"code\":21,\"error\":\"Lagged\",\"floor\":9}\n",
@@ -180,7 +180,7 @@ fn append(alloc: Global, out: &mut Vec<u8>, answer: Answer) -> Result<(), AllocE
         Answer::Place(place) => append_place(alloc, out, place),
         Answer::Told { worker, revision } => append_told(alloc, out, worker, revision),
         Answer::Refusal(error) => append_refusal(alloc, out, error),
-        Answer::BatchRefusal { place, error } => append_batch_refusal(alloc, out, place, error),
+        Answer::BatchRefusal { number, error } => append_batch_refusal(alloc, out, number, error),
         Answer::WorkerRefusal { worker, error } => append_worker_refusal(alloc, out, worker, error),
     }
 }

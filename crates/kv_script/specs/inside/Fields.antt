@@ -116,7 +116,7 @@ abbrev pub refusal_fields : KvError → Members → Members
 refusal_fields error more = number_field (codes "code") (code_of error)
     (member (codes "error") (string (name_of error)) (detail_fields error more))
 
--- a refusal, with the place that it tells of, if it tells of one, and the worker that it is of, if it is of one
+-- a refusal, with the number of the line that it tells of, if it tells of one, and the worker that it is of, if it is of one
 abbrev pub told_fields : Option ℕ → KvError → Option ℕ → Members
 told_fields at error worker = optional_field (codes "at") at
     (refusal_fields error (optional_field (codes "worker") worker no_members))

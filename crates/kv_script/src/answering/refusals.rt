@@ -72,16 +72,16 @@ pub fn append_worker_refusal(
     append_told(alloc, out, None, error, Some(worker))
 }
 
-/// A batch that is refused for one of its lines, by the place of that line, from 1.
+/// A batch that is refused for one of its lines, by the number of that line, from 1.
 #[tactic(auto, using(crate::proofs::Lines::batch_refusal_line))]
 pub fn append_batch_refusal(
     alloc: Global,
     out: &mut Vec<u8>,
-    place: u64,
+    number: u64,
     error: KvError,
 ) -> Result<(), AllocError>
-    ensures ok { OnOk result (out.new.items ≡ out.old.items ++ batch_refusal_text place error) }
+    ensures ok { OnOk result (out.new.items ≡ out.old.items ++ batch_refusal_text number error) }
     ensures err { OnErr result (out.new.items ≡ out.old.items) }
 {
-    append_told(alloc, out, Some(place), error, None)
+    append_told(alloc, out, Some(number), error, None)
 }

@@ -8,7 +8,7 @@ pub returns-in_err-cut-clause-handed : goal.returns-in_err-cut-clause-handed
 returns-in_err-cut-clause-handed g c =
     let has = g.F.JournalFile.has in
     let inner : g.F.JournalFile.usable c.args.file.now ≡ true → (kept loose : List ℕ) → has c.args.file.now kept loose → (k : List ℕ) × (l : List ℕ) × (k ++ l ≡ kept ++ loose) × has c.cut.new.self k l =
-    λ usable kept loose h. cut_parts g.F.JournalFile.has c.cut.new.self c.in_ok-recovered.recovered.place kept loose (c.in_err-cut.ensures.err usable kept loose h) in
+    λ usable kept loose h. cut_parts g.F.JournalFile.has c.cut.new.self c.in_ok-recovered.recovered.offset kept loose (c.in_err-cut.ensures.err usable kept loose h) in
     search (rules, inner)
 
 pub returns-in_err-own-clause-refused : goal.returns-in_err-own-clause-refused
@@ -32,6 +32,6 @@ returns-clause-ok g c =
         represents = λ base is.
             let acts = acts_before base ++ acts_of r.1 in
             of_version config c.in_ok-recovered.recovered.version acts c.from_version.result r.3.same (c.from_version.ensures acts (r.3.stands base is));
-        place = r.3.place;
+        offset = r.3.offset;
       },
     )

@@ -30,7 +30,7 @@ returns-in_err-started-clause-damaged c =
     let own = c.in_ok-begun.begun.framing.seed in
     let inner : IsDamaged c.in_err-started.field-0.0 → (base : Base) (seed : ℕ) (entries : List Entry) (rest : List ℕ) → base.config ≡ config → Reads base bytes seed entries rest → ShowsDamage seed (length (file_of seed base entries)) rest =
     λ is base seed entries rest same read.
-    absurd (no_start config bytes own c.in_ok-begun.begun.place c.behind-first.result.now b.0 b.1 b.2 c.behind-first.ensures (c.in_err-started.ensures.no_checkpoint is) (c.in_err-started.ensures.no_entries is) base seed entries rest same read) in
+    absurd (no_start config bytes own c.in_ok-begun.begun.offset c.behind-first.result.now b.0 b.1 b.2 c.behind-first.ensures (c.in_err-started.ensures.no_checkpoint is) (c.in_err-started.ensures.no_entries is) base seed entries rest same read) in
     search (rules, inner)
 
 pub behind-entries-requires : goal.behind-entries-requires
@@ -39,7 +39,7 @@ behind-entries-requires c =
     let bytes = c.args.bytes.now in
     let b = c.in_ok-begun.ensures.ok in
     let own = c.in_ok-begun.begun.framing.seed in
-    let at = c.in_ok-begun.begun.place in
+    let at = c.in_ok-begun.begun.offset in
     let s = c.in_ok-started.ensures.ok in
     let started = c.in_ok-started.started in
     omega (arith, within_front config bytes own at c.behind-first.result.now b.0 b.1 b.2 c.behind-first.ensures s.0 s.1 started s.2)
@@ -50,10 +50,10 @@ returns-in_err-replayed-clause-damaged c =
     let bytes = c.args.bytes.now in
     let b = c.in_ok-begun.ensures.ok in
     let own = c.in_ok-begun.begun.framing.seed in
-    let at = c.in_ok-begun.begun.place in
+    let at = c.in_ok-begun.begun.offset in
     let s = c.in_ok-started.ensures.ok in
     let started = c.in_ok-started.started in
-    let place = started.place in
+    let offset = started.offset in
     let left = c.behind-entries.result.now in
     let there = stands config bytes own at c.behind-first.result.now b.0 b.1 b.2 c.behind-first.ensures s.0 s.1 started s.2 left c.behind-entries.ensures in
     let tell = tells config bytes own at c.behind-first.result.now b.0 b.1 b.2 c.behind-first.ensures s.0 s.1 started s.2 in
@@ -62,7 +62,7 @@ returns-in_err-replayed-clause-damaged c =
     let based = tell.read base seed entries rest same read in
     absurd (c.in_err-replayed.ensures.damaged is (acts_before base) entries rest (s.2.stands base based)
     (subst (λ (k : Configuration). AreLawful k (acts_before base) entries) (same ∙ sym s.2.same) read.lawful)
-    (reads_from config bytes own s.0 place left there base based seed entries rest read)) in
+    (reads_from config bytes own s.0 offset left there base based seed entries rest read)) in
     search (rules, inner)
 
 pub behind-rest-requires : goal.behind-rest-requires
@@ -71,22 +71,22 @@ behind-rest-requires c =
     let bytes = c.args.bytes.now in
     let b = c.in_ok-begun.ensures.ok in
     let own = c.in_ok-begun.begun.framing.seed in
-    let at = c.in_ok-begun.begun.place in
+    let at = c.in_ok-begun.begun.offset in
     let s = c.in_ok-started.ensures.ok in
     let started = c.in_ok-started.started in
-    let place = started.place in
+    let offset = started.offset in
     let left = c.behind-entries.result.now in
     let there = stands config bytes own at c.behind-first.result.now b.0 b.1 b.2 c.behind-first.ensures s.0 s.1 started s.2 left c.behind-entries.ensures in
     let r = c.in_ok-replayed.ensures.ok in
-    omega (arith, (end_there config bytes own s.0 place left there r.0 r.1 c.in_ok-replayed.replayed.place r.2 r.5).0)
+    omega (arith, (end_there config bytes own s.0 offset left there r.0 r.1 c.in_ok-replayed.replayed.offset r.2 r.5).0)
 
 pub returns-then-shows_damage-clause-damaged : goal.returns-then-shows_damage-clause-damaged
 returns-then-shows_damage-clause-damaged c = λ _ base seed entries rest same read.
     let b = c.in_ok-begun.ensures.ok in
     let s = c.in_ok-started.ensures.ok in
     let r = c.in_ok-replayed.ensures.ok in
-    let both = both_show c.args.config.now c.args.bytes.now c.in_ok-begun.begun.framing.seed c.in_ok-begun.begun.place c.behind-first.result.now b.0 b.1 b.2 c.behind-first.ensures s.0 s.1 c.in_ok-started.started s.2
-    c.behind-entries.result.now c.behind-entries.ensures r.0 r.1 c.in_ok-replayed.replayed.place c.behind-rest.result.now r.2 r.4 r.5 c.behind-rest.ensures
+    let both = both_show c.args.config.now c.args.bytes.now c.in_ok-begun.begun.framing.seed c.in_ok-begun.begun.offset c.behind-first.result.now b.0 b.1 b.2 c.behind-first.ensures s.0 s.1 c.in_ok-started.started s.2
+    c.behind-entries.result.now c.behind-entries.ensures r.0 r.1 c.in_ok-replayed.replayed.offset c.behind-rest.result.now r.2 r.4 r.5 c.behind-rest.ensures
     (subst IsLegal c.in_ok-empty.ensures.ok.0 c.in_ok-empty.ensures.ok.1.legal) base seed entries rest same read in
     both.0 (c.shows_damage.ensures.yes c.if-shows_damage.true)
 
@@ -95,8 +95,8 @@ returns-clause-ok c =
     let b = c.in_ok-begun.ensures.ok in
     let s = c.in_ok-started.ensures.ok in
     let r = c.in_ok-replayed.ensures.ok in
-    let f = found c.args.config.now c.args.bytes.now c.in_ok-begun.begun.framing.seed c.in_ok-begun.begun.place c.behind-first.result.now b.0 b.1 b.2 c.behind-first.ensures s.0 s.1 c.in_ok-started.started s.2
-    c.behind-entries.result.now c.behind-entries.ensures r.0 r.1 c.in_ok-replayed.replayed.place c.behind-rest.result.now r.2 r.4 r.5 c.behind-rest.ensures in (
+    let f = found c.args.config.now c.args.bytes.now c.in_ok-begun.begun.framing.seed c.in_ok-begun.begun.offset c.behind-first.result.now b.0 b.1 b.2 c.behind-first.ensures s.0 s.1 c.in_ok-started.started s.2
+    c.behind-entries.result.now c.behind-entries.ensures r.0 r.1 c.in_ok-replayed.replayed.offset c.behind-rest.result.now r.2 r.4 r.5 c.behind-rest.ensures in (
       s.0,
       r.0,
       r.1,
@@ -107,7 +107,7 @@ returns-clause-ok c =
         knows = s.2.knows;
         reads = f.read;
         stands = λ base is. r.3.on (acts_before base) (s.2.stands base is);
-        place = f.here;
+        offset = f.here;
       },
     )
 
@@ -116,7 +116,7 @@ returns-clause-torn c = λ base seed entries rest same read shows.
     let b = c.in_ok-begun.ensures.ok in
     let s = c.in_ok-started.ensures.ok in
     let r = c.in_ok-replayed.ensures.ok in
-    let both = both_show c.args.config.now c.args.bytes.now c.in_ok-begun.begun.framing.seed c.in_ok-begun.begun.place c.behind-first.result.now b.0 b.1 b.2 c.behind-first.ensures s.0 s.1 c.in_ok-started.started s.2
-    c.behind-entries.result.now c.behind-entries.ensures r.0 r.1 c.in_ok-replayed.replayed.place c.behind-rest.result.now r.2 r.4 r.5 c.behind-rest.ensures
+    let both = both_show c.args.config.now c.args.bytes.now c.in_ok-begun.begun.framing.seed c.in_ok-begun.begun.offset c.behind-first.result.now b.0 b.1 b.2 c.behind-first.ensures s.0 s.1 c.in_ok-started.started s.2
+    c.behind-entries.result.now c.behind-entries.ensures r.0 r.1 c.in_ok-replayed.replayed.offset c.behind-rest.result.now r.2 r.4 r.5 c.behind-rest.ensures
     (subst IsLegal c.in_ok-empty.ensures.ok.0 c.in_ok-empty.ensures.ok.1.legal) base seed entries rest same read in
     c.shows_damage.ensures.no c.if-shows_damage.false (both.1 shows)

@@ -13,7 +13,7 @@ returns-in-Ok-clause-ok c =
     let made = checkpoint_of config o.0 in (
       checkpoint_payloads made,
       o.1,
-      is_started config begun.framing.seed begun.place c.args.bytes.now (subst IsLegal c.requires.config c.requires.stands.legal) c.requires.checkpoint made o.1 o.4 o.3 o.7 c.in-Ok.restored.version c.in-Ok.restored.place
+      is_started config begun.framing.seed begun.offset c.args.bytes.now (subst IsLegal c.requires.config c.requires.stands.legal) c.requires.checkpoint made o.1 o.4 o.3 o.7 c.in-Ok.restored.version c.in-Ok.restored.offset
           (knows_acts config o.0 o.2) o.5 o.6,
     )
 

@@ -10,5 +10,5 @@ pub returns-clause-ok : goal.returns-clause-ok
 returns-clause-ok c = (
   [],
   c.args.bytes.now,
-  plain_start c.args.config.now c.args.begun.now.framing.seed c.args.begun.now.place c.args.bytes.now c.args.empty c.requires.config c.requires.stands (c.begins_checkpoint.ensures.no c.if-begins_checkpoint.false),
+  plain_start c.args.config.now c.args.begun.now.framing.seed c.args.begun.now.offset c.args.bytes.now c.args.empty c.requires.config c.requires.stands (c.begins_checkpoint.ensures.no c.if-begins_checkpoint.false),
 )

@@ -10,7 +10,7 @@ returns-clause-ok g c =
     let b = c.in-Ok.ensures.ok in
     on_ok_weaker c.write_entries.result
     (λ all seed entries rest read.
-    all entries rest (plain_from config bytes c.in-Ok.begun.framing.seed c.in-Ok.begun.place c.behind-entries.result.now b.0 seed entries rest b.1 b.2 c.behind-entries.ensures read) (can_dump config entries c.requires.legal read.lawful))
+    all entries rest (plain_from config bytes c.in-Ok.begun.framing.seed c.in-Ok.begun.offset c.behind-entries.result.now b.0 seed entries rest b.1 b.2 c.behind-entries.ensures read) (can_dump config entries c.requires.legal read.lawful))
     c.write_entries.ensures.ok
 
 pub returns-clause-early : goal.returns-clause-early
@@ -20,5 +20,5 @@ returns-clause-early g c =
     let b = c.in-Ok.ensures.ok in
     on_err_weaker c.write_entries.result
     (λ all seed entries rest read.
-    all entries rest (plain_from config bytes c.in-Ok.begun.framing.seed c.in-Ok.begun.place c.behind-entries.result.now b.0 seed entries rest b.1 b.2 c.behind-entries.ensures read) (can_dump config entries c.requires.legal read.lawful))
+    all entries rest (plain_from config bytes c.in-Ok.begun.framing.seed c.in-Ok.begun.offset c.behind-entries.result.now b.0 seed entries rest b.1 b.2 c.behind-entries.ensures read) (can_dump config entries c.requires.legal read.lawful))
     c.write_entries.ensures.early

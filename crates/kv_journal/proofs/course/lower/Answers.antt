@@ -1,4 +1,4 @@
--- The place at which a number stands, or would stand, among numbers that rise says how many are lower.
+-- The index at which a number stands, or would stand, among numbers that rise says how many are lower.
 use Rattle.std.proofs.Common.{◌≡◌, ℕ, zero, suc, ◌<◌, ◌≤◌, cond, Bool, List, [], ◌∷◌, Ok, Err, length, filter, nat_lt, get_or, sym, ap, ◌∙◌, arith}
 use Rattle.std.specs.List.Sorted.{IsStrictlyIncreasing}
 use Rattle.std.proofs.lemmas.Bool.{le-ltb, lt-ltb}
@@ -6,7 +6,7 @@ use Rattle.std.proofs.lemmas.List.Sorted.{searched}
 use Rattle.std.proofs.lemmas.Map.Keys.{below_from_sorted, sorted_from_strictly_increasing, non_decreasing_from_sorted}
 use Rattle.kv_journal.proofs.course.lower.Goals as goal
 
--- where the numbers before this place are lower and those from it on are not, so many are lower
+-- where the numbers before this index are lower and those from it on are not, so many are lower
 so_many_lower : (x : ℕ) (xs : List ℕ) (i : ℕ) → i ≤ length xs → ((k : ℕ) → k < i → get_or xs k 0 < x) → ((k : ℕ) → i ≤ k → k < length xs → x ≤ get_or xs k 0) → i ≡ length (filter (λ r. nat_lt r x) xs)
 so_many_lower x [] i within below rest = omega arith
 so_many_lower x (y ∷ ys) zero within below rest =
@@ -23,12 +23,12 @@ never_falls xs rise i j l m = non_decreasing_from_sorted xs (sorted_from_strictl
 pub returns-in-Ok : goal.returns-in-Ok
 returns-in-Ok c =
     let xs = c.args.revisions.now in
-    let found = searched xs c.args.revision (Ok c.in-Ok.place) c.in-Ok.ensures.position (never_falls xs c.requires) in
+    let found = searched xs c.args.revision (Ok c.in-Ok.index) c.in-Ok.ensures.position (never_falls xs c.requires) in
     let rise = sorted_from_strictly_increasing xs c.requires in
-    so_many_lower c.args.revision xs c.in-Ok.place (omega (arith, found.0)) (λ k l. omega (arith, found.1, below_from_sorted xs k c.in-Ok.place 0 rise l found.0)) (λ k l m. omega (arith, found.1, never_falls xs c.requires c.in-Ok.place k l m))
+    so_many_lower c.args.revision xs c.in-Ok.index (omega (arith, found.0)) (λ k l. omega (arith, found.1, below_from_sorted xs k c.in-Ok.index 0 rise l found.0)) (λ k l m. omega (arith, found.1, never_falls xs c.requires c.in-Ok.index k l m))
 
 pub returns-in-Err : goal.returns-in-Err
 returns-in-Err c =
     let xs = c.args.revisions.now in
-    let found = searched xs c.args.revision (Err c.in-Err.place) c.in-Err.ensures.position (never_falls xs c.requires) in
-    so_many_lower c.args.revision xs c.in-Err.place found.0 found.1 (λ k l m. omega (arith, found.2 k l m))
+    let found = searched xs c.args.revision (Err c.in-Err.index) c.in-Err.ensures.position (never_falls xs c.requires) in
+    so_many_lower c.args.revision xs c.in-Err.index found.0 found.1 (λ k l m. omega (arith, found.2 k l m))

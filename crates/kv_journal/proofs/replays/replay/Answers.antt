@@ -11,7 +11,7 @@ returns-in-Ok-false-clause-damaged c = λ _ before others left stands lawful spl
     let inv = c.loop-payload.invariant.done in
     let found = c.in-Some.ensures.some in
     let e : c.redo.result ≡ Ok false = c.in-Ok-false.is ∙ ap Ok c.in-Ok-false.field-0-test in
-    is_damaged c.args.version c.args.framing.now.seed c.args.at c.args.bytes.now inv.0 c.loop-payload.place c.loop-payload.rest.now c.loop-payload.version
+    is_damaged c.args.version c.args.framing.now.seed c.args.at c.args.bytes.now inv.0 c.loop-payload.offset c.loop-payload.rest.now c.loop-payload.version
     c.in-Some.payload.now c.in-Some.after.now inv.1 found.0 found.1 (c.redo.ensures.not e) before others left stands lawful splits
 
 pub loop-payload-preserved : goal.loop-payload-preserved
@@ -21,19 +21,19 @@ loop-payload-preserved c =
     let e : c.redo.result ≡ Ok true = c.in-Ok-true.is ∙ ap Ok c.in-Ok-true.field-0-test in
     let done = c.redo.ensures.done e in
     let all : length c.loop-payload.rest.now ≡ 8 + length c.in-Some.payload.now + length c.in-Some.after.now =
-    ap (λ (w : List ℕ). length w) found.1 ∙ length_frame c.args.framing.now.seed c.loop-payload.place c.in-Some.payload.now c.in-Some.after.now in
+    ap (λ (w : List ℕ). length w) found.1 ∙ length_frame c.args.framing.now.seed c.loop-payload.offset c.in-Some.payload.now c.in-Some.after.now in
     record {
       within = omega (arith, c.loop-payload.invariant.within, all);
       done = (
         inv.0 ++ done.0 ∷ [],
-        goes_on c.args.version c.args.framing.now.seed c.args.at c.args.bytes.now inv.0 c.loop-payload.place c.loop-payload.rest.now c.loop-payload.version
+        goes_on c.args.version c.args.framing.now.seed c.args.at c.args.bytes.now inv.0 c.loop-payload.offset c.loop-payload.rest.now c.loop-payload.version
             c.in-Some.payload.now c.in-Some.after.now done.0 c.redo.new.version inv.1 found.0 found.1 done.1 c.in-Ok-true.ensures.config,
       );
     }
 
-pub returns-in-Ok-false-clause-place : goal.returns-in-Ok-false-clause-place
-returns-in-Ok-false-clause-place c =
+pub returns-in-Ok-false-clause-offset : goal.returns-in-Ok-false-clause-offset
+returns-in-Ok-false-clause-offset c =
     let inv = c.loop-payload.invariant.done in
     let found = c.in-Some.ensures.some in
-    stops c.args.version c.args.framing.now.seed c.args.at c.args.bytes.now inv.0 c.loop-payload.place c.loop-payload.rest.now c.loop-payload.version
+    stops c.args.version c.args.framing.now.seed c.args.at c.args.bytes.now inv.0 c.loop-payload.offset c.loop-payload.rest.now c.loop-payload.version
     c.in-Some.payload.now c.in-Some.after.now inv.1 found.0 found.1

@@ -10,7 +10,7 @@ returns-in-Ok-Some-clause-ok c =
     let legal : IsLegal config = subst IsLegal c.requires.config c.requires.stands.legal in
     let told = c.in-Ok.ensures.ok in
     let reached = rw c.in-Ok-Some.field-0-is at c.in-Ok-Some.ensures.found in
-    led_to config c.args.framing.now.seed c.args.at c.args.bytes.now (checkpoint_told c.in-Ok.contents) told.0 legal told.1 told.2 (told.4 config legal) reached.0 c.in-Ok-Some.version reached.1 c.in-Ok.contents.place told.3
+    led_to config c.args.framing.now.seed c.args.at c.args.bytes.now (checkpoint_told c.in-Ok.contents) told.0 legal told.1 told.2 (told.4 config legal) reached.0 c.in-Ok-Some.version reached.1 c.in-Ok.contents.offset told.3
 
 pub returns-in-Ok-None-clause-damaged : goal.returns-in-Ok-None-clause-damaged
 returns-in-Ok-None-clause-damaged c = λ _.

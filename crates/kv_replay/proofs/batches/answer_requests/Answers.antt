@@ -28,9 +28,9 @@ returns-in-Err-clause-ok g c =
     let is = refused_only state.config (map asked c.args.requests.now) state.acts c.in-Err.refused at cause in
     let below : c.in-Err.refused.at < length c.args.requests.now =
     subst (λ n. c.in-Err.refused.at < n) (as_many_mapped asked c.args.requests.now) (inside (map asked c.args.requests.now) c.in-Err.refused.at at.request at.is) in
-    let place = c.place_of-place.ensures below in
+    let number = c.number_of-number.ensures below in
     rw is (
-      text ∙ ap (λ n. c.args.out.now.items ++ batch_refusal_text n c.in-Err.refused.error) place,
+      text ∙ ap (λ n. c.args.out.now.items ++ batch_refusal_text n c.in-Err.refused.error) number,
       subst (Represents state) (sym c.in-Err.ensures.unchanged) r,
     ))
     c.answer_refused.ensures.cause c.answer_refused.ensures.ok

@@ -26,7 +26,7 @@ returns-in-Ok-clause-new g c = λ works h.
     let usable = g.F.JournalFile.usable in
     new_opened has usable c.args.config.now c.args.seed c.args.file c.found_in.new.file c.in-Ok.found c.opened_of.result.durable c.opened_of.result.dropped c.opened_of.result.checkpointed c.in-Ok.ensures.ok works h
     c.opened_of.ensures.parts.0 c.opened_of.ensures.parts.1 c.opened_of.ensures.parts.2 c.opened_of.ensures.journal.0
-    (λ base entries own first lawful can there place. c.opened_of.ensures.keeps base entries c.in-Ok.ensures.seed own first lawful can (c.in-Ok.ensures.usable ∙ works) there place)
+    (λ base entries own first lawful can there offset. c.opened_of.ensures.keeps base entries c.in-Ok.ensures.seed own first lawful can (c.in-Ok.ensures.usable ∙ works) there offset)
 
 pub returns-in-Ok-clause-reopened : goal.returns-in-Ok-clause-reopened
 returns-in-Ok-clause-reopened g c = λ works.
@@ -34,7 +34,7 @@ returns-in-Ok-clause-reopened g c = λ works.
     let usable = g.F.JournalFile.usable in
     again_opened has usable c.args.config.now c.args.seed c.args.file c.found_in.new.file c.in-Ok.found c.opened_of.result.durable c.opened_of.result.dropped c.opened_of.result.checkpointed c.in-Ok.ensures.ok works
     c.opened_of.ensures.parts.0 c.opened_of.ensures.parts.1 c.opened_of.ensures.parts.2 c.opened_of.ensures.journal.0
-    (λ base entries own first lawful can there place. c.opened_of.ensures.keeps base entries c.in-Ok.ensures.seed own first lawful can (c.in-Ok.ensures.usable ∙ works) there place)
+    (λ base entries own first lawful can there offset. c.opened_of.ensures.keeps base entries c.in-Ok.ensures.seed own first lawful can (c.in-Ok.ensures.usable ∙ works) there offset)
 
 pub returns-in-Ok-clause-read : goal.returns-in-Ok-clause-read
 returns-in-Ok-clause-read g c =
@@ -42,4 +42,4 @@ returns-in-Ok-clause-read g c =
     let usable = g.F.JournalFile.usable in
     has_read has usable c.args.config.now c.args.seed c.args.file c.found_in.new.file c.in-Ok.found c.opened_of.result.durable c.opened_of.result.dropped c.opened_of.result.checkpointed c.in-Ok.ensures.ok
     c.opened_of.ensures.parts.0 c.opened_of.ensures.parts.1 c.opened_of.ensures.parts.2 c.opened_of.ensures.journal.0
-    (λ works base entries own first lawful can there place. c.opened_of.ensures.keeps base entries c.in-Ok.ensures.seed own first lawful can (c.in-Ok.ensures.usable ∙ works) there place)
+    (λ works base entries own first lawful can there offset. c.opened_of.ensures.keeps base entries c.in-Ok.ensures.seed own first lawful can (c.in-Ok.ensures.usable ∙ works) there offset)

@@ -10,19 +10,19 @@ pub returns-then-not-has_twice-clause-small : goal.returns-then-not-has_twice-cl
 returns-then-not-has_twice-clause-small g c = λ _ was kept loose acts keeps stands same.
     let size = size_of g.F.JournalFile.has g.F.JournalFile.usable was kept loose c.args.self.now keeps acts c.args.version.now stands same c.new-next.result.seed c.args.seed c.in_ok-bytes.bytes.items c.new-next.ensures c.in_ok-bytes.ensures.items in
     let len : c.in_ok-bytes.bytes.len ≡ length c.in_ok-bytes.bytes.items = omega (arith, c.in_ok-bytes.bytes.ok) in
-    subst (λ (n : ℕ). c.args.self.now.appender.place ≤ 2 * n) (c.len.ensures ∙ len ∙ size) (c.has_twice.ensures.no c.if-not-has_twice.true)
+    subst (λ (n : ℕ). c.args.self.now.appender.offset ≤ 2 * n) (c.len.ensures ∙ len ∙ size) (c.has_twice.ensures.no c.if-not-has_twice.true)
 
 pub returns-in_err-may_add-clause-large : goal.returns-in_err-may_add-clause-large
 returns-in_err-may_add-clause-large g c = λ _ was kept loose acts keeps stands same.
     let size = size_of g.F.JournalFile.has g.F.JournalFile.usable was kept loose c.args.self.now keeps acts c.args.version.now stands same c.new-next.result.seed c.args.seed c.in_ok-bytes.bytes.items c.new-next.ensures c.in_ok-bytes.ensures.items in
     let len : c.in_ok-bytes.bytes.len ≡ length c.in_ok-bytes.bytes.items = omega (arith, c.in_ok-bytes.bytes.ok) in
-    subst (λ (n : ℕ). 2 * n < c.args.self.now.appender.place) (c.len.ensures ∙ len ∙ size) (c.has_twice.ensures.yes c.if-not-has_twice.false)
+    subst (λ (n : ℕ). 2 * n < c.args.self.now.appender.offset) (c.len.ensures ∙ len ∙ size) (c.has_twice.ensures.yes c.if-not-has_twice.false)
 
 pub returns-in_err-replace-clause-large : goal.returns-in_err-replace-clause-large
 returns-in_err-replace-clause-large g c = λ _ was kept loose acts keeps stands same.
     let size = size_of g.F.JournalFile.has g.F.JournalFile.usable was kept loose c.args.self.now keeps acts c.args.version.now stands same c.new-next.result.seed c.args.seed c.in_ok-bytes.bytes.items c.new-next.ensures c.in_ok-bytes.ensures.items in
     let len : c.in_ok-bytes.bytes.len ≡ length c.in_ok-bytes.bytes.items = omega (arith, c.in_ok-bytes.bytes.ok) in
-    subst (λ (n : ℕ). 2 * n < c.args.self.now.appender.place) (c.len.ensures ∙ len ∙ size) (c.has_twice.ensures.yes c.if-not-has_twice.false)
+    subst (λ (n : ℕ). 2 * n < c.args.self.now.appender.offset) (c.len.ensures ∙ len ∙ size) (c.has_twice.ensures.yes c.if-not-has_twice.false)
 
 pub returns-in_err-replace-clause-goes_on : goal.returns-in_err-replace-clause-goes_on
 returns-in_err-replace-clause-goes_on g c =
@@ -40,7 +40,7 @@ pub returns-clause-large : goal.returns-clause-large
 returns-clause-large g c = λ _ was kept loose acts keeps stands same.
     let size = size_of g.F.JournalFile.has g.F.JournalFile.usable was kept loose c.args.self.now keeps acts c.args.version.now stands same c.new-next.result.seed c.args.seed c.in_ok-bytes.bytes.items c.new-next.ensures c.in_ok-bytes.ensures.items in
     let len : c.in_ok-bytes.bytes.len ≡ length c.in_ok-bytes.bytes.items = omega (arith, c.in_ok-bytes.bytes.ok) in
-    subst (λ (n : ℕ). 2 * n < c.args.self.now.appender.place) (c.len.ensures ∙ len ∙ size) (c.has_twice.ensures.yes c.if-not-has_twice.false)
+    subst (λ (n : ℕ). 2 * n < c.args.self.now.appender.offset) (c.len.ensures ∙ len ∙ size) (c.has_twice.ensures.yes c.if-not-has_twice.false)
 
 pub returns-clause-replaced : goal.returns-clause-replaced
 returns-clause-replaced g c = λ _ was kept loose acts keeps stands same.

@@ -6,7 +6,7 @@ use Rattle.kv_model.specs.declared.call.Call.TheVariants as calls
 use Rattle.kv_journal.specs.Records.{did}
 use Rattle.kv_durable.specs.Durables.{IsRecorded}
 use Rattle.kv_durable.specs.declared.error.DurableError.TheVariants.{FileFault, Refused}
-use Rattle.kv_durable.proofs.Checkpointing.{place_is, still_recorded, then_either, then_replaced}
+use Rattle.kv_durable.proofs.Checkpointing.{offset_is, still_recorded, then_either, then_replaced}
 use Rattle.kv_durable_live.specs.Sharing.{durable_of}
 use Rattle.kv_durable_live.proofs.keeper.DurableKeeper.compact_and_checkpoint.Goals as goal
 
@@ -31,8 +31,8 @@ returns-clause-small g c = λ e state kept loose at.
     let later = λ (s : State). after s (calls.Compact floor) in
     let there = c.in_ok-compact.ensures.recorded state kept loose at in
     let small = c.replace_large-replaced.ensures.small is (later state) there.0 there.1 there.4 in
-    let place = place_is has usable later (λ _. did (Compact floor) ∷ []) (durable_of c.args.self.now.keeper c.args.self.now.journal) (durable_of c.compact.new.self.keeper c.compact.new.self.journal) c.in_ok-compact.ensures.recorded c.in_ok-compact.ensures.same.0 state kept loose at in
-    omega (arith, small, place)
+    let offset = offset_is has usable later (λ _. did (Compact floor) ∷ []) (durable_of c.args.self.now.keeper c.args.self.now.journal) (durable_of c.compact.new.self.keeper c.compact.new.self.journal) c.in_ok-compact.ensures.recorded c.in_ok-compact.ensures.same.0 state kept loose at in
+    omega (arith, small, offset)
 
 pub returns-clause-large : goal.returns-clause-large
 returns-clause-large g c = λ e state kept loose at.
@@ -47,8 +47,8 @@ returns-clause-large g c = λ e state kept loose at.
     let later = λ (s : State). after s (calls.Compact floor) in
     let there = c.in_ok-compact.ensures.recorded state kept loose at in
     let large = c.replace_large-replaced.ensures.large is (later state) there.0 there.1 there.4 in
-    let place = place_is has usable later (λ _. did (Compact floor) ∷ []) (durable_of c.args.self.now.keeper c.args.self.now.journal) (durable_of c.compact.new.self.keeper c.compact.new.self.journal) c.in_ok-compact.ensures.recorded c.in_ok-compact.ensures.same.0 state kept loose at in
-    omega (arith, large, place)
+    let offset = offset_is has usable later (λ _. did (Compact floor) ∷ []) (durable_of c.args.self.now.keeper c.args.self.now.journal) (durable_of c.compact.new.self.keeper c.compact.new.self.journal) c.in_ok-compact.ensures.recorded c.in_ok-compact.ensures.same.0 state kept loose at in
+    omega (arith, large, offset)
 
 pub returns-clause-replaced : goal.returns-clause-replaced
 returns-clause-replaced g c = λ e.

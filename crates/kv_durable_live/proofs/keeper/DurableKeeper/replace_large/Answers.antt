@@ -13,13 +13,13 @@ pub returns-clause-small : goal.returns-clause-small
 returns-clause-small g c = λ e state ks ls at.
     let old = durable_of c.args.self.now.keeper c.args.self.now.journal in
     let own = c.version.ensures.value ∙ ap (λ b. b.version) c.bucket-bucket.ensures.value in
-    by_checkpoint g.F.JournalFile.has g.F.JournalFile.usable c.version.result.now old own state ks ls at (λ base. old.journal.appender.place ≤ 2 * opening_size c.args.seed base) (c.replace_if_large.ensures.small e)
+    by_checkpoint g.F.JournalFile.has g.F.JournalFile.usable c.version.result.now old own state ks ls at (λ base. old.journal.appender.offset ≤ 2 * opening_size c.args.seed base) (c.replace_if_large.ensures.small e)
 
 pub returns-clause-large : goal.returns-clause-large
 returns-clause-large g c = λ e state ks ls at.
     let old = durable_of c.args.self.now.keeper c.args.self.now.journal in
     let own = c.version.ensures.value ∙ ap (λ b. b.version) c.bucket-bucket.ensures.value in
-    by_checkpoint g.F.JournalFile.has g.F.JournalFile.usable c.version.result.now old own state ks ls at (λ base. 2 * opening_size c.args.seed base < old.journal.appender.place) (c.replace_if_large.ensures.large e)
+    by_checkpoint g.F.JournalFile.has g.F.JournalFile.usable c.version.result.now old own state ks ls at (λ base. 2 * opening_size c.args.seed base < old.journal.appender.offset) (c.replace_if_large.ensures.large e)
 
 pub returns-clause-replaced : goal.returns-clause-replaced
 returns-clause-replaced g c = λ e state ks ls at.

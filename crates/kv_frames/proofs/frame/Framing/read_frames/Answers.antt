@@ -13,5 +13,5 @@ loop-payload-preserved c =
     let one = c.in_ok-from_slice.field-0 in
     let e : all c.push.new.self.items ≡ all so_far ++ p ∷ [] =
     ap all c.in_ok-push.ensures.items ∙ map-append (λ (v : Vec ℕ). v.items) so_far (one ∷ []) ∙ ap (λ (x : List ℕ). all so_far ++ x ∷ []) c.in_ok-from_slice.ensures.items in
-    let on = read_on c.args.self.now.seed c.args.at c.args.bytes.now (all so_far) c.loop-payload.place c.loop-payload.rest.now p c.in-Some.after.now c.loop-payload.invariant found.0 found.1 in
-    subst (λ (ps : List (List ℕ)). IsRead c.args.self.now.seed c.args.at c.args.bytes.now ps (c.loop-payload.place + (8 + length p)) c.in-Some.after.now) (sym e) on
+    let on = read_on c.args.self.now.seed c.args.at c.args.bytes.now (all so_far) c.loop-payload.offset c.loop-payload.rest.now p c.in-Some.after.now c.loop-payload.invariant found.0 found.1 in
+    subst (λ (ps : List (List ℕ)). IsRead c.args.self.now.seed c.args.at c.args.bytes.now ps (c.loop-payload.offset + (8 + length p)) c.in-Some.after.now) (sym e) on

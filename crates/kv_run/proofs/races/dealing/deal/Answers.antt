@@ -30,17 +30,17 @@ loop-request-preserved c =
     let before = map asked c.loop-request.yielded in
     let request = asked c.in-Some.request in
     let scripts = c.loop-request.scripts.items in
-    let place = c.loop-request.count % c.args.workers in
+    let index = c.loop-request.count % c.args.workers in
     let next : into_iter_items c.loop-request.request-iterator ≡ c.in-Some.request ∷ into_iter_items c.next.new.self = search rules in
     let same : length scripts ≡ c.args.workers = dealt-length view c.args.workers scripts _ so_far.given in
-    let within : place < length scripts = omega (arith, same, mod-lt c.loop-request.count c.requires) in
-    let found : c.index_mut.result.now ≡ get_or scripts place c.index_mut.result.now = search rules in
+    let within : index < length scripts = omega (arith, same, mod-lt c.loop-request.count c.requires) in
+    let found : c.index_mut.result.now ≡ get_or scripts index c.index_mut.result.now = search rules in
     let turn : c.loop-request.count % c.args.workers ≡ length before % c.args.workers = ap (λ n. n % c.args.workers) (so_far.count ∙ sym (length-map c.loop-request.yielded asked)) in
     record {
       rest = append_assoc c.loop-request.yielded (c.in-Some.request ∷ []) _ ∙ ap (λ t. c.loop-request.yielded ++ t) (sym next) ∙ so_far.rest;
       count = ap (λ n. n + 1) so_far.count ∙ sym (length-append c.loop-request.yielded (c.in-Some.request ∷ []));
       given = dealt-push view c.args.workers (c.loop-request.count % c.args.workers) c.loop-request.scripts.items before c.index_mut.result.now c.push.new.self request c.requires so_far.given turn
-          (ap view found ∙ sym (get_or-map view scripts place c.index_mut.result.now [] within))
+          (ap view found ∙ sym (get_or-map view scripts index c.index_mut.result.now [] within))
           (ap (map asked) c.in_ok-push.ensures.items ∙ map-append asked _ (c.in-Some.request ∷ []))
           ∙ ap (dealt c.args.workers) (sym (map-append asked c.loop-request.yielded (c.in-Some.request ∷ [])));
     }
