@@ -172,6 +172,12 @@ class Batches(unittest.TestCase):
             with self.subTest(second.function):
                 self.assertEqual(wrong_bodies.batch_of([first, second])[1], [second])
 
+    def test_each_body_can_be_put_in_its_place(self) -> None:
+        for crate in wrong_bodies.crates():
+            for body in wrong_bodies.bodies_of(crate):
+                with self.subTest("%s/%s" % (crate, body.name)):
+                    self.assertTrue(Batch(crate).takes(body))
+
     def test_a_text_that_is_not_there_once_is_told(self) -> None:
         for old in ("no such text", "POLYNOMIAL"):
             with self.subTest(old), self.assertRaises(Unreadable):

@@ -9,12 +9,15 @@ ghost use Rattle.kv_keys.specs.Outcome.{Refuses};
 ghost use Rattle.kv_keys.specs.declared.error.KvError.{KvError as AnError};
 ghost use Rattle.kv_keys.specs.declared.error.KvError.TheVariants.{WriteFault};
 ghost use Rattle.kv_model.specs.Configuration.{IsLegal, configure};
+ghost use Rattle.kv_journal.specs.Damage.{ShowsDamage};
 ghost use Rattle.kv_journal.specs.Entries.{Entry, payloads_of};
+ghost use Rattle.kv_journal.specs.Header.{BeginsWith, configuration_payload};
 ghost use Rattle.kv_replay.specs.Faults.{IsWriteOrMemory};
 ghost use Rattle.kv_replay.specs.inside.Written.{Pours, Puts};
-ghost use Rattle.kv_durable.specs.Bases.{fresh};
-ghost use Rattle.kv_durable.specs.Files.{Reads};
-ghost use Rattle.kv_durable.specs.declared.error.DurableError.TheVariants.{FileBusy, FileFault, Refused};
+ghost use Rattle.kv_durable.specs.Bases.{Base, fresh};
+ghost use Rattle.kv_durable.specs.Files.{Reads, file_of};
+ghost use Rattle.kv_durable.specs.Refusals.{IsDamaged};
+ghost use Rattle.kv_durable.specs.declared.error.DurableError.TheVariants.{FileBusy, FileFault, OtherBucket, Refused};
 ghost use Rattle.kv_durable_script.specs.Dumps.{dump_text};
 ghost use Rattle.kv_durable_script.specs.Scripts.{IsScript};
 ghost use Rattle.kv_durable_script.specs.inside.Dumpable.{CanDumpEntry};
@@ -140,6 +143,14 @@ pub fn dump<K: Output>(
     ensures early { IfErr result (λ e. (sink.new ≡ sink.old) ⊎ (((x : AnError) × (e ≡ Refused x) × IsWriteOrMemory x)
         × ((whole : List ℕ) × IsScript config.now bytes.now whole
         × (text : List ℕ) × StartsWith whole text × Appends (K.held sink.old) (K.held sink.new) text))) }
+    // Bytes that show damage are refused, and no others are refused as damaged; as another bucket's only those that name one.
+    ensures torn { IfOk result (λ _. (base : Base) (seed : ℕ) (entries : List Entry) (rest : List ℕ) → base.config ≡ config.now →
+        Reads base bytes.now seed entries rest → ShowsDamage seed (length (file_of seed base entries)) rest → ⊥) }
+    ensures damaged { IfErr result (λ e. IsDamaged e → (base : Base) (seed : ℕ) (entries : List Entry) (rest : List ℕ) →
+        base.config ≡ config.now → Reads base bytes.now seed entries rest →
+        ShowsDamage seed (length (file_of seed base entries)) rest) }
+    ensures other { IsErrOf result OtherBucket → (seed : ℕ) × (payload : List ℕ) × (rest : List ℕ)
+        × BeginsWith bytes.now seed payload rest × (payload ≢ configuration_payload config.now) }
     ensures refused { IfErr result (λ e. (x : AnError) → e ≡ Refused x → (x ≡ WriteFault) ⊎ Refuses x (configure config.now)) }
     ensures write_fault { IsErrOf result (Refused WriteFault) → K.failed_between sink.old sink.new }
     ensures no_fault { IfErr result (λ e. (e ≢ FileFault) × (e ≢ FileBusy)) }

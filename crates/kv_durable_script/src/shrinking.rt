@@ -1,6 +1,6 @@
 //! How the compactions of a script on a file are made.
 
-ghost use Rattle.std.specs.Prelude.{◌≡◌, IfErr, OnErr, OnOk};
+ghost use Rattle.std.specs.Prelude.{◌≡◌, ◌⊎◌, ◌<◌, true, IfErr, IsErrOf, OnErr, OnOk};
 ghost use Rattle.kv_keys.specs.Outcome.{Refuses};
 ghost use Rattle.kv_keys.specs.declared.error.KvError.{KvError as AnError};
 ghost use Rattle.kv_model.specs.Answers.{Compacted};
@@ -8,7 +8,9 @@ ghost use Rattle.kv_model.specs.State.{State, may_compact};
 ghost use Rattle.kv_model.specs.declared.call.Call.TheVariants.{Compact};
 ghost use Rattle.kv_single.specs.Held.{Represents};
 ghost use Rattle.kv_single.specs.Stepping.{IsStep};
-ghost use Rattle.kv_durable.specs.declared.error.DurableError.TheVariants.{Refused};
+ghost use Rattle.kv_durable.specs.Durables.{IsRefusal};
+ghost use Rattle.kv_durable.specs.Journals.{is_stopped};
+ghost use Rattle.kv_durable.specs.declared.error.DurableError.TheVariants.{FileFault, Refused};
 ghost use Rattle.kv_durable_script.specs.Keeping.{KeepsOn};
 
 use kv_durable::{Durable, DurableError};
@@ -24,7 +26,10 @@ pub trait Compacts<F: JournalFile> {
         ensures ok { OnOk result (IsStep durable.old.bucket (Compact floor) (Compacted floor) durable.new.bucket) }
         ensures refused { IfErr result (λ e. (x : AnError) → e ≡ Refused x → (state : State) →
             Represents state durable.old.bucket → Refuses x (may_compact floor state)) }
-        ensures unchanged { OnErr result (durable.new.bucket ≡ durable.old.bucket) };
+        ensures unchanged { OnErr result (durable.new.bucket ≡ durable.old.bucket) }
+        ensures fault { IsErrOf result FileFault → (is_stopped F.usable durable.old.journal ≡ true)
+            ⊎ (F.faults durable.old.journal.appender.file < F.faults durable.new.journal.appender.file) }
+        ensures no_other { IfErr result IsRefusal };
 }
 
 /// Compactions that leave the file, as one that cannot be replaced wants.
